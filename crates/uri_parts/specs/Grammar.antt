@@ -1,0 +1,61 @@
+-- Which texts are of a kind: RFC 3986, sections 3 and 4.1, and RFC 3987, section 2.2.
+use Rattle.std.specs.Prelude.{◌≡◌, ◌==◌, ℕ, Bool, true, false, not, ◌&&◌, ◌||◌, List, codes, slice_index, Option, Some, None, is_some}
+use Rattle.std.specs.List.{list_any}
+use Rattle.std.specs.Char.{is_ascii_alphabetic}
+use Rattle.uri_pct.specs.Sets.{TableSet, scheme_set, userinfo_set, reg_name_set, path_set, query_set, fragment_set}
+use Rattle.uri_pct.specs.Tokens.{is_valid_for}
+use Rattle.uri_parts.specs.Components.{Components, components, before_any}
+
+-- what tells the kinds apart: the sets of their components, and whether a scheme is needed
+pub record Kind : Type 0 where
+  pub userinfo : TableSet
+  pub reg_name : TableSet
+  pub path : TableSet
+  pub query : TableSet
+  pub fragment : TableSet
+  pub needs_scheme : Bool
+
+-- RFC 3986, section 4.1: a URI reference
+abbrev pub uri_ref : Kind
+uri_ref = record {
+  userinfo = userinfo_set;
+  reg_name = reg_name_set;
+  path = path_set;
+  query = query_set;
+  fragment = fragment_set;
+  needs_scheme = false;
+}
+
+-- section 3.1: a letter, and then letters, digits, `+`, `-` and `.`
+abbrev pub is_scheme : List ℕ → Bool
+is_scheme text = is_ascii_alphabetic (slice_index text 0) && is_valid_for scheme_set text
+
+-- section 3.2, so far as it is a registered name alone
+abbrev pub is_authority : Kind → List ℕ → Bool
+is_authority kind text = is_valid_for kind.reg_name text
+
+-- sections 3.3 and 4.2: the first segment of the path holds `:`
+abbrev pub has_colon_first : List ℕ → Bool
+has_colon_first path = list_any (λ c. c == 58) (before_any (codes "/") path)
+
+-- a component that is absent, or passes a test
+abbrev pub if_some : Option (List ℕ) → (List ℕ → Bool) → Bool
+if_some None test = true
+if_some (Some part) test = test part
+
+-- Each component meets its rule. Of section 3.3's rules on paths one is left to ask, since with an authority every cut has
+-- a path that is empty or begins with `/`, and without one a path that does not begin with `//`.
+abbrev pub are_components : Kind → Components → Bool
+are_components kind p =
+    if_some p.scheme is_scheme
+    && if_some p.authority (is_authority kind)
+    && is_valid_for kind.path p.path
+    && if_some p.query (is_valid_for kind.query)
+    && if_some p.fragment (is_valid_for kind.fragment)
+    && (is_some p.scheme || (not kind.needs_scheme && (is_some p.authority || not (has_colon_first p.path))))
+
+abbrev pub is_of_kind : Kind → List ℕ → Bool
+is_of_kind kind text = are_components kind (components text)
+
+abbrev pub IsOfKind : Kind → List ℕ → Type 0
+IsOfKind kind text = is_of_kind kind text ≡ true

@@ -1,0 +1,7 @@
+//! The parts of a reference.
+#![tactic(auto)]
+
+/// Nothing yet.
+pub fn same(x: usize) -> usize {
+    x
+}

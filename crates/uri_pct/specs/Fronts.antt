@@ -1,0 +1,34 @@
+-- How far a text is spelt by what a set allows, read byte by byte.
+use Rattle.std.specs.Prelude.{ℕ, zero, suc, ◌+◌, Bool, ◌&&◌, ◌==◌, nat_lt, List, [], ◌∷◌, drop, slice_index, if◌then◌else◌}
+use Rattle.std.specs.Char.{is_ascii_hexdigit}
+use Rattle.std.specs.Str.{chars, continuation_len}
+use Rattle.uri_pct.specs.Sets.{TableSet, allows_past_ascii}
+
+-- two hexadecimal digits come first
+unfoldable pub begins_hex : List ℕ → Bool
+begins_hex text = is_ascii_hexdigit (slice_index text 0) && is_ascii_hexdigit (slice_index text 1)
+
+-- the character that begins the text
+unfoldable pub first_char : List ℕ → ℕ
+first_char text = slice_index (chars text) 0
+
+-- the text begins with a character that the set allows
+unfoldable pub allows_first : TableSet → ℕ → List ℕ → Bool
+allows_first set b rest = if nat_lt b 128 then set.ascii b else allows_past_ascii set (first_char (b ∷ rest))
+
+-- the length of the longest front that the set allows, where so many bytes of a character or an octet are still to pass
+unfoldable pub front_from : TableSet → ℕ → List ℕ → ℕ
+front_from set skip [] = 0
+front_from set zero (b ∷ rest) =
+    if set.pct_encoded && b == 37
+    then (if begins_hex rest then front_from set 2 rest + 1 else 0)
+    else (if allows_first set b rest then front_from set (continuation_len b) rest + 1 else 0)
+front_from set (suc k) (b ∷ rest) = front_from set k rest + 1
+
+-- the length of the longest front that the set allows
+abbrev pub front : TableSet → List ℕ → ℕ
+front set text = front_from set 0 text
+
+-- what is left behind it
+abbrev pub after : TableSet → List ℕ → List ℕ
+after set text = drop (front set text) text

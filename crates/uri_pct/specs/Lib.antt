@@ -1,0 +1,5 @@
+pub mod Sets
+pub mod Tokens
+pub mod Fronts
+pub mod Masks
+pub mod Tables

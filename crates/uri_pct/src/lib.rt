@@ -1,0 +1,4 @@
+//! Sets of characters, and texts that are percent-encoded over them.
+#![tactic(auto)]
+
+pub mod table;
