@@ -1,10 +1,12 @@
 -- What a set allows to its end, and what is cut at a mark: the two agree where the set excludes the marks.
-use Rattle.std.proofs.Common.{◌≡◌, ℕ, zero, suc, ◌+◌, ◌-◌, ◌*◌, ◌<◌, ◌≤◌, Bool, true, false, cond, eqb, not, List, [], ◌∷◌, ◌++◌, length, get_or, take, drop, refl, sym, ap, ◌∙◌, arith, add-one, ◌||◌, ◌&&◌, ⊎_elim, inl, inr, ◌⊎◌, ltb}
+use Rattle.std.proofs.Common.{◌≡◌, ℕ, zero, suc, ◌+◌, ◌-◌, ◌*◌, ◌<◌, ◌≤◌, Bool, true, false, cond, eqb, not, List, [], ◌∷◌, ◌++◌, length, get_or, take, drop, refl, sym, subst, ap, ◌∙◌, arith, add-one, ◌||◌, ◌&&◌, ⊎_elim, inl, inr, ◌⊎◌, ltb}
 use Rattle.std.specs.Prelude.{nat_lt, slice_index}
 use Rattle.std.specs.List.{list_any, list_all, prefix_len}
 use Rattle.std.specs.Char.{is_ascii_hexdigit}
-use Rattle.std.specs.Str.{IsUtf8, encode_utf8_all, continuation_len, lead_bits, chars, chars_after}
-use Rattle.std.proofs.lemmas.Bool.{cases_lt, cases_Bool, cond-true, cond-false, and_left, and_right, and_from, and_parts, or_left, or_right, lt-ltb, le-ltb, eqb-true, ltb-true, ne_eqb, not_from_true, not_from_false, not-true, both_ways, false≢true}
+use Rattle.std.specs.Str.{IsUtf8, IsCharBoundary, encode_utf8_all, continuation_len, lead_bits, chars, chars_after}
+use Rattle.std.proofs.lemmas.Str.{IsUtf8-take, IsCharBoundary-before_ascii, IsCharBoundary-end}
+use Rattle.std.proofs.lemmas.List.Sums.{prefix_len-le-length, prefix_len_stops}
+use Rattle.std.proofs.lemmas.Bool.{not-false, cases_lt, cases_Bool, cond-true, cond-false, and_left, and_right, and_from, and_parts, or_left, or_right, lt-ltb, le-ltb, eqb-true, ltb-true, ne_eqb, not_from_true, not_from_false, not-true, both_ways, false≢true}
 use Rattle.std.proofs.lemmas.Bool.Decides.{nat_tests}
 use Rattle.uri_pct.specs.Sets.{TableSet, LacksPercent, is_one_of}
 use Rattle.uri_pct.specs.Tokens.{is_valid_for}
@@ -214,3 +216,44 @@ module _ (marks : List ℕ) (set : TableSet) (lacks : LacksPercent set) (outside
         (λ o. cut_char b bs o s (cut_from (continuation_len b) bs s))
         (cases_Bool (set.pct_encoded && eqb b 37))))
       (cases_Bool (is_one_of marks b))
+
+  front_le_any : (b : ℕ) (bs : List ℕ) → ((set.pct_encoded && eqb b 37) ≡ true → begins_hex bs ≡ true → front_from set 2 bs ≤ to_mark marks bs) → front_from set (continuation_len b) bs ≤ to_mark marks bs → front_from set 0 (b ∷ bs) ≤ suc (to_mark marks bs)
+  front_le_any b bs two one =
+      let m = to_mark marks bs in
+      let k = continuation_len b in
+      rw (front_cons set b bs) (cond_le (set.pct_encoded && eqb b 37) (cond (begins_hex bs) (front_from set 2 bs + 1) 0) (cond (allows_first set b bs) (front_from set k bs + 1) 0) (suc m)
+        (λ o. cond_le (begins_hex bs) (front_from set 2 bs + 1) 0 (suc m) (λ h. let l = two o h in omega arith) (λ _. omega arith))
+        (λ _. cond_le (allows_first set b bs) (front_from set k bs + 1) 0 (suc m) (λ _. omega arith) (λ _. omega arith)))
+
+  front_le : (k : ℕ) (bs : List ℕ) → skips marks k bs ≡ true → front_from set k bs ≤ to_mark marks bs
+  unfolding front_from skips
+  front_le zero [] s = omega arith
+  front_le (suc k) [] s = omega arith
+  front_le (suc k) (b ∷ bs) s =
+      let p = and_parts _ _ s in
+      rw (other_len marks b bs (not-true _ p.0)) (let h = front_le k bs p.1 in omega arith)
+  front_le zero (b ∷ bs) s = ⊎_elim
+      (λ e. rw (front_zero_mark b bs e) (omega arith))
+      (λ e. rw (other_len marks b bs e) (front_le_any b bs
+        (λ o h. front_le 2 bs (two_digits bs h (percent_rest marks b bs (and_parts _ _ o).1 s)))
+        (front_le (continuation_len b) bs s)))
+      (cases_Bool (is_one_of marks b))
+
+  at_mark : (bs : List ℕ) → to_mark marks bs < length bs → is_one_of marks (get_or bs (to_mark marks bs) 0) ≡ true
+  at_mark bs h = not-false _ (prefix_len_stops (λ c. not (is_one_of marks c)) bs 0 h)
+
+  pub mark_boundary : (bs : List ℕ) → IsCharBoundary bs (to_mark marks bs)
+  mark_boundary bs = ⊎_elim
+      (λ h. IsCharBoundary-before_ascii bs (to_mark marks bs) h (ascii _ (at_mark bs h)))
+      (λ h. let e : length bs ≡ to_mark marks bs = omega (arith, prefix_len-le-length (λ c. not (is_one_of marks c)) bs) in subst (λ n. IsCharBoundary bs n) e (IsCharBoundary-end bs))
+      (cases_lt (to_mark marks bs) (length bs))
+
+  -- reading ends at the mark exactly where what lies before it is valid
+  pub cut : (text : List ℕ) → IsUtf8 text → is_valid_for set (take (to_mark marks text) text) ≡ eqb (front set text) (to_mark marks text)
+  cut text u =
+      is_valid_for-bytes set lacks _ (IsUtf8-take text _ u (mark_boundary text))
+      ∙ cut_from 0 text (skips_text marks ascii text u)
+
+  -- reading ends at the first mark, or before it
+  pub front_le_mark : (text : List ℕ) → IsUtf8 text → front set text ≤ to_mark marks text
+  front_le_mark text u = front_le 0 text (skips_text marks ascii text u)

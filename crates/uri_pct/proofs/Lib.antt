@@ -1,3 +1,4 @@
 pub mod Characters
 pub mod Validity
 pub mod Cuts
+pub mod Fronts
