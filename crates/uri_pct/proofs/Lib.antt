@@ -2,3 +2,5 @@ pub mod Characters
 pub mod Validity
 pub mod Cuts
 pub mod Fronts
+pub mod Masks
+pub mod Ranges

@@ -1,5 +1,3 @@
-use Rattle.std.specs.Prelude.{ℕ, ◌-◌, Bool, ◌&&◌, ◌==◌, nat_lt, if◌then◌else◌}
-use Rattle.std.specs.Int.{bit_at}
 use Rattle.uri_pct.specs.Sets.{TableSet}
 use Rattle.uri_pct.specs.Masks.{has_bit}
 use Rattle.uri_pct.specs.declared.table.Table.{Table}

@@ -1,7 +1,7 @@
 //! Sets of characters (RFC 3986, appendix A; RFC 3987, section 2.2).
 ghost use Rattle.std.specs.Prelude.{◌≡◌, ◌<◌, ◌↔◌, ◌+◌, ◌&&◌, ◌||◌, ◌==◌, IsTrue, All, true, false, length, drop};
 ghost use Rattle.std.specs.Str.{IsCharBoundary};
-ghost use Rattle.uri_pct.specs.Sets.{allows, allows_past_ascii, is_one_of, plain, union, difference, IsSubset};
+ghost use Rattle.uri_pct.specs.Sets.{allows, allows_past_ascii, is_ucschar, is_iprivate, is_one_of, plain, union, difference, IsSubset};
 ghost use Rattle.uri_pct.specs.Fronts.{front};
 ghost use Rattle.uri_pct.specs.Masks.{has_bit};
 
@@ -35,4 +35,58 @@ impl Table {
     {
         self.pct_encoded
     }
+
+    /// Whether the ASCII character of the code `byte` is allowed; from 128 on no byte is.
+    #[doc(hidden)]
+    pub fn allows_ascii(&self, byte: u8) -> bool
+        ensures value { result ≡ (set_of self.now).ascii byte }
+        ensures ascii { IsTrue result → byte < 128 }
+    {
+        let words = [self.low, self.high, 0, 0];
+        (words[(byte >> 6) as usize] >> (byte & 63)) & 1 == 1
+    }
+
+    /// Whether a character past ASCII is allowed, as one of `ucschar` or of `iprivate`.
+    #[tactic(auto, unfolding(crate::specs::Sets::allows_past_ascii))]
+    #[doc(hidden)]
+    pub fn allows_past_ascii(&self, ch: char) -> bool
+        ensures { result ≡ allows_past_ascii (set_of self.now) ch }
+    {
+        (self.ucschar && is_ucschar(ch)) || (self.iprivate && is_iprivate(ch))
+    }
+
+    /// Whether the character may stand for itself.
+    #[tactic(auto, using(std::proofs::lemmas::Bool::Decides::nat_tests), unfolding(crate::specs::Sets::allows))]
+    pub fn allows(&self, ch: char) -> bool
+        ensures { result ≡ allows (set_of self.now) ch }
+    {
+        if ch.is_ascii() {
+            self.allows_ascii(ch as u8)
+        } else {
+            self.allows_past_ascii(ch)
+        }
+    }
+}
+
+/// A character of the rule `ucschar` (RFC 3987, section 2.2).
+#[tactic(auto, using(std::proofs::lemmas::Bool::Decides::nat_tests, crate::proofs::Ranges::ucschar_low, crate::proofs::Ranges::ucschar_middle, crate::proofs::Ranges::ucschar_last))]
+fn is_ucschar(ch: char) -> bool
+    ensures { result ≡ is_ucschar ch }
+{
+    let code = ch as u32;
+    if code < 0x10000 {
+        matches!(code, 0xA0..=0xD7FF | 0xF900..=0xFDCF | 0xFDF0..=0xFFEF)
+    } else if code < 0xE0000 {
+        code % 0x10000 <= 0xFFFD
+    } else {
+        matches!(code, 0xE1000..=0xEFFFD)
+    }
+}
+
+/// A character of the rule `iprivate` (RFC 3987, section 2.2).
+#[tactic(auto, using(std::proofs::lemmas::Bool::Decides::nat_tests, crate::proofs::Ranges::iprivate_ranges))]
+fn is_iprivate(ch: char) -> bool
+    ensures { result ≡ is_iprivate ch }
+{
+    matches!(ch as u32, 0xE000..=0xF8FF | 0xF0000..=0xFFFFD | 0x100000..=0x10FFFD)
 }
