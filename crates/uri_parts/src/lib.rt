@@ -1,7 +1,4 @@
 //! The parts of a reference.
 #![tactic(auto)]
 
-/// Nothing yet.
-pub fn same(x: usize) -> usize {
-    x
-}
+pub mod positions;
