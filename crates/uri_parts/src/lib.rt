@@ -1,4 +1,5 @@
 //! The parts of a reference.
 #![tactic(auto)]
 
+pub mod laws;
 pub mod positions;
