@@ -44,12 +44,12 @@ unfolding encode_utf8
 bytes_of_char c = ⊎_elim
     (λ h. let e = lt-ltb c 128 h in record { first = c; more = []; spelt = encode_ascii c h; len = cond-true _ _ _ e; high = refl })
     (λ h. let e = le-ltb c 128 h in ⊎_elim
-      (λ k. record { first = 192 + c / 64; more = (128 + c % 64) ∷ []; spelt = cond-false _ _ _ e ∙ cond-true _ _ _ (lt-ltb c 2048 k); len = len_two (192 + c / 64) (omega arith) (omega arith); high = high_one _ })
-      (λ k. ⊎_elim
-        (λ m. record { first = 224 + c / 4096; more = (128 + c / 64 % 64) ∷ (128 + c % 64) ∷ []; spelt = cond-false _ _ _ e ∙ cond-false _ _ _ (le-ltb c 2048 k) ∙ cond-true _ _ _ (lt-ltb c 65536 m); len = len_three (224 + c / 4096) (omega arith) (omega arith); high = high_two (c / 64 % 64) (c % 64) })
-        (λ m. record { first = 240 + c / 262144; more = (128 + c / 4096 % 64) ∷ (128 + c / 64 % 64) ∷ (128 + c % 64) ∷ []; spelt = cond-false _ _ _ e ∙ cond-false _ _ _ (le-ltb c 2048 k) ∙ cond-false _ _ _ (le-ltb c 65536 m); len = len_four (240 + c / 262144) (omega arith); high = and_from _ _ (high_byte (c / 4096 % 64)) (high_two (c / 64 % 64) (c % 64)) })
-        (cases_lt c 65536))
-      (cases_lt c 2048))
+    (λ k. record { first = 192 + c / 64; more = (128 + c % 64) ∷ []; spelt = cond-false _ _ _ e ∙ cond-true _ _ _ (lt-ltb c 2048 k); len = len_two (192 + c / 64) (omega arith) (omega arith); high = high_one _ })
+    (λ k. ⊎_elim
+    (λ m. record { first = 224 + c / 4096; more = (128 + c / 64 % 64) ∷ (128 + c % 64) ∷ []; spelt = cond-false _ _ _ e ∙ cond-false _ _ _ (le-ltb c 2048 k) ∙ cond-true _ _ _ (lt-ltb c 65536 m); len = len_three (224 + c / 4096) (omega arith) (omega arith); high = high_two (c / 64 % 64) (c % 64) })
+    (λ m. record { first = 240 + c / 262144; more = (128 + c / 4096 % 64) ∷ (128 + c / 64 % 64) ∷ (128 + c % 64) ∷ []; spelt = cond-false _ _ _ e ∙ cond-false _ _ _ (le-ltb c 2048 k) ∙ cond-false _ _ _ (le-ltb c 65536 m); len = len_four (240 + c / 262144) (omega arith); high = and_from _ _ (high_byte (c / 4096 % 64)) (high_two (c / 64 % 64) (c % 64)) })
+    (cases_lt c 65536))
+    (cases_lt c 2048))
     (cases_lt c 128)
 
 -- the first byte of a character past ASCII
@@ -58,8 +58,8 @@ unfolding encode_utf8
 lead c rest h =
     let e = le-ltb c 128 h in
     rw e (⊎_elim (λ k. let f = lt-ltb c 2048 k in rw f (omega arith))
-      (λ k. let f = le-ltb c 2048 k in rw f (⊎_elim (λ m. let g = lt-ltb c 65536 m in rw g (omega arith)) (λ m. let g = le-ltb c 65536 m in rw g (omega arith)) (cases_lt c 65536)))
-      (cases_lt c 2048))
+    (λ k. let f = le-ltb c 2048 k in rw f (⊎_elim (λ m. let g = lt-ltb c 65536 m in rw g (omega arith)) (λ m. let g = le-ltb c 65536 m in rw g (omega arith)) (cases_lt c 65536)))
+    (cases_lt c 2048))
 
 pub first_char-encodes : (c : ℕ) (cs : List ℕ) → all_scalars (c ∷ cs) ≡ true → first_char (encode_utf8_all (c ∷ cs)) ≡ c
 unfolding first_char

@@ -5,7 +5,8 @@ use Rattle.std.specs.List.{list_any, list_all, prefix_len}
 use Rattle.std.specs.Char.{is_ascii_hexdigit}
 use Rattle.std.specs.Str.{IsUtf8, IsCharBoundary, encode_utf8_all, continuation_len, lead_bits, chars, chars_after}
 use Rattle.std.proofs.lemmas.Str.{IsUtf8-take, IsCharBoundary-before_ascii, IsCharBoundary-end}
-use Rattle.std.proofs.lemmas.List.Sums.{prefix_len-le-length, prefix_len_stops}
+use Rattle.std.proofs.lemmas.List.Sums.{prefix_len-le-length, prefix_len_stops, prefix_len_is}
+use Rattle.std.proofs.lemmas.List.{take_all}
 use Rattle.std.proofs.lemmas.Bool.{not-false, cases_lt, cases_Bool, cond-true, cond-false, and_left, and_right, and_from, and_parts, or_left, or_right, lt-ltb, le-ltb, eqb-true, ltb-true, ne_eqb, not_from_true, not_from_false, not-true, both_ways, false≢true}
 use Rattle.std.proofs.lemmas.Bool.Decides.{nat_tests}
 use Rattle.uri_pct.specs.Sets.{TableSet, LacksPercent, is_one_of}
@@ -41,8 +42,8 @@ module _ (set : TableSet) where
   excluded (mark ∷ marks) e b m =
       let p = and_parts _ _ e in
       ⊎_elim (λ h. ap (is_excluded set) (sym (eqb-true mark b h)) ∙ p.0)
-        (λ h. excluded marks p.1 b (sym (ap (λ t. t || is_one_of marks b) h) ∙ m))
-        (cases_Bool (eqb mark b))
+      (λ h. excluded marks p.1 b (sym (ap (λ t. t || is_one_of marks b) h) ∙ m))
+      (cases_Bool (eqb mark b))
 
   mark_ascii : (marks : List ℕ) → excludes set marks ≡ true → (b : ℕ) → is_one_of marks b ≡ true → b < 128
   mark_ascii marks e b m = ltb-true b 128 (of_excluded b (excluded marks e b m)).0
@@ -191,8 +192,8 @@ module _ (marks : List ℕ) (set : TableSet) (lacks : LacksPercent set) (outside
       let k = continuation_len b in
       valid_cons set b _ ∙ cond-false _ _ _ (and_left _ _ o) ∙ ap (λ t. t && valid_from set k (take m bs)) (first_before set marks b bs s)
       ∙ ⊎_elim (λ a. ap (λ t. t && valid_from set k (take m bs)) a ∙ ih ∙ sym (eqb_step (front_from set k bs) m) ∙ sym (ap (λ n. eqb n (suc m)) (cond-true _ _ _ a)))
-        (λ a. and_left _ _ a ∙ sym (eqb_zero m) ∙ sym (ap (λ n. eqb n (suc m)) (cond-false _ _ _ a)))
-        (cases_Bool (allows_first set b bs))
+      (λ a. and_left _ _ a ∙ sym (eqb_zero m) ∙ sym (ap (λ n. eqb n (suc m)) (cond-false _ _ _ a)))
+      (cases_Bool (allows_first set b bs))
       ∙ sym (ap (λ n. eqb n (suc m)) (front_cons set b bs ∙ cond-false _ _ _ o))
 
   front_zero_mark : (b : ℕ) (bs : List ℕ) → is_one_of marks b ≡ true → front_from set 0 (b ∷ bs) ≡ 0
@@ -211,10 +212,10 @@ module _ (marks : List ℕ) (set : TableSet) (lacks : LacksPercent set) (outside
   cut_from zero (b ∷ bs) s = ⊎_elim
       (λ e. rw (mark_len marks b bs e) (sym (ap (λ n. eqb n 0) (front_zero_mark b bs e))))
       (λ e. rw (other_len marks b bs e) (⊎_elim
-        (λ o. let t = percent_rest marks b bs (and_parts _ _ o).1 s in
-          ⊎_elim (λ h. cut_octet b bs o (cut_from 2 bs (two_digits bs h t)) h) (λ h. cut_stray b bs o h) (cases_Bool (begins_hex bs)))
-        (λ o. cut_char b bs o s (cut_from (continuation_len b) bs s))
-        (cases_Bool (set.pct_encoded && eqb b 37))))
+      (λ o. let t = percent_rest marks b bs (and_parts _ _ o).1 s in
+      ⊎_elim (λ h. cut_octet b bs o (cut_from 2 bs (two_digits bs h t)) h) (λ h. cut_stray b bs o h) (cases_Bool (begins_hex bs)))
+      (λ o. cut_char b bs o s (cut_from (continuation_len b) bs s))
+      (cases_Bool (set.pct_encoded && eqb b 37))))
       (cases_Bool (is_one_of marks b))
 
   front_le_any : (b : ℕ) (bs : List ℕ) → ((set.pct_encoded && eqb b 37) ≡ true → begins_hex bs ≡ true → front_from set 2 bs ≤ to_mark marks bs) → front_from set (continuation_len b) bs ≤ to_mark marks bs → front_from set 0 (b ∷ bs) ≤ suc (to_mark marks bs)
@@ -222,8 +223,8 @@ module _ (marks : List ℕ) (set : TableSet) (lacks : LacksPercent set) (outside
       let m = to_mark marks bs in
       let k = continuation_len b in
       rw (front_cons set b bs) (cond_le (set.pct_encoded && eqb b 37) (cond (begins_hex bs) (front_from set 2 bs + 1) 0) (cond (allows_first set b bs) (front_from set k bs + 1) 0) (suc m)
-        (λ o. cond_le (begins_hex bs) (front_from set 2 bs + 1) 0 (suc m) (λ h. let l = two o h in omega arith) (λ _. omega arith))
-        (λ _. cond_le (allows_first set b bs) (front_from set k bs + 1) 0 (suc m) (λ _. omega arith) (λ _. omega arith)))
+      (λ o. cond_le (begins_hex bs) (front_from set 2 bs + 1) 0 (suc m) (λ h. let l = two o h in omega arith) (λ _. omega arith))
+      (λ _. cond_le (allows_first set b bs) (front_from set k bs + 1) 0 (suc m) (λ _. omega arith) (λ _. omega arith)))
 
   front_le : (k : ℕ) (bs : List ℕ) → skips marks k bs ≡ true → front_from set k bs ≤ to_mark marks bs
   unfolding front_from skips
@@ -235,8 +236,8 @@ module _ (marks : List ℕ) (set : TableSet) (lacks : LacksPercent set) (outside
   front_le zero (b ∷ bs) s = ⊎_elim
       (λ e. rw (front_zero_mark b bs e) (omega arith))
       (λ e. rw (other_len marks b bs e) (front_le_any b bs
-        (λ o h. front_le 2 bs (two_digits bs h (percent_rest marks b bs (and_parts _ _ o).1 s)))
-        (front_le (continuation_len b) bs s)))
+      (λ o h. front_le 2 bs (two_digits bs h (percent_rest marks b bs (and_parts _ _ o).1 s)))
+      (front_le (continuation_len b) bs s)))
       (cases_Bool (is_one_of marks b))
 
   at_mark : (bs : List ℕ) → to_mark marks bs < length bs → is_one_of marks (get_or bs (to_mark marks bs) 0) ≡ true
@@ -257,3 +258,12 @@ module _ (marks : List ℕ) (set : TableSet) (lacks : LacksPercent set) (outside
   -- reading ends at the first mark, or before it
   pub front_le_mark : (text : List ℕ) → IsUtf8 text → front set text ≤ to_mark marks text
   front_le_mark text u = front_le 0 text (skips_text marks ascii text u)
+
+none_len : (text : List ℕ) → to_mark [] text ≡ length text
+none_len text = prefix_len_is (λ c. not (is_one_of [] c)) text (length text) 0 (omega arith) (λ k h. refl) (λ h. absurd (omega arith))
+
+-- a text is valid where it is read to its end
+pub valid_where_read : (set : TableSet) (text : List ℕ) → LacksPercent set → IsUtf8 text → is_valid_for set text ≡ eqb (front set text) (length text)
+valid_where_read set text lacks u =
+    ap (is_valid_for set) (sym (take_all (length text) text (omega arith)) ∙ ap (λ n. take n text) (sym (none_len text)))
+    ∙ cut [] set lacks refl text u ∙ ap (eqb (front set text)) (none_len text)

@@ -29,7 +29,7 @@ pub allows_first-ascii : (set : TableSet) (b : ℕ) (rest : List ℕ) → b < 12
 unfolding allows_first
 allows_first-ascii set b rest h = cond-true _ _ _ (lt-ltb b 128 h)
 
-allows_first-past : (set : TableSet) (b : ℕ) (rest : List ℕ) → 128 ≤ b → allows_first set b rest ≡ allows_past_ascii set (first_char (b ∷ rest))
+pub allows_first-past : (set : TableSet) (b : ℕ) (rest : List ℕ) → 128 ≤ b → allows_first set b rest ≡ allows_past_ascii set (first_char (b ∷ rest))
 unfolding allows_first
 allows_first-past set b rest h = cond-false _ _ _ (le-ltb b 128 h)
 
@@ -66,18 +66,18 @@ first_past c w h =
 no_octet : (set : TableSet) (c : ℕ) (cs : List ℕ) (w : IsSpelt c) → (eqb c 37 && begins_hex cs) ≡ false → ((set.pct_encoded && eqb w.first 37) && begins_hex (w.more ++ encode_utf8_all cs)) ≡ false
 no_octet set c cs w e = ⊎_elim
     (λ h.
-      let f = first_ascii c w h in
-      ap (λ t. (set.pct_encoded && eqb t 37) && begins_hex (w.more ++ encode_utf8_all cs)) f.0
-      ∙ ap (λ t. (set.pct_encoded && eqb c 37) && begins_hex (t ++ encode_utf8_all cs)) f.1
-      ∙ regroup set.pct_encoded (eqb c 37) (begins_hex (encode_utf8_all cs)) (ap (λ t. eqb c 37 && t) (begins_hex-encodes cs) ∙ e))
+    let f = first_ascii c w h in
+    ap (λ t. (set.pct_encoded && eqb t 37) && begins_hex (w.more ++ encode_utf8_all cs)) f.0
+    ∙ ap (λ t. (set.pct_encoded && eqb c 37) && begins_hex (t ++ encode_utf8_all cs)) f.1
+    ∙ regroup set.pct_encoded (eqb c 37) (begins_hex (encode_utf8_all cs)) (ap (λ t. eqb c 37 && t) (begins_hex-encodes cs) ∙ e))
     (λ h. and_left _ _ (and_right _ _ (ne_eqb w.first 37 (λ d. big w.first refl (first_past c w h) d))))
     (cases_lt c 128)
 
 allows_char : (set : TableSet) (c : ℕ) (cs : List ℕ) (w : IsSpelt c) → all_scalars (c ∷ cs) ≡ true → allows_first set w.first (w.more ++ encode_utf8_all cs) ≡ allows set c
 allows_char set c cs w s = ⊎_elim
     (λ h.
-      let f = first_ascii c w h in
-      ap (λ t. allows_first set t (w.more ++ encode_utf8_all cs)) f.0 ∙ allows_first-ascii set c _ h ∙ sym (allows-ascii set c h))
+    let f = first_ascii c w h in
+    ap (λ t. allows_first set t (w.more ++ encode_utf8_all cs)) f.0 ∙ allows_first-ascii set c _ h ∙ sym (allows-ascii set c h))
     (λ h. allows_first-past set w.first _ (first_past c w h) ∙ ap (allows_past_ascii set) (ap first_char (sym (first_of c cs w)) ∙ first_char-encodes c cs s) ∙ sym (allows-past set c h))
     (cases_lt c 128)
 
@@ -116,9 +116,9 @@ escape set c h l cs p e =
     let q = and_parts _ _ a.1 in
     let d = eqb-true c 37 a.0 in
     ⊎_elim
-      (λ o. escape_step set c (h ∷ l ∷ cs) d a.1 o ∙ skip_two set h l cs q.0 q.1 ∙ sym (ap (λ b. b && valid_from set 0 (encode_utf8_all cs)) o))
-      (λ o. percent_step set c (h ∷ l ∷ cs) p d o ∙ sym (and_left _ _ o))
-      (cases_Bool set.pct_encoded)
+    (λ o. escape_step set c (h ∷ l ∷ cs) d a.1 o ∙ skip_two set h l cs q.0 q.1 ∙ sym (ap (λ b. b && valid_from set 0 (encode_utf8_all cs)) o))
+    (λ o. percent_step set c (h ∷ l ∷ cs) p d o ∙ sym (and_left _ _ o))
+    (cases_Bool set.pct_encoded)
 
 tail_scalars : (c : ℕ) (cs : List ℕ) → all_scalars (c ∷ cs) ≡ true → all_scalars cs ≡ true
 tail_scalars c cs s = (and_parts _ _ s).1
