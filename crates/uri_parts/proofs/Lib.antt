@@ -1,0 +1,5 @@
+pub mod Cuts
+pub mod Marks
+pub mod Splits
+pub mod Recompose
+mod Rows

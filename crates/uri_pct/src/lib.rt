@@ -1,4 +1,6 @@
 //! Sets of characters, and texts that are percent-encoded over them.
 #![tactic(auto)]
 
+pub mod scan;
 pub mod table;
+pub mod utf8;
