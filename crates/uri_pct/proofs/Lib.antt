@@ -4,3 +4,4 @@ pub mod Cuts
 pub mod Fronts
 pub mod Masks
 pub mod Ranges
+pub mod Tables

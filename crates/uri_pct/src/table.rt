@@ -1,5 +1,5 @@
 //! Sets of characters (RFC 3986, appendix A; RFC 3987, section 2.2).
-ghost use Rattle.std.specs.Prelude.{◌≡◌, ◌<◌, ◌↔◌, ◌+◌, ◌&&◌, ◌||◌, ◌==◌, IsTrue, All, true, false, length, drop};
+ghost use Rattle.std.specs.Prelude.{◌≡◌, ◌≢◌, ◌<◌, ◌↔◌, ◌+◌, ◌&&◌, ◌||◌, ◌==◌, IsTrue, All, true, false, length, drop};
 ghost use Rattle.std.specs.Str.{IsCharBoundary};
 ghost use Rattle.uri_pct.specs.Sets.{allows, allows_past_ascii, is_ucschar, is_iprivate, is_one_of, plain, union, difference, IsSubset};
 ghost use Rattle.uri_pct.specs.Fronts.{front};
@@ -27,7 +27,96 @@ impl Clone for Table {
 impl Copy for Table {}
 
 impl Table {
-    ghost use Rattle.uri_pct.specs.Tables.{set_of};
+    ghost use Rattle.uri_pct.specs.Tables.{set_of, empty_set};
+
+    /// The characters of these codes, and no flag.
+    ///
+    /// Each byte is ASCII and not `%`; the list may be empty.
+    pub fn new(bytes: &[u8]) -> Table
+        requires { All (λ b. (b < 128) × (b ≢ 37)) bytes.now }
+        ensures { set_of result ≡ plain (is_one_of bytes.now) }
+    {
+        let mut low: u64 = 0;
+        let mut high: u64 = 0;
+        for &byte in bytes {
+            if byte < 64 {
+                low |= 1 << byte;
+            } else {
+                high |= 1 << (byte - 64);
+            }
+        }
+        Table {
+            low,
+            high,
+            pct_encoded: false,
+            ucschar: false,
+            iprivate: false,
+        }
+    }
+
+    /// What `self` or `other` allows: the union of their characters, and of each flag.
+    pub fn or(self, other: &Table) -> Table
+        ensures { set_of result ≡ union (set_of self) (set_of other.now) }
+    {
+        Table {
+            low: self.low | other.low,
+            high: self.high | other.high,
+            pct_encoded: self.pct_encoded | other.pct_encoded,
+            ucschar: self.ucschar | other.ucschar,
+            iprivate: self.iprivate | other.iprivate,
+        }
+    }
+
+    /// What `self` allows and `other` does not, among the characters and the flags.
+    pub fn sub(self, other: &Table) -> Table
+        ensures { set_of result ≡ difference (set_of self) (set_of other.now) }
+    {
+        Table {
+            low: self.low & !other.low,
+            high: self.high & !other.high,
+            pct_encoded: self.pct_encoded & !other.pct_encoded,
+            ucschar: self.ucschar & !other.ucschar,
+            iprivate: self.iprivate & !other.iprivate,
+        }
+    }
+
+    /// The same table, with percent-encoded octets allowed.
+    pub fn or_pct_encoded(mut self) -> Table
+        ensures { set_of result ≡ record (set_of self) { pct_encoded = true } }
+    {
+        self.pct_encoded = true;
+        self
+    }
+
+    /// The same table, with the characters of `ucschar` (RFC 3987, section 2.2) allowed.
+    pub fn or_ucschar(mut self) -> Table
+        ensures { set_of result ≡ record (set_of self) { ucschar = true } }
+    {
+        self.ucschar = true;
+        self
+    }
+
+    /// The same table, with the characters of `iprivate` (RFC 3987, section 2.2) allowed.
+    pub fn or_iprivate(mut self) -> Table
+        ensures { set_of result ≡ record (set_of self) { iprivate = true } }
+    {
+        self.iprivate = true;
+        self
+    }
+
+    /// Whether `other` allows every character that `self` allows, and has each flag that `self` has.
+    pub fn is_subset(&self, other: &Table) -> bool
+        ensures { IsTrue result ↔ IsSubset (set_of self.now) (set_of other.now) }
+    {
+        self.sub(other).is_empty()
+    }
+
+    /// Whether there is no character and no flag.
+    fn is_empty(&self) -> bool
+        ensures { IsTrue result ↔ (set_of self.now ≡ empty_set) }
+    {
+        (self.low | self.high == 0) & !(self.pct_encoded | self.ucschar | self.iprivate)
+    }
 
     /// Whether percent-encoded octets are allowed.
     pub fn allows_pct_encoded(&self) -> bool
