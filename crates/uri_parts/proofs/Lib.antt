@@ -2,4 +2,5 @@ pub mod Cuts
 pub mod Marks
 pub mod Splits
 pub mod Recompose
+pub mod Places
 mod Rows
