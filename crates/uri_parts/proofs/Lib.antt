@@ -3,4 +3,5 @@ pub mod Marks
 pub mod Splits
 pub mod Recompose
 pub mod Next
+pub mod Places
 mod Rows
