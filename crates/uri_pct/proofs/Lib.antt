@@ -5,3 +5,5 @@ pub mod Fronts
 pub mod Masks
 pub mod Ranges
 pub mod Tables
+pub mod Percent
+pub mod Constants
