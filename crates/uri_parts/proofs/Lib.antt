@@ -2,4 +2,6 @@ pub mod Cuts
 pub mod Marks
 pub mod Splits
 pub mod Recompose
+pub mod Next
+pub mod Places
 mod Rows

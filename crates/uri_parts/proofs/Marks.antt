@@ -15,7 +15,7 @@ fragment_text fragment = marked (codes "#") fragment []
 abbrev pub query_text : Option (List ℕ) → Option (List ℕ) → List ℕ
 query_text query fragment = marked (codes "?") query [] ++ fragment_text fragment
 
-Begins-fragment_text : (fragment : Option (List ℕ)) → Begins (codes "#") (fragment_text fragment)
+pub Begins-fragment_text : (fragment : Option (List ℕ)) → Begins (codes "#") (fragment_text fragment)
 Begins-fragment_text None = tt
 Begins-fragment_text (Some f) = refl
 

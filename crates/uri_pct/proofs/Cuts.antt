@@ -6,8 +6,8 @@ use Rattle.std.specs.Char.{is_ascii_hexdigit}
 use Rattle.std.specs.Str.{IsUtf8, IsCharBoundary, encode_utf8_all, continuation_len, lead_bits, chars, chars_after}
 use Rattle.std.proofs.lemmas.Str.{IsUtf8-take, IsCharBoundary-before_ascii, IsCharBoundary-end}
 use Rattle.std.proofs.lemmas.List.Sums.{prefix_len-le-length, prefix_len_stops, prefix_len_is}
-use Rattle.std.proofs.lemmas.List.{take_all}
-use Rattle.std.proofs.lemmas.Bool.{not-false, cases_lt, cases_Bool, cond-true, cond-false, and_left, and_right, and_from, and_parts, or_left, or_right, lt-ltb, le-ltb, eqb-true, ltb-true, ne_eqb, not_from_true, not_from_false, not-true, both_ways, false≢true}
+use Rattle.std.proofs.lemmas.List.{take_all, drop_all, drop_more}
+use Rattle.std.proofs.lemmas.Bool.{not-false, or_cases, cases_lt, cases_Bool, cond-true, cond-false, and_left, and_right, and_from, and_parts, or_left, or_right, lt-ltb, le-ltb, eqb-true, ltb-true, ne_eqb, not_from_true, not_from_false, not-true, both_ways, false≢true}
 use Rattle.std.proofs.lemmas.Bool.Decides.{nat_tests}
 use Rattle.uri_pct.specs.Sets.{TableSet, LacksPercent, is_one_of}
 use Rattle.uri_pct.specs.Tokens.{is_valid_for}
@@ -26,6 +26,13 @@ is_excluded set mark = nat_lt mark 128 && (not (set.ascii mark) && (not (is_asci
 abbrev pub excludes : TableSet → List ℕ → Bool
 excludes set marks = list_all (is_excluded set) marks
 
+-- what holds of each mark
+pub of_each : (P : ℕ → Bool) (marks : List ℕ) → list_all P marks ≡ true → (b : ℕ) → is_one_of marks b ≡ true → P b ≡ true
+of_each P [] h b m = absurd (false≢true m)
+of_each P (mark ∷ marks) h b m =
+    let p = and_parts (P mark) (list_all P marks) h in
+    ⊎_elim (λ e. ap P (sym (eqb-true mark b e)) ∙ p.0) (λ e. of_each P marks p.1 b e) (or_cases (eqb mark b) (is_one_of marks b) m)
+
 four : (a b c d : Bool) → (a && (not b && (not c && not d))) ≡ true → (a ≡ true) × (b ≡ false) × (c ≡ false) × (d ≡ false)
 four true false false false e = (refl, refl, refl, refl)
 four false b c d e = absurd (false≢true e)
@@ -38,12 +45,7 @@ module _ (set : TableSet) where
   of_excluded b e = four (nat_lt b 128) (set.ascii b) (is_ascii_hexdigit b) (eqb b 37) e
 
   excluded : (marks : List ℕ) → excludes set marks ≡ true → (b : ℕ) → is_one_of marks b ≡ true → is_excluded set b ≡ true
-  excluded [] e b m = absurd (false≢true m)
-  excluded (mark ∷ marks) e b m =
-      let p = and_parts _ _ e in
-      ⊎_elim (λ h. ap (is_excluded set) (sym (eqb-true mark b h)) ∙ p.0)
-      (λ h. excluded marks p.1 b (sym (ap (λ t. t || is_one_of marks b) h) ∙ m))
-      (cases_Bool (eqb mark b))
+  excluded marks e b m = of_each (is_excluded set) marks e b m
 
   mark_ascii : (marks : List ℕ) → excludes set marks ≡ true → (b : ℕ) → is_one_of marks b ≡ true → b < 128
   mark_ascii marks e b m = ltb-true b 128 (of_excluded b (excluded marks e b m)).0
@@ -84,7 +86,7 @@ skips marks zero (b ∷ rest) = skips marks (continuation_len b) rest
 skips marks (suc k) (b ∷ rest) = not (is_one_of marks b) && skips marks k rest
 
 -- the marks are ASCII
-abbrev AreAscii : List ℕ → Type 0
+abbrev pub AreAscii : List ℕ → Type 0
 AreAscii marks = (b : ℕ) → is_one_of marks b ≡ true → b < 128
 
 not_high : (b : ℕ) → is_high b ≡ true → b < 128 → ⊥
@@ -142,6 +144,25 @@ first_before set marks b bs s = rw (head_after marks (continuation_len b) (lead_
 
 percent_rest : (marks : List ℕ) (b : ℕ) (bs : List ℕ) → eqb b 37 ≡ true → skips marks (continuation_len b) bs ≡ true → skips marks 0 bs ≡ true
 percent_rest marks b bs e s = let d = eqb-true b 37 e in ap (λ n. skips marks n bs) (sym (len_ascii b (omega arith))) ∙ s
+
+at_mark : (marks bs : List ℕ) → to_mark marks bs < length bs → is_one_of marks (get_or bs (to_mark marks bs) 0) ≡ true
+at_mark marks bs h = not-false _ (prefix_len_stops (λ c. not (is_one_of marks c)) bs 0 h)
+
+pub mark_boundary : (marks : List ℕ) → AreAscii marks → (bs : List ℕ) → IsCharBoundary bs (to_mark marks bs)
+mark_boundary marks ascii bs = ⊎_elim
+    (λ h. IsCharBoundary-before_ascii bs (to_mark marks bs) h (ascii _ (at_mark marks bs h)))
+    (λ h. let e : length bs ≡ to_mark marks bs = omega (arith, prefix_len-le-length (λ c. not (is_one_of marks c)) bs) in subst (λ n. IsCharBoundary bs n) e (IsCharBoundary-end bs))
+    (cases_lt (to_mark marks bs) (length bs))
+
+-- what is left behind a cut begins with a mark, or is nothing
+pub from_mark : (marks : List ℕ) (P : List ℕ → Type 0) → P [] → ((b : ℕ) (rest : List ℕ) → is_one_of marks b ≡ true → P (b ∷ rest)) → (bs : List ℕ) → P (drop (to_mark marks bs) bs)
+from_mark marks P none some bs =
+    let m = to_mark marks bs in
+    ⊎_elim (λ h. subst P (sym (drop_more bs m 0 h)) (some _ _ (at_mark marks bs h)))
+      (λ h. subst P (sym (drop_all m bs h)) none) (cases_lt m (length bs))
+
+pub ascii_marks : (marks : List ℕ) → list_all (λ b. nat_lt b 128) marks ≡ true → AreAscii marks
+ascii_marks marks h b m = ltb-true b 128 (of_each (λ b. nat_lt b 128) marks h b m)
 
 module _ (marks : List ℕ) (set : TableSet) (lacks : LacksPercent set) (outside : excludes set marks ≡ true) where
   ascii : AreAscii marks
@@ -240,19 +261,10 @@ module _ (marks : List ℕ) (set : TableSet) (lacks : LacksPercent set) (outside
       (front_le (continuation_len b) bs s)))
       (cases_Bool (is_one_of marks b))
 
-  at_mark : (bs : List ℕ) → to_mark marks bs < length bs → is_one_of marks (get_or bs (to_mark marks bs) 0) ≡ true
-  at_mark bs h = not-false _ (prefix_len_stops (λ c. not (is_one_of marks c)) bs 0 h)
-
-  pub mark_boundary : (bs : List ℕ) → IsCharBoundary bs (to_mark marks bs)
-  mark_boundary bs = ⊎_elim
-      (λ h. IsCharBoundary-before_ascii bs (to_mark marks bs) h (ascii _ (at_mark bs h)))
-      (λ h. let e : length bs ≡ to_mark marks bs = omega (arith, prefix_len-le-length (λ c. not (is_one_of marks c)) bs) in subst (λ n. IsCharBoundary bs n) e (IsCharBoundary-end bs))
-      (cases_lt (to_mark marks bs) (length bs))
-
   -- reading ends at the mark exactly where what lies before it is valid
   pub cut : (text : List ℕ) → IsUtf8 text → is_valid_for set (take (to_mark marks text) text) ≡ eqb (front set text) (to_mark marks text)
   cut text u =
-      is_valid_for-bytes set lacks _ (IsUtf8-take text _ u (mark_boundary text))
+      is_valid_for-bytes set lacks _ (IsUtf8-take text _ u (mark_boundary marks ascii text))
       ∙ cut_from 0 text (skips_text marks ascii text u)
 
   -- reading ends at the first mark, or before it

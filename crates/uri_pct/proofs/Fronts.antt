@@ -179,3 +179,13 @@ front-past-at set bs i c u b e h =
 pub digits-ascii : (bs : List ℕ) (i : ℕ) → has_digits bs i ≡ true → get_or bs (i + 2) 0 < 128
 unfolding has_digits
 digits-ascii bs i e = hex_ascii _ (and_parts _ _ e).1
+
+none_read : (n : ℕ) → n + 1 ≡ 0 → ⊥
+none_read n e = omega arith
+
+-- where nothing is read of a `%`, no octet begins
+pub stray-digits : (set : TableSet) (bs : List ℕ) (i : ℕ) → i < length bs → set.pct_encoded ≡ true → get_or bs i 0 ≡ 37 → front set (drop i bs) ≡ 0 → has_digits bs i ≡ false
+stray-digits set bs i h o p z = ⊎_elim
+    (λ e. absurd (none_read _ (sym (cond-true _ _ _ (digits_at bs i ∙ e)) ∙ sym (cond-true _ _ _ (and_from _ _ o (eq-eqb _ _ p))) ∙ sym (front_at set bs i h) ∙ z)))
+    (λ e. e)
+    (cases_Bool (has_digits bs i))
