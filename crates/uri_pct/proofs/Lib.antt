@@ -7,3 +7,4 @@ pub mod Ranges
 pub mod Tables
 pub mod Percent
 pub mod Constants
+pub mod EStrs
