@@ -5,3 +5,6 @@ pub mod Fronts
 pub mod Masks
 pub mod Ranges
 pub mod Tables
+pub mod Percent
+pub mod Constants
+pub mod EStrs

@@ -22,6 +22,11 @@ pub has_no_bit : (low high c : ℕ) → 128 ≤ c → has_bit low high c ≡ fal
 unfolding has_bit
 has_no_bit low high c h = cond-false _ _ _ (le-ltb c 64 (omega arith)) ∙ ap (λ b. b && eqb (bit_at high (c - 64)) 1) (le-ltb c 128 h)
 
+-- the place of `%`
+pub percent_bit : (low high : ℕ) → has_bit low high 37 ≡ eqb (bit_at low 37) 1
+unfolding has_bit
+percent_bit low high = refl
+
 -- the bit that the code reads, out of four words of which two are empty
 abbrev pub bit_read : ℕ → ℕ → ℕ → Bool
 bit_read low high b = eqb (bit_and (slice_index_or (low ∷ high ∷ 0 ∷ 0 ∷ []) (b / 64) 0 / 2 ^ bit_and b 63) 1) 1

@@ -3,3 +3,4 @@ pub mod Tokens
 pub mod Fronts
 pub mod Masks
 pub mod Tables
+pub mod EStrs

@@ -1,9 +1,7 @@
 //! Sets of characters (RFC 3986, appendix A; RFC 3987, section 2.2).
-ghost use Rattle.std.specs.Prelude.{◌≡◌, ◌≢◌, ◌<◌, ◌↔◌, ◌+◌, ◌&&◌, ◌||◌, ◌==◌, IsTrue, All, true, false, length, drop};
-ghost use Rattle.std.specs.Str.{IsCharBoundary};
+ghost use Rattle.std.specs.Prelude.{◌≡◌, ◌≢◌, ◌<◌, ◌↔◌, ◌==◌, IsTrue, All, true, false};
 ghost use Rattle.uri_pct.specs.Sets.{allows, allows_past_ascii, is_ucschar, is_iprivate, is_one_of, plain, union, difference, IsSubset};
-ghost use Rattle.uri_pct.specs.Fronts.{front};
-ghost use Rattle.uri_pct.specs.Masks.{has_bit};
+ghost use Rattle.std.specs.Int.{bit_at};
 
 use std::alloc::AllocError;
 
@@ -15,7 +13,7 @@ pub struct Table {
     pct_encoded: bool,
     ucschar: bool,
     iprivate: bool,
-    pub ghost lacks_percent: { has_bit low high 37 ≡ false },
+    pub ghost lacks_percent: { (bit_at low 37 == 1) ≡ false },
 }
 
 impl Clone for Table {
@@ -178,4 +176,171 @@ fn is_iprivate(ch: char) -> bool
     ensures { result ≡ is_iprivate ch }
 {
     matches!(ch as u32, 0xE000..=0xF8FF | 0xF0000..=0xFFFFD | 0x100000..=0x10FFFD)
+}
+
+/// `ALPHA = %x41-5A / %x61-7A`: the letters (RFC 3986, appendix A).
+pub const ALPHA: Table = Table {
+    low: 0x0000_0000_0000_0000,
+    high: 0x07FF_FFFE_07FF_FFFE,
+    pct_encoded: false,
+    ucschar: false,
+    iprivate: false,
+};
+
+/// `DIGIT = %x30-39`: the decimal digits (RFC 3986, appendix A).
+pub const DIGIT: Table = Table {
+    low: 0x03FF_0000_0000_0000,
+    high: 0x0000_0000_0000_0000,
+    pct_encoded: false,
+    ucschar: false,
+    iprivate: false,
+};
+
+/// `HEXDIG = DIGIT / "A" / "B" / "C" / "D" / "E" / "F"`, the letters in either case (RFC 3986, appendix A).
+pub const HEXDIG: Table = Table {
+    low: 0x03FF_0000_0000_0000,
+    high: 0x0000_007E_0000_007E,
+    pct_encoded: false,
+    ucschar: false,
+    iprivate: false,
+};
+
+/// The characters of `scheme = ALPHA *( ALPHA / DIGIT / "+" / "-" / "." )` (RFC 3986, section 3.1).
+pub const SCHEME: Table = Table {
+    low: 0x03FF_6800_0000_0000,
+    high: 0x07FF_FFFE_07FF_FFFE,
+    pct_encoded: false,
+    ucschar: false,
+    iprivate: false,
+};
+
+/// What `userinfo = *( unreserved / pct-encoded / sub-delims / ":" )` consists of (RFC 3986, section 3.2.1).
+pub const USERINFO: Table = Table {
+    low: 0x2FFF_7FD2_0000_0000,
+    high: 0x47FF_FFFE_87FF_FFFE,
+    pct_encoded: true,
+    ucschar: false,
+    iprivate: false,
+};
+
+/// The characters behind the dot of `IPvFuture = "v" 1*HEXDIG "." 1*( unreserved / sub-delims / ":" )` (RFC 3986, section 3.2.2).
+pub const IPV_FUTURE: Table = Table {
+    low: 0x2FFF_7FD2_0000_0000,
+    high: 0x47FF_FFFE_87FF_FFFE,
+    pct_encoded: false,
+    ucschar: false,
+    iprivate: false,
+};
+
+/// What `reg-name = *( unreserved / pct-encoded / sub-delims )` consists of (RFC 3986, section 3.2.2).
+pub const REG_NAME: Table = Table {
+    low: 0x2BFF_7FD2_0000_0000,
+    high: 0x47FF_FFFE_87FF_FFFE,
+    pct_encoded: true,
+    ucschar: false,
+    iprivate: false,
+};
+
+/// What a path consists of: `pchar / "/"` (RFC 3986, section 3.3).
+pub const PATH: Table = Table {
+    low: 0x2FFF_FFD2_0000_0000,
+    high: 0x47FF_FFFE_87FF_FFFF,
+    pct_encoded: true,
+    ucschar: false,
+    iprivate: false,
+};
+
+/// What `segment-nz-nc = 1*( unreserved / pct-encoded / sub-delims / "@" )` consists of (RFC 3986, section 3.3).
+pub const SEGMENT_NZ_NC: Table = Table {
+    low: 0x2BFF_7FD2_0000_0000,
+    high: 0x47FF_FFFE_87FF_FFFF,
+    pct_encoded: true,
+    ucschar: false,
+    iprivate: false,
+};
+
+/// `pchar = unreserved / pct-encoded / sub-delims / ":" / "@"` (RFC 3986, section 3.3).
+pub const PCHAR: Table = Table {
+    low: 0x2FFF_7FD2_0000_0000,
+    high: 0x47FF_FFFE_87FF_FFFF,
+    pct_encoded: true,
+    ucschar: false,
+    iprivate: false,
+};
+
+/// What `query = *( pchar / "/" / "?" )` consists of (RFC 3986, section 3.4).
+pub const QUERY: Table = Table {
+    low: 0xAFFF_FFD2_0000_0000,
+    high: 0x47FF_FFFE_87FF_FFFF,
+    pct_encoded: true,
+    ucschar: false,
+    iprivate: false,
+};
+
+/// What `fragment = *( pchar / "/" / "?" )` consists of (RFC 3986, section 3.5).
+pub const FRAGMENT: Table = Table {
+    low: 0xAFFF_FFD2_0000_0000,
+    high: 0x47FF_FFFE_87FF_FFFF,
+    pct_encoded: true,
+    ucschar: false,
+    iprivate: false,
+};
+
+/// `unreserved = ALPHA / DIGIT / "-" / "." / "_" / "~"` (RFC 3986, section 2.3).
+pub const UNRESERVED: Table = Table {
+    low: 0x03FF_6000_0000_0000,
+    high: 0x47FF_FFFE_87FF_FFFE,
+    pct_encoded: false,
+    ucschar: false,
+    iprivate: false,
+};
+
+/// `reserved = gen-delims / sub-delims` (RFC 3986, section 2.2).
+pub const RESERVED: Table = Table {
+    low: 0xAC00_9FDA_0000_0000,
+    high: 0x0000_0000_2800_0001,
+    pct_encoded: false,
+    ucschar: false,
+    iprivate: false,
+};
+
+/// `gen-delims = ":" / "/" / "?" / "#" / "[" / "]" / "@"` (RFC 3986, section 2.2).
+pub const GEN_DELIMS: Table = Table {
+    low: 0x8400_8008_0000_0000,
+    high: 0x0000_0000_2800_0001,
+    pct_encoded: false,
+    ucschar: false,
+    iprivate: false,
+};
+
+/// `sub-delims = "!" / "$" / "&" / "'" / "(" / ")" / "*" / "+" / "," / ";" / "="` (RFC 3986, section 2.2).
+pub const SUB_DELIMS: Table = Table {
+    low: 0x2800_1FD2_0000_0000,
+    high: 0x0000_0000_0000_0000,
+    pct_encoded: false,
+    ucschar: false,
+    iprivate: false,
+};
+
+#[cfg(test)]
+mod tests {
+    use super::{ALPHA, DIGIT, UNRESERVED};
+
+    #[test]
+    fn digits_are_in_the_low_mask(rt: HostRuntime) {
+        assert_eq!(rt; DIGIT.low, 0x03FF_0000_0000_0000);
+        assert_eq!(rt; DIGIT.high, 0);
+    }
+
+    #[test]
+    fn letters_are_in_the_high_mask(rt: HostRuntime) {
+        assert_eq!(rt; ALPHA.low, 0);
+        assert_eq!(rt; ALPHA.high, 0x07FF_FFFE_07FF_FFFE);
+    }
+
+    #[test]
+    fn unreserved_characters_are_in_both_masks(rt: HostRuntime) {
+        assert_eq!(rt; UNRESERVED.low, 0x03FF_6000_0000_0000);
+        assert_eq!(rt; UNRESERVED.high, 0x47FF_FFFE_87FF_FFFE);
+    }
 }

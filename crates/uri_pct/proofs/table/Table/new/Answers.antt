@@ -3,7 +3,7 @@ use Rattle.std.proofs.lemmas.List.{take_all}
 use Rattle.std.proofs.lemmas.List.Folds.{list_any_more}
 use Rattle.uri_pct.specs.Sets.{is_one_of}
 use Rattle.uri_pct.specs.Masks.{has_bit}
-use Rattle.uri_pct.proofs.Masks.{has_no_bits, has_bit_set_low, has_bit_set_high}
+use Rattle.uri_pct.proofs.Masks.{percent_bit, has_no_bits, has_bit_set_low, has_bit_set_high}
 use Rattle.uri_pct.proofs.Tables.{not_one_of}
 use Rattle.uri_pct.proofs.table.Table.new.Goals as goal
 use Rattle.uri_pct.proofs.table.Table.new.Goals.{then-byte-lt64, else-byte-lt64}
@@ -29,6 +29,6 @@ invariant_of-result c =
     let all : take c.loop-byte.byte-index c.args.bytes.now ≡ c.args.bytes.now = take_all c.loop-byte.byte-index c.args.bytes.now c.loop-byte-test.false in
     record {
       lacks_percent =
-          c.loop-byte.invariant 37 ∙ ap (λ bs. is_one_of bs 37) all
+          sym (percent_bit c.loop-byte.low c.loop-byte.high) ∙ c.loop-byte.invariant 37 ∙ ap (λ bs. is_one_of bs 37) all
           ∙ not_one_of c.args.bytes.now 37 (λ k d within. (c.requires k d within).1);
     }

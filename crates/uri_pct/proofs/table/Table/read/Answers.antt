@@ -6,6 +6,7 @@ use Rattle.uri_pct.specs.Sets.{TableSet, allows_past_ascii}
 use Rattle.uri_pct.specs.Fronts.{front, has_digits}
 use Rattle.uri_pct.specs.Tables.{set_of}
 use Rattle.uri_pct.proofs.Fronts.{front-end, front-char, front-stop, front-stray, front-octet, front-past-at, digits-ascii}
+use Rattle.uri_pct.proofs.Percent.{lacks_percent}
 use Rattle.uri_pct.proofs.table.Table.read.Goals as goal
 use Rattle.uri_pct.proofs.table.Table.read.Goals.{else-byte-eq37-via-then-byte-eq37+then-allows_pct_encoded+else-begins_octet, else-byte-eq37-via-then-byte-eq37+else-allows_pct_encoded, else-byte-eq37-via-else-byte-eq37}
 
@@ -14,7 +15,7 @@ loop-i-preserved-then-allows_ascii c =
     let bs = c.as_bytes-bytes.result.now in
     let i = c.loop-i.i in
     let below : get_or bs i 0 < 128 = c.allows_ascii.ensures.ascii (search rules) in
-    let e = front-char (set_of c.args.self.now) c.args.self.now.lacks_percent bs i (omega arith) below (cc) in
+    let e = front-char (set_of c.args.self.now) (lacks_percent c.args.self.now) bs i (omega arith) below (cc) in
     record { boundary = IsCharBoundary-after_ascii bs i c.as_bytes-bytes.ensures.utf8 (omega arith) below; total = omega arith }
 
 pub loop-i-preserved-then-byte-ge128 : goal.loop-i-preserved-then-byte-ge128
@@ -61,7 +62,7 @@ returns-else-byte-eq37-clause-end c =
     let bs = c.as_bytes-bytes.result.now in
     let i = c.loop-i.i in
     let set = set_of c.args.self.now in
-    let lacks = c.args.self.now.lacks_percent in
+    let lacks = lacks_percent c.args.self.now in
     let e : front set (drop i bs) ≡ 0 = elim c.else-byte-eq37.branch [
       | else-byte-eq37-via-then-byte-eq37+then-allows_pct_encoded+else-begins_octet w ↦ front-stray set lacks bs i (omega arith) w.if-byte-eq37.true (and_right _ _ (sym w.begins_octet.ensures.value ∙ w.if-begins_octet.false))
       | else-byte-eq37-via-then-byte-eq37+else-allows_pct_encoded w ↦ front-stray set lacks bs i (omega arith) w.if-byte-eq37.true (and_left _ _ (sym w.allows_pct_encoded.ensures ∙ w.if-allows_pct_encoded.false))
