@@ -1,0 +1,4 @@
+pub mod Rows
+pub mod Segments
+pub mod Slashed
+pub mod DotLaws

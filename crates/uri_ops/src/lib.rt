@@ -1,0 +1,5 @@
+//! What is done with references: building, normalising and resolving them.
+#![tactic(auto)]
+
+#[doc(hidden)]
+pub mod laws;
