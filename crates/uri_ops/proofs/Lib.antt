@@ -1,4 +1,5 @@
 pub mod Rows
+pub mod TargetRows
 pub mod Segments
 pub mod Slashed
 pub mod DotLaws
