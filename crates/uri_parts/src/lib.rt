@@ -1,7 +1,5 @@
 //! The parts of a reference.
 #![tactic(auto)]
 
-/// Nothing yet.
-pub fn same(x: usize) -> usize {
-    x
-}
+pub mod laws;
+pub mod positions;
