@@ -6,7 +6,7 @@ use Rattle.std.proofs.lemmas.List.{append-nil, length-append}
 use Rattle.std.proofs.lemmas.Bool.{and_parts, eqb-true, false≢true}
 use Rattle.uri_parts.specs.Components.{IsRooted}
 use Rattle.uri_ops.specs.Dots.{is_single_dot, is_double_dot, is_dot_segment, segments, lacks_dot_segments, run, remove_dot_segments, underflows, directory, IsAbsolute, EndsInSlash}
-use Rattle.uri_ops.proofs.Segments.{pop, is_none, turn, step_of, steps, end_of, closing, cleaned, sinks, parent, AllPass, is_plain, none_push, append_passes, steps_pass, cleaned_passes, cleaned_plain, cleaned_is_plain, cleaned_closed, cleaned_front, cleaned_parent, cleaned_some, sinks_plain, sinks_front, sinks_closed, sinks_parent}
+use Rattle.uri_ops.proofs.Segments.{pop, is_none, turn, step_of, steps, end_of, closing, cleaned, sinks, parent, Passes, is_plain, none_push, append_passes, steps_pass, cleaned_passes, cleaned_plain, cleaned_is_plain, cleaned_closed, cleaned_front, cleaned_parent, cleaned_some, sinks_plain, sinks_front, sinks_closed, sinks_parent}
 use Rattle.uri_ops.proofs.Slashed.{slashed, lacks_slash, NoSlashes, slashed_append, slashed_push, remove_slashed, underflows_slashed, directory_slashed, parent_passes, slashed_segments, segments_lack, segments_some, segments_slashed}
 
 true_of : (b : Bool) → IsTrue b → b ≡ true
@@ -54,7 +54,7 @@ cleaned_lack : (segs : List (List ℕ)) → NoSlashes segs → NoSlashes (cleane
 cleaned_lack segs e = cleaned_passes lacks_slash lacks_slash (λ s f d. f) refl segs e
 
 -- a path without dot segments is left as it is
-plain_segments : (segs : List (List ℕ)) → NoSlashes segs → lacks_dot_segments (slashed segs) ≡ true → AllPass is_plain segs
+plain_segments : (segs : List (List ℕ)) → NoSlashes segs → lacks_dot_segments (slashed segs) ≡ true → Passes is_plain segs
 plain_segments segs e f = (and_parts true (list_all is_plain segs) (sym (ap (list_all is_plain) (segments_slashed segs e)) ∙ f)).1
 
 pub removed_of_plain : (path : List ℕ) → IsAbsolute path → lacks_dot_segments path ≡ true → remove_dot_segments path ≡ path

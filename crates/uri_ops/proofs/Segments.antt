@@ -60,8 +60,8 @@ parent [] = []
 parent (s ∷ []) = cond (is_double_dot s) (s ∷ []) []
 parent (s ∷ t ∷ rest) = s ∷ parent (t ∷ rest)
 
-abbrev pub AllPass : (List ℕ → Bool) → List (List ℕ) → Type 0
-AllPass p segs = list_all p segs ≡ true
+abbrev pub Passes : (List ℕ → Bool) → List (List ℕ) → Type 0
+Passes p segs = list_all p segs ≡ true
 
 -- no dot segment
 abbrev pub is_plain : List ℕ → Bool
@@ -119,39 +119,39 @@ pop_push (x ∷ []) y = refl
 pop_push (x ∷ z ∷ xs) y = ap (λ t. x ∷ t) (pop_push (z ∷ xs) y)
 
 -- a test that the kept segments pass is passed by what is left
-pub pop_passes : (p : List ℕ → Bool) (xs : List (List ℕ)) → AllPass p xs → AllPass p (pop xs)
+pub pop_passes : (p : List ℕ → Bool) (xs : List (List ℕ)) → Passes p xs → Passes p (pop xs)
 unfolding pop
 pop_passes p [] e = refl
 pop_passes p (s ∷ []) e = refl
 pop_passes p (s ∷ t ∷ rest) e = let f = and_parts (p s) (list_all p (t ∷ rest)) e in and_from _ _ f.0 (pop_passes p (t ∷ rest) f.1)
 
-pub append_passes : (p : List ℕ → Bool) (xs ys : List (List ℕ)) → AllPass p xs → AllPass p ys → AllPass p (xs ++ ys)
+pub append_passes : (p : List ℕ → Bool) (xs ys : List (List ℕ)) → Passes p xs → Passes p ys → Passes p (xs ++ ys)
 append_passes p xs ys e f = list_all-append p xs ys ∙ and_from _ _ e f
 
-pub turn_passes : (p : List ℕ → Bool) (single double : Bool) (output : List (List ℕ)) (s : List ℕ) → AllPass p output → ((single || double) ≡ false → p s ≡ true) → AllPass p (turn single double output s)
+pub turn_passes : (p : List ℕ → Bool) (single double : Bool) (output : List (List ℕ)) (s : List ℕ) → Passes p output → ((single || double) ≡ false → p s ≡ true) → Passes p (turn single double output s)
 unfolding turn
 turn_passes p true double output s e f = e
 turn_passes p false true output s e f = pop_passes p output e
 turn_passes p false false output s e f = append_passes p output (s ∷ []) e (and_from _ _ (f refl) refl)
 
-pub steps_pass : (p q : List ℕ → Bool) → ((s : List ℕ) → q s ≡ true → is_dot_segment s ≡ false → p s ≡ true) → (output segs : List (List ℕ)) → AllPass p output → AllPass q segs → AllPass p (steps output segs)
+pub steps_pass : (p q : List ℕ → Bool) → ((s : List ℕ) → q s ≡ true → is_dot_segment s ≡ false → p s ≡ true) → (output segs : List (List ℕ)) → Passes p output → Passes q segs → Passes p (steps output segs)
 unfolding steps step_of
 steps_pass p q kept output [] e f = e
 steps_pass p q kept output (s ∷ rest) e f =
     let g = and_parts (q s) (list_all q rest) f in
     steps_pass p q kept (step_of output s) rest (turn_passes p (is_single_dot s) (is_double_dot s) output s e (kept s g.0)) g.1
 
-closing_passes : (p : List ℕ → Bool) (segs : List (List ℕ)) → p [] ≡ true → AllPass p (closing segs)
+closing_passes : (p : List ℕ → Bool) (segs : List (List ℕ)) → p [] ≡ true → Passes p (closing segs)
 unfolding closing
 closing_passes p [] e = refl
 closing_passes p (s ∷ []) e = closed (is_dot_segment s)
   where
-    closed : (b : Bool) → AllPass p (end_of b)
+    closed : (b : Bool) → Passes p (end_of b)
     closed true = and_from _ _ e refl
     closed false = refl
 closing_passes p (s ∷ t ∷ rest) e = closing_passes p (t ∷ rest) e
 
-pub cleaned_passes : (p q : List ℕ → Bool) → ((s : List ℕ) → q s ≡ true → is_dot_segment s ≡ false → p s ≡ true) → p [] ≡ true → (segs : List (List ℕ)) → AllPass q segs → AllPass p (cleaned segs)
+pub cleaned_passes : (p q : List ℕ → Bool) → ((s : List ℕ) → q s ≡ true → is_dot_segment s ≡ false → p s ≡ true) → p [] ≡ true → (segs : List (List ℕ)) → Passes q segs → Passes p (cleaned segs)
 unfolding cleaned
 cleaned_passes p q kept e segs f = append_passes p (steps [] segs) (closing segs) (steps_pass p q kept [] segs refl f) (closing_passes p segs e)
 
@@ -162,34 +162,34 @@ step_plain output s e =
     let f = or_parts (is_single_dot s) (is_double_dot s) (not-true _ e) in
     ap (λ b. turn b (is_double_dot s) output s) f.0 ∙ ap (λ b. turn false b output s) f.1
 
-pub steps_plain : (output xs : List (List ℕ)) → AllPass is_plain xs → steps output xs ≡ output ++ xs
+pub steps_plain : (output xs : List (List ℕ)) → Passes is_plain xs → steps output xs ≡ output ++ xs
 unfolding steps
 steps_plain output [] e = sym (append-nil output)
 steps_plain output (s ∷ rest) e =
     let f = and_parts (is_plain s) (list_all is_plain rest) e in
     ap (λ o. steps o rest) (step_plain output s f.0) ∙ steps_plain (output ++ s ∷ []) rest f.1 ∙ append_assoc output (s ∷ []) rest
 
-closing_plain : (xs : List (List ℕ)) → AllPass is_plain xs → closing xs ≡ []
+closing_plain : (xs : List (List ℕ)) → Passes is_plain xs → closing xs ≡ []
 unfolding closing
 closing_plain [] e = refl
 closing_plain (s ∷ []) e = cond-false (is_dot_segment s) ([] ∷ []) [] (not-true _ (and_parts (is_plain s) true e).0)
 closing_plain (s ∷ t ∷ rest) e = closing_plain (t ∷ rest) (and_parts (is_plain s) (list_all is_plain (t ∷ rest)) e).1
 
-pub cleaned_plain : (xs : List (List ℕ)) → AllPass is_plain xs → cleaned xs ≡ xs
+pub cleaned_plain : (xs : List (List ℕ)) → Passes is_plain xs → cleaned xs ≡ xs
 unfolding cleaned
 cleaned_plain xs e = ap (λ t. t ++ closing xs) (steps_plain [] xs e) ∙ ap (λ t. xs ++ t) (closing_plain xs e) ∙ append-nil xs
 
-all_true : (xs : List (List ℕ)) → AllPass (λ s. true) xs
+all_true : (xs : List (List ℕ)) → Passes (λ s. true) xs
 all_true [] = refl
 all_true (s ∷ rest) = all_true rest
 
 plain_kept : (s : List ℕ) → true ≡ true → is_dot_segment s ≡ false → is_plain s ≡ true
 plain_kept s e f = not_from_false _ f
 
-pub steps_are_plain : (segs : List (List ℕ)) → AllPass is_plain (steps [] segs)
+pub steps_are_plain : (segs : List (List ℕ)) → Passes is_plain (steps [] segs)
 steps_are_plain segs = steps_pass is_plain (λ s. true) plain_kept [] segs refl (all_true segs)
 
-pub cleaned_is_plain : (segs : List (List ℕ)) → AllPass is_plain (cleaned segs)
+pub cleaned_is_plain : (segs : List (List ℕ)) → Passes is_plain (cleaned segs)
 cleaned_is_plain segs = cleaned_passes is_plain (λ s. true) plain_kept refl segs (all_true segs)
 
 -- a front may be cleaned first
@@ -217,7 +217,7 @@ unfolding steps parent closing step_of
 steps_parent output s [] = parent_cond (is_double_dot s) output s ∙ turn_parent (is_single_dot s) (is_double_dot s) output s (single_only s)
 steps_parent output s (t ∷ rest) = steps_parent (step_of output s) t rest
 
-pub parent_plain : (segs : List (List ℕ)) → AllPass is_plain segs → parent segs ≡ pop segs
+pub parent_plain : (segs : List (List ℕ)) → Passes is_plain segs → parent segs ≡ pop segs
 unfolding parent pop
 parent_plain [] e = refl
 parent_plain (s ∷ []) e = cond-false (is_double_dot s) (s ∷ []) [] (or_parts (is_single_dot s) (is_double_dot s) (not-true _ (and_parts (is_plain s) true e).0)).1
@@ -260,7 +260,7 @@ sunk_plain before output s e =
     let f = or_parts (is_single_dot s) (is_double_dot s) (not-true _ e) in
     ap (λ b. sunk b (is_double_dot s) before output) f.0 ∙ ap (λ b. sunk false b before output) f.1
 
-pub sinks_plain : (before : Bool) (output xs : List (List ℕ)) → AllPass is_plain xs → sinks before output xs ≡ before
+pub sinks_plain : (before : Bool) (output xs : List (List ℕ)) → Passes is_plain xs → sinks before output xs ≡ before
 unfolding sinks
 sinks_plain before output [] e = refl
 sinks_plain before output (s ∷ rest) e =

@@ -9,7 +9,7 @@ use Rattle.std.proofs.lemmas.Bool.Decides.{nat_tests}
 use Rattle.uri_pct.specs.Sets.{is_one_of}
 use Rattle.uri_parts.specs.Components.{before_any, from_any}
 use Rattle.uri_ops.specs.Dots.{is_single_dot, is_double_dot, is_dot_segment, segments, is_empty, has_slash, before_last_slash, last_segment, Buffers, or_slash, step, run, remove_dot_segments, underflows, directory}
-use Rattle.uri_ops.proofs.Segments.{pop, is_none, turn, step_of, steps, end_of, closing, cleaned, sunk, sinks, parent, AllPass, turn_passes}
+use Rattle.uri_ops.proofs.Segments.{pop, is_none, turn, step_of, steps, end_of, closing, cleaned, sunk, sinks, parent, Passes, turn_passes}
 
 -- each segment behind a `/`
 unfoldable pub slashed : List (List ℕ) → List ℕ
@@ -20,7 +20,7 @@ abbrev pub lacks_slash : List ℕ → Bool
 lacks_slash s = not (has_slash s)
 
 abbrev pub NoSlashes : List (List ℕ) → Type 0
-NoSlashes segs = AllPass lacks_slash segs
+NoSlashes segs = Passes lacks_slash segs
 
 -- the parts of `NoSlashes (s ∷ rest)`
 pub first_lacks : (s : List ℕ) (rest : List (List ℕ)) → NoSlashes (s ∷ rest) → (has_slash s ≡ false) × NoSlashes rest
@@ -209,12 +209,12 @@ directory_slashed s rest e =
     ap (λ front. kept (last_segment (slashed (s ∷ rest))) (slashed (s ∷ rest)) front) (before_slashed (s ∷ rest) e)
     ∙ kept_slashed s rest e ∙ sym (slashed_push (parent (s ∷ rest)) [])
 
-pub parent_passes : (p : List ℕ → Bool) (segs : List (List ℕ)) → AllPass p segs → AllPass p (parent segs)
+pub parent_passes : (p : List ℕ → Bool) (segs : List (List ℕ)) → Passes p segs → Passes p (parent segs)
 unfolding parent
 parent_passes p [] e = refl
 parent_passes p (s ∷ []) e = passes (is_double_dot s)
   where
-    passes : (b : Bool) → AllPass p (cond b (s ∷ []) [])
+    passes : (b : Bool) → Passes p (cond b (s ∷ []) [])
     passes true = e
     passes false = refl
 parent_passes p (s ∷ t ∷ rest) e = let f = and_parts (p s) (list_all p (t ∷ rest)) e in and_from _ _ f.0 (parent_passes p (t ∷ rest) f.1)

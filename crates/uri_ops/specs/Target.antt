@@ -34,13 +34,13 @@ joined base r =
     else record base { path = merged base.path r.path; query = r.query; fragment = r.fragment })))
 
 -- section 5.2.2: the target's path without its dot segments
-abbrev pub cleaned_path : Components → List ℕ
-cleaned_path t =
-    if starts 47 t.path
+abbrev pub cleaned_path : List ℕ → List ℕ
+cleaned_path path =
+    if starts 47 path
     -- Not in the RFC: they are removed from the base's path too, where the reference's path is empty.
-    then remove_dot_segments t.path
+    then remove_dot_segments path
     -- Not in the RFC: a path that does not begin with `/` keeps them, such as that of `foo:a/../b`.
-    else t.path
+    else path
 
 -- Not in the RFC: without an authority `/.` stands before a path that begins with `//`, which would be read as one.
 abbrev pub guarded : Option (List ℕ) → List ℕ → List ℕ
@@ -48,7 +48,7 @@ guarded authority path = if is_none authority && has_authority path then codes "
 
 -- the target's components
 abbrev pub target_of : Components → Components → Components
-target_of base r = let t = joined base r in record t { path = guarded t.authority (cleaned_path t) }
+target_of base r = let t = joined base r in record t { path = guarded t.authority (cleaned_path t.path) }
 
 -- removing its dot segments underflows
 abbrev pub target_underflows : Components → Components → Bool

@@ -1,7 +1,8 @@
 //! Laws of the definitions, each the contract of a function that does nothing.
-ghost use Rattle.std.specs.Prelude.{◌≡◌, ◌≤◌, ◌++◌, ◌||◌, ℕ, List, true, false, length};
-ghost use Rattle.uri_parts.specs.Components.{IsRooted};
-ghost use Rattle.uri_ops.specs.Dots.{remove_dot_segments, underflows, directory, lacks_dot_segments, IsAbsolute, EndsInSlash};
+ghost use Rattle.std.specs.Prelude.{◌≡◌, ◌≤◌, ◌++◌, ◌||◌, ℕ, List, true, false, length, is_some};
+ghost use Rattle.uri_parts.specs.Components.{IsRooted, IsSplitOf, starts, components, recompose};
+ghost use Rattle.uri_ops.specs.Dots.{is_empty, remove_dot_segments, underflows, directory, lacks_dot_segments, IsAbsolute, EndsInSlash};
+ghost use Rattle.uri_ops.specs.Target.{is_fragment_only, target_of};
 
 /// What is left has no dot segment, begins with `/` and is no longer than the path (RFC 3986, section 5.2.4).
 #[tactic(auto, using(crate::proofs::DotLaws::removed_lacks, crate::proofs::DotLaws::removed_absolute, crate::proofs::DotLaws::length_removed))]
@@ -46,4 +47,17 @@ pub fn in_pieces()
 pub fn before_merging()
     ensures removed { (base reference : List ℕ) → IsRooted base → remove_dot_segments (directory base ++ reference) ≡ remove_dot_segments (directory (remove_dot_segments base) ++ reference) }
     ensures underflow { (base reference : List ℕ) → IsRooted base → underflows (directory base ++ reference) ≡ (underflows base || underflows (directory (remove_dot_segments base) ++ reference)) }
+{}
+
+/// The text of a target has the components that were put into it, where the base has a scheme (RFC 3986, sections 5.2.2 and 5.3).
+#[tactic(auto, using(crate::proofs::Targets::target_is_split, crate::proofs::Targets::target_components))]
+pub fn of_a_target()
+    ensures split { (base reference : List ℕ) → is_some (components base).scheme ≡ true → IsSplitOf (recompose (target_of (components base) (components reference))) (target_of (components base) (components reference)) }
+    ensures components { (base reference : List ℕ) → is_some (components base).scheme ≡ true → components (recompose (target_of (components base) (components reference))) ≡ target_of (components base) (components reference) }
+{}
+
+/// The references without a scheme that an opaque base takes are the empty text and those that begin with `#`.
+#[tactic(auto, using(crate::proofs::Targets::fragment_only))]
+pub fn fragment_only()
+    ensures { (reference : List ℕ) → is_fragment_only (components reference) ≡ (is_empty reference || starts 35 reference) }
 {}
