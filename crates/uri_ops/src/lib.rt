@@ -1,5 +1,4 @@
 //! What is done with references: building, normalising and resolving them.
 #![tactic(auto)]
 
-#[doc(hidden)]
 pub mod laws;
