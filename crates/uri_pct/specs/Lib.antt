@@ -3,3 +3,5 @@ pub mod Tokens
 pub mod Fronts
 pub mod Masks
 pub mod Tables
+pub mod Pieces
+pub mod Reading
