@@ -1,5 +1,5 @@
 -- The characters and the ill-formed parts of bytes: Unicode, section 3.9, table 3-7.
-use Rattle.std.specs.Prelude.{ℕ, zero, suc, Bool, ◌==◌, List, [], ◌∷◌, length, take, Option, Some, None, option_map, slice_index, if◌then◌else◌}
+use Rattle.std.specs.Prelude.{ℕ, zero, suc, Bool, false, ◌==◌, List, [], ◌∷◌, length, take, Option, Some, None, option_map, slice_index, if◌then◌else◌}
 use Rattle.std.specs.Int.{is_in_range}
 use Rattle.std.specs.List.{find, flat_map}
 use Rattle.std.specs.Str.{chars}
@@ -40,6 +40,11 @@ well_formed_rows =
     ∷ ((0xF1, 0xF3), continuation ∷ continuation ∷ continuation ∷ [])
     ∷ ((0xF4, 0xF4), (0x80, 0x8F) ∷ continuation ∷ continuation ∷ [])
     ∷ []
+
+-- the text begins with a byte that begins no character and goes on with one
+abbrev pub begins_within : List ℕ → Bool
+begins_within [] = false
+begins_within (b ∷ rest) = is_within continuation b
 
 -- what follows a first byte, where a character begins with it
 unfoldable pub following : ℕ → Option (List ByteRange)
