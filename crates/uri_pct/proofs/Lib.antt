@@ -1,2 +1,4 @@
 mod ReadingRows
 pub mod Pieces
+pub mod Characters
+pub mod Printing
