@@ -2,3 +2,4 @@ mod ReadingRows
 pub mod Pieces
 pub mod Characters
 pub mod Printing
+pub mod Allowed
