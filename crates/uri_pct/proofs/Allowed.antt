@@ -1,10 +1,10 @@
 -- What a set allows may be printed and read back, and so may what is read of it.
-use Rattle.std.proofs.Common.{◌≡◌, ℕ, zero, suc, ◌+◌, ◌*◌, ◌/◌, ◌%◌, ◌<◌, ◌≤◌, Bool, true, false, cond, eqb, ltb, leb, not, List, [], ◌∷◌, ◌++◌, length, map, refl, sym, ap, ◌∙◌, arith, ◌||◌, ◌&&◌, ⊎_elim, append_assoc, lit<, lit≤, subst}
+use Rattle.std.proofs.Common.{◌≡◌, ℕ, zero, suc, ◌+◌, ◌*◌, ◌/◌, ◌%◌, ◌<◌, ◌≤◌, Bool, true, false, cond, eqb, ltb, leb, not, List, [], ◌∷◌, ◌++◌, length, map, refl, sym, ap, ◌∙◌, arith, ◌||◌, ◌&&◌, ⊎_elim, append_assoc, lit<, lit≤, subst, inl, inr, ◌⊎◌}
 use Rattle.std.specs.Char.{IsScalar, digit_value, is_ascii_hexdigit, to_ascii_lowercase}
 use Rattle.std.specs.Str.{all_scalars, chars}
 use Rattle.std.specs.List.{list_all, flat_map}
 use Rattle.std.proofs.Math.Utf8.{low_scalar}
-use Rattle.std.proofs.lemmas.Bool.{cases_Bool, cond-true, cond-false, and_parts, and_from, or_cases, ltb-true, ltb-false, le-ltb, lt-ltb, not_from_false, ne_eqb, eqb-true, false≢true, false_from_ne_true, cases_lt}
+use Rattle.std.proofs.lemmas.Bool.{cases_Bool, cond-true, cond-false, and_parts, and_from, or_cases, ltb-true, ltb-false, le-ltb, lt-ltb, not_from_false, not-true, ne_eqb, eqb-true, false≢true, false_from_ne_true, cases_lt}
 use Rattle.std.proofs.lemmas.Bool.Decides.{nat_tests}
 use Rattle.uri_pct.specs.Sets.{TableSet, LacksPercent, IsSubset, allows, allows_past_ascii, is_ucschar, is_iprivate, is_unreserved, unreserved_set}
 use Rattle.uri_pct.specs.Tokens.{Token, Char, Octet, tokens, tokens_of, is_pct_encoded, allows_token, is_valid_for, IsValidFor}
@@ -108,3 +108,35 @@ printable_valid set text lacks valid = printable_tokens set (tokens text) lacks 
 -- so may they with their letters lowered
 lower_printable : (c : ℕ) → all_scalars (c ∷ []) ≡ true → eqb c 37 ≡ false → is_printable (Char (to_ascii_lowercase c)) ≡ true
 lower_printable c s e = grind (arith, nat_tests)
+
+printable_lowered : (t : Token) → is_printable t ≡ true → is_printable (lower_token t) ≡ true
+printable_lowered (Char c) e =
+    let p = and_parts (all_scalars (c ∷ [])) (not (eqb c 37)) e in
+    lower_printable c p.0 (not-true _ p.1)
+printable_lowered (Octet value) e = e
+
+-- a letter in lower case is unreserved, and every other character stays
+lower_cases : (c : ℕ) → (to_ascii_lowercase c ≡ c) ⊎ (is_unreserved (to_ascii_lowercase c) ≡ true)
+unfolding is_unreserved
+lower_cases c = ⊎_elim (λ h. inl (cond-true _ _ _ (lt-ltb c 65 h))) (λ l.
+    ⊎_elim (λ h. inr (grind (arith, nat_tests))) (λ k. inl (cond-false _ _ _ (le-ltb c 65 l) ∙ cond-false _ _ _ (le-ltb c 91 k))) (cases_lt c 91))
+    (cases_lt c 65)
+
+allows_lowered : (set : TableSet) (t : Token) → IsSubset unreserved_set set → allows_token set t ≡ true → allows_token set (lower_token t) ≡ true
+unfolding allows
+allows_lowered set (Octet value) wide e = e
+allows_lowered set (Char c) wide e = ⊎_elim
+    (λ same. ap (allows set) same ∙ e)
+    (λ u. cond-true _ _ _ (lt-ltb (to_ascii_lowercase c) 128 (unreserved_below (to_ascii_lowercase c) u)) ∙ wide.ascii (to_ascii_lowercase c) u)
+    (lower_cases c)
+
+-- a test of tokens that their lowering keeps
+list_lowered : (test : Token → Bool) → ((t : Token) → test t ≡ true → test (lower_token t) ≡ true) → (ts : List Token) → list_all test ts ≡ true → list_all test (map lower_token ts) ≡ true
+list_lowered test keeps [] e = refl
+list_lowered test keeps (t ∷ ts) e = let p = and_parts (test t) _ e in and_from _ _ (keeps t p.0) (list_lowered test keeps ts p.1)
+
+pub printable-lower : (ts : List Token) → list_all is_printable ts ≡ true → list_all is_printable (map lower_token ts) ≡ true
+printable-lower ts e = list_lowered is_printable printable_lowered ts e
+
+pub allows-lower : (set : TableSet) (ts : List Token) → IsSubset unreserved_set set → list_all (allows_token set) ts ≡ true → list_all (allows_token set) (map lower_token ts) ≡ true
+allows-lower set ts wide e = list_lowered (allows_token set) (λ t h. allows_lowered set t wide h) ts e

@@ -3,3 +3,4 @@ pub mod Pieces
 pub mod Characters
 pub mod Printing
 pub mod Allowed
+pub mod Reading
