@@ -4,3 +4,4 @@ pub mod Characters
 pub mod Printing
 pub mod Allowed
 pub mod Reading
+pub mod Rereading
