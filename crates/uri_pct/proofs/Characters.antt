@@ -48,7 +48,7 @@ piece_first b ranges tail rest row fits =
     ∙ ap (λ ps. WellFormed (b ∷ tail) ∷ ps) (pieces_from-drop n (tail ++ rest) ∙ ap utf8_pieces (drop_at tail rest n long))
 
 -- the rows, by the first byte
-row_1 : (b : ℕ) → b < 0x80 → following b ≡ Some []
+pub row_1 : (b : ℕ) → b < 0x80 → following b ≡ Some []
 unfolding following
 row_1 b high = grind (arith, nat_tests)
 
@@ -284,7 +284,7 @@ character_piece bytes a =
     let same : char_of bytes ≡ a.0 = ap char_of (sym a.2) ∙ char_of-encode a.0 a.1 in
     (subst IsScalar (sym same) a.1, ap encode_utf8 same ∙ a.2)
 
-is_piece : (b : ℕ) (rest : List ℕ) (p : Piece) → first_piece (following b) b rest ≡ p → IsPiece p
+pub is_piece : (b : ℕ) (rest : List ℕ) (p : Piece) → first_piece (following b) b rest ≡ p → IsPiece p
 is_piece b rest (WellFormed bytes) e = character_piece bytes (forms b rest bytes e)
 is_piece b rest (IllFormed bytes) e = tt
 

@@ -5,3 +5,4 @@ pub mod Printing
 pub mod Allowed
 pub mod Reading
 pub mod Rereading
+pub mod Octets

@@ -18,7 +18,7 @@ taken_le : (row : Option (List ByteRange)) (rest : List ℕ) → taken row rest 
 taken_le None rest = omega arith
 taken_le (Some ranges) rest = fitting_le ranges rest
 
-first_bytes : (row : Option (List ByteRange)) (b : ℕ) (rest : List ℕ) → piece_bytes (first_piece row b rest) ≡ b ∷ take (taken row rest) rest
+pub first_bytes : (row : Option (List ByteRange)) (b : ℕ) (rest : List ℕ) → piece_bytes (first_piece row b rest) ≡ b ∷ take (taken row rest) rest
 first_bytes None b rest = refl
 first_bytes (Some ranges) b rest = ⊎_elim (λ e. rw e refl) (λ e. rw e refl) (cases_Bool (eqb (fitting ranges rest) (length ranges)))
 
@@ -45,10 +45,10 @@ pub bytes_of_pieces-utf8_pieces : (bytes : List ℕ) → bytes_of_pieces (utf8_p
 bytes_of_pieces-utf8_pieces bytes = bytes_passed 0 bytes
 
 -- the ranges of the table are of bytes that begin no character
-is_inner : ByteRange → Bool
+unfoldable pub is_inner : ByteRange → Bool
 is_inner range = leb 0x80 range.0 && leb range.1 0xBF
 
-are_inner : Option (List ByteRange) → Bool
+unfoldable pub are_inner : Option (List ByteRange) → Bool
 are_inner None = true
 are_inner (Some ranges) = list_all is_inner ranges
 
@@ -60,7 +60,7 @@ found_inner b (row ∷ rows) h =
     let p = and_parts (list_all is_inner row.1) _ h in
     ⊎_elim (λ e. rw e p.0) (λ e. rw e (found_inner b rows p.1)) (cases_Bool (is_within row.0 b))
 
-following_inner : (b : ℕ) → are_inner (following b) ≡ true
+pub following_inner : (b : ℕ) → are_inner (following b) ≡ true
 unfolding following is_inner
 following_inner b = found_inner b well_formed_rows refl
 
