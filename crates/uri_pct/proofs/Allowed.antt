@@ -1,10 +1,11 @@
 -- What a set allows may be printed and read back, and so may what is read of it.
-use Rattle.std.proofs.Common.{◌≡◌, ℕ, zero, suc, ◌+◌, ◌*◌, ◌/◌, ◌%◌, ◌<◌, ◌≤◌, Bool, true, false, cond, eqb, ltb, leb, not, List, [], ◌∷◌, ◌++◌, length, map, refl, sym, ap, ◌∙◌, arith, ◌||◌, ◌&&◌, ⊎_elim, append_assoc, lit<, lit≤, subst, inl, inr, ◌⊎◌}
+use Rattle.std.proofs.Common.{◌≡◌, ℕ, ◌+◌, ◌*◌, ◌<◌, ◌≤◌, Bool, true, false, eqb, ltb, not, List, [], ◌∷◌, map, refl, sym, ap, ◌∙◌, arith, ◌&&◌, ⊎_elim, inl, inr, ◌⊎◌}
 use Rattle.std.specs.Char.{IsScalar, digit_value, is_ascii_hexdigit, to_ascii_lowercase}
 use Rattle.std.specs.Str.{all_scalars, chars}
-use Rattle.std.specs.List.{list_all, flat_map}
+use Rattle.std.specs.List.{list_all}
 use Rattle.std.proofs.Math.Utf8.{low_scalar}
-use Rattle.std.proofs.lemmas.Bool.{cases_Bool, cond-true, cond-false, and_parts, and_from, or_cases, ltb-true, ltb-false, le-ltb, lt-ltb, not_from_false, not-true, ne_eqb, eqb-true, false≢true, false_from_ne_true, cases_lt}
+use Rattle.std.proofs.lemmas.Bool.{cases_Bool, cond-true, cond-false, and_parts, and_from, or_cases, le-ltb, lt-ltb, not_from_false, not-true, ne_eqb, eqb-true, false≢true, false_from_ne_true, cases_lt}
+use Rattle.std.proofs.lemmas.Str.Ascii.{lowercase-lowercase}
 use Rattle.std.proofs.lemmas.Bool.Decides.{nat_tests}
 use Rattle.uri_pct.specs.Sets.{TableSet, LacksPercent, IsSubset, allows, allows_past_ascii, is_ucschar, is_iprivate, is_unreserved, unreserved_set}
 use Rattle.uri_pct.specs.Tokens.{Token, Char, Octet, tokens, tokens_of, is_pct_encoded, allows_token, is_valid_for, IsValidFor}
@@ -140,3 +141,9 @@ printable-lower ts e = list_lowered is_printable printable_lowered ts e
 
 pub allows-lower : (set : TableSet) (ts : List Token) → IsSubset unreserved_set set → list_all (allows_token set) ts ≡ true → list_all (allows_token set) (map lower_token ts) ≡ true
 allows-lower set ts wide e = list_lowered (allows_token set) (λ t h. allows_lowered set t wide h) ts e
+
+-- lowering twice is lowering once
+pub lower-lower : (ts : List Token) → map lower_token (map lower_token ts) ≡ map lower_token ts
+lower-lower [] = refl
+lower-lower (Char c ∷ ts) = ap (λ d. Char d ∷ map lower_token (map lower_token ts)) (lowercase-lowercase c) ∙ ap (λ x. Char (to_ascii_lowercase c) ∷ x) (lower-lower ts)
+lower-lower (Octet value ∷ ts) = ap (λ x. Octet value ∷ x) (lower-lower ts)

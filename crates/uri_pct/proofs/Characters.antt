@@ -1,16 +1,16 @@
 -- The bytes of a character are a well-formed piece wherever they stand, and each well-formed piece is those of one.
-use Rattle.std.proofs.Common.{◌≡◌, ℕ, zero, suc, ◌+◌, ◌-◌, ◌*◌, ◌/◌, ◌%◌, ◌<◌, ◌≤◌, ◌⊎◌, Bool, true, false, cond, eqb, leb, ltb, not, List, [], ◌∷◌, ◌++◌, length, take, drop, refl, sym, ap, ◌∙◌, arith, ◌||◌, ◌&&◌, ⊎_elim, append_assoc, Option, Some, None, option_map, subst, inl, inr, lit≤}
+use Rattle.std.proofs.Common.{◌≡◌, ℕ, zero, suc, ◌+◌, ◌-◌, ◌*◌, ◌/◌, ◌%◌, ◌<◌, ◌≤◌, ◌⊎◌, true, false, cond, eqb, leb, List, [], ◌∷◌, ◌++◌, length, take, refl, sym, ap, ◌∙◌, arith, ⊎_elim, Option, Some, None, option_map, subst, inl, inr, lit≤}
 use Rattle.std.specs.Prelude.{slice_index}
-use Rattle.std.specs.List.{list_all, flat_map, find, AllByRecursion}
-use Rattle.std.specs.Int.{is_in_range}
+use Rattle.std.specs.List.{find, All, AllByRecursion}
 use Rattle.std.specs.Char.{encode_utf8, IsScalar}
-use Rattle.std.specs.Str.{chars, encode_utf8_all}
+use Rattle.std.specs.Str.{chars}
 use Rattle.std.proofs.Math.Utf8.{scalar_cases, low_scalar}
 use Rattle.std.proofs.lemmas.List.{take_at, drop_at, append-nil}
+use Rattle.std.proofs.lemmas.List.Elements.{All-from_recursion}
 use Rattle.std.proofs.lemmas.Str.{encode_ascii, chars-encodes}
-use Rattle.std.proofs.lemmas.Bool.{cases_Bool, cond-true, cond-false, cond_both, and_parts, and_left, and_right, and_cases, leb-true, lt-leb, le-leb, leb-false, and_from, cases_lt, eq-eqb, eqb-true}
+use Rattle.std.proofs.lemmas.Bool.{cases_Bool, cond-true, cond-false, and_parts, and_left, and_right, leb-true, lt-leb, le-leb, and_from, cases_lt, eq-eqb, eqb-true}
 use Rattle.std.proofs.lemmas.Bool.Decides.{nat_tests}
-use Rattle.uri_pct.specs.Pieces.{Piece, WellFormed, IllFormed, ByteRange, Row, is_within, continuation, well_formed_rows, begins_within, piece_bytes, bytes_of_pieces, char_of, following, fitting, taken, first_piece, pieces_from, utf8_pieces}
+use Rattle.uri_pct.specs.Pieces.{Piece, WellFormed, IllFormed, ByteRange, Row, is_within, continuation, well_formed_rows, begins_within, char_of, IsOfCharacter, following, fitting, taken, first_piece, pieces_from, utf8_pieces}
 use Rattle.uri_pct.proofs.Pieces.{pieces_from-drop, utf8_pieces-append}
 
 -- bytes that fit a row, whatever follows them
@@ -257,43 +257,55 @@ char_4 b second low least most fair rest bytes e =
 -- the table, row by row
 forms : (b : ℕ) → Forms b (following b)
 unfolding following
-forms b = found_by b (Forms b) well_formed_rows (λ rest bytes e. cc)
-    (λ e. char_1 b (upto b 0x00 0x7F e).1,
-    (λ e. char_2 b (upto b 0xC2 0xDF e).0 (upto b 0xC2 0xDF e).1,
-    (λ e. let h = upto b 0xE0 0xE0 e in char_3 b (0xA0, 0xBF) h.0 (lit≤ tt) (lit≤ tt) (λ c t k1 k2 k3 k4. (omega arith, omega arith, low_scalar c (omega arith))),
-    (λ e. let h = upto b 0xE1 0xEC e in char_3 b continuation (omega arith) (lit≤ tt) (lit≤ tt) (λ c t k1 k2 k3 k4. (omega arith, omega arith, low_scalar c (omega arith))),
-    (λ e. let h = upto b 0xED 0xED e in char_3 b (0x80, 0x9F) (omega arith) (lit≤ tt) (lit≤ tt) (λ c t k1 k2 k3 k4. (omega arith, omega arith, low_scalar c (omega arith))),
-    (λ e. let h = upto b 0xEE 0xEF e in char_3 b continuation (omega arith) (lit≤ tt) (lit≤ tt) (λ c t k1 k2 k3 k4. (omega arith, omega arith, high_scalar c (omega arith) (omega arith))),
-    (λ e. let h = upto b 0xF0 0xF0 e in char_4 b (0x90, 0xBF) h.0 (lit≤ tt) (lit≤ tt) (λ c t k1 k2 k3 k4. (omega arith, omega arith)),
-    (λ e. let h = upto b 0xF1 0xF3 e in char_4 b continuation (omega arith) (lit≤ tt) (lit≤ tt) (λ c t k1 k2 k3 k4. (omega arith, omega arith)),
-    (λ e. let h = upto b 0xF4 0xF4 e in char_4 b (0x80, 0x8F) (omega arith) (lit≤ tt) (lit≤ tt) (λ c t k1 k2 k3 k4. (omega arith, omega arith)),
-    tt)))))))))
+forms b = found_by b (Forms b) well_formed_rows (λ rest bytes e. cc) (
+  λ e. char_1 b (upto b 0x00 0x7F e).1,
+  (
+    λ e. char_2 b (upto b 0xC2 0xDF e).0 (upto b 0xC2 0xDF e).1,
+    (
+      λ e. let h = upto b 0xE0 0xE0 e in char_3 b (0xA0, 0xBF) h.0 (lit≤ tt) (lit≤ tt) (λ c t k1 k2 k3 k4. (omega arith, omega arith, low_scalar c (omega arith))),
+      (
+        λ e. let h = upto b 0xE1 0xEC e in char_3 b continuation (omega arith) (lit≤ tt) (lit≤ tt) (λ c t k1 k2 k3 k4. (omega arith, omega arith, low_scalar c (omega arith))),
+        (
+          λ e. let h = upto b 0xED 0xED e in char_3 b (0x80, 0x9F) (omega arith) (lit≤ tt) (lit≤ tt) (λ c t k1 k2 k3 k4. (omega arith, omega arith, low_scalar c (omega arith))),
+          (
+            λ e. let h = upto b 0xEE 0xEF e in char_3 b continuation (omega arith) (lit≤ tt) (lit≤ tt) (λ c t k1 k2 k3 k4. (omega arith, omega arith, high_scalar c (omega arith) (omega arith))),
+            (
+              λ e. let h = upto b 0xF0 0xF0 e in char_4 b (0x90, 0xBF) h.0 (lit≤ tt) (lit≤ tt) (λ c t k1 k2 k3 k4. (omega arith, omega arith)),
+              (
+                λ e. let h = upto b 0xF1 0xF3 e in char_4 b continuation (omega arith) (lit≤ tt) (lit≤ tt) (λ c t k1 k2 k3 k4. (omega arith, omega arith)),
+                (
+                  λ e. let h = upto b 0xF4 0xF4 e in char_4 b (0x80, 0x8F) (omega arith) (lit≤ tt) (lit≤ tt) (λ c t k1 k2 k3 k4. (omega arith, omega arith)),
+                  tt,
+                ),
+              ),
+            ),
+          ),
+        ),
+      ),
+    ),
+  ),
+)
 
 pub char_of-encode : (c : ℕ) → IsScalar c → char_of (encode_utf8 c) ≡ c
 char_of-encode c scalar =
     let scalars = and_from _ true scalar refl in
     ap (λ cs. slice_index cs 0) (ap chars (sym (append-nil (encode_utf8 c))) ∙ chars-encodes (c ∷ []) scalars)
 
--- a piece that is well-formed is the bytes of its character
-abbrev pub IsPiece : Piece → Type 0
-IsPiece (WellFormed bytes) = IsScalar (char_of bytes) × (encode_utf8 (char_of bytes) ≡ bytes)
-IsPiece (IllFormed bytes) = Unit {0}
-
-character_piece : (bytes : List ℕ) → AreCharacter bytes → IsPiece (WellFormed bytes)
+character_piece : (bytes : List ℕ) → AreCharacter bytes → IsOfCharacter (WellFormed bytes)
 character_piece bytes a =
     let same : char_of bytes ≡ a.0 = ap char_of (sym a.2) ∙ char_of-encode a.0 a.1 in
     (subst IsScalar (sym same) a.1, ap encode_utf8 same ∙ a.2)
 
-pub is_piece : (b : ℕ) (rest : List ℕ) (p : Piece) → first_piece (following b) b rest ≡ p → IsPiece p
+pub is_piece : (b : ℕ) (rest : List ℕ) (p : Piece) → first_piece (following b) b rest ≡ p → IsOfCharacter p
 is_piece b rest (WellFormed bytes) e = character_piece bytes (forms b rest bytes e)
 is_piece b rest (IllFormed bytes) e = tt
 
-passed_pieces : (k : ℕ) (bytes : List ℕ) → AllByRecursion IsPiece (pieces_from k bytes)
+passed_pieces : (k : ℕ) (bytes : List ℕ) → AllByRecursion IsOfCharacter (pieces_from k bytes)
 unfolding pieces_from
 passed_pieces zero [] = tt
 passed_pieces (suc k) [] = tt
 passed_pieces (suc k) (b ∷ rest) = passed_pieces k rest
 passed_pieces zero (b ∷ rest) = (is_piece b rest _ refl, passed_pieces (taken (following b) rest) rest)
 
-pub utf8_pieces-are : (bytes : List ℕ) → AllByRecursion IsPiece (utf8_pieces bytes)
-utf8_pieces-are bytes = passed_pieces 0 bytes
+pub utf8_pieces-are : (bytes : List ℕ) → All IsOfCharacter (utf8_pieces bytes)
+utf8_pieces-are bytes = All-from_recursion IsOfCharacter (utf8_pieces bytes) (passed_pieces 0 bytes)

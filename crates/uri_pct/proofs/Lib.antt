@@ -6,3 +6,4 @@ pub mod Allowed
 pub mod Reading
 pub mod Rereading
 pub mod Octets
+pub mod ReadingLaws

@@ -1,28 +1,23 @@
 -- Where a set has no characters past ASCII, each octet is read by itself.
-use Rattle.std.proofs.Common.{◌≡◌, ℕ, zero, suc, ◌+◌, ◌<◌, ◌≤◌, Bool, true, false, cond, eqb, leb, ltb, List, [], ◌∷◌, ◌++◌, length, take, drop, map, refl, sym, ap, ◌∙◌, arith, ◌||◌, ◌&&◌, ⊎_elim, append_assoc, subst, Option, Some, None, lit≤}
-use Rattle.std.specs.Char.{encode_utf8, IsScalar}
+use Rattle.std.proofs.Common.{◌≡◌, ℕ, zero, suc, ◌<◌, ◌≤◌, Bool, true, false, cond, leb, List, [], ◌∷◌, ◌++◌, take, drop, map, refl, sym, ap, ◌∙◌, arith, ◌||◌, ⊎_elim, append_assoc, Option, Some, None}
 use Rattle.std.specs.List.{list_all, flat_map}
 use Rattle.std.proofs.Math.Utf8.{low_scalar}
 use Rattle.std.proofs.lemmas.Str.{encode_ascii}
 use Rattle.std.proofs.lemmas.List.{append-nil, map-append, take-append-drop}
-use Rattle.std.proofs.lemmas.Bool.{cases_Bool, cond-true, cond-false, and_parts, and_from, or_from, cases_lt, leb-true, le-leb, false_from_ne_true, and_left}
+use Rattle.std.proofs.lemmas.Bool.{cases_Bool, cond-false, and_parts, and_from, cases_lt, leb-true, le-leb, false_from_ne_true}
 use Rattle.uri_pct.specs.Sets.{TableSet, allows_past_ascii, is_unreserved}
 use Rattle.uri_pct.specs.Tokens.{Token, Char, Octet, tokens}
-use Rattle.uri_pct.specs.Pieces.{Piece, WellFormed, IllFormed, ByteRange, is_within, char_of, piece_bytes, following, fitting, taken, first_piece, pieces_from, utf8_pieces}
-use Rattle.uri_pct.specs.Reading.{is_readable, read_alone, read_piece, read_run, read_from, read}
+use Rattle.uri_pct.specs.Pieces.{Piece, WellFormed, IllFormed, ByteRange, is_within, char_of, piece_bytes, following, fitting, taken, first_piece, pieces_from, IsOfCharacter}
+use Rattle.uri_pct.specs.Reading.{LacksPastAscii, is_readable, read_alone, read_piece, read_run, read_from, read}
 use Rattle.uri_pct.proofs.Pieces.{is_inner, are_inner, following_inner, first_bytes}
-use Rattle.uri_pct.proofs.Characters.{IsPiece, is_piece, row_1, char_of-encode}
+use Rattle.uri_pct.proofs.Characters.{is_piece, row_1, char_of-encode}
 use Rattle.uri_pct.proofs.Allowed.{unreserved_below}
-
--- the set has no characters past ASCII
-abbrev pub IsAsciiAlone : TableSet → Type 0
-IsAsciiAlone set = (set.ucschar ≡ false) × (set.iprivate ≡ false)
 
 or_false : (x : Bool) → (x || false) ≡ x
 or_false true = refl
 or_false false = refl
 
-readable_alone : (set : TableSet) (c : ℕ) → IsAsciiAlone set → is_readable set c ≡ is_unreserved c
+readable_alone : (set : TableSet) (c : ℕ) → LacksPastAscii set → is_readable set c ≡ is_unreserved c
 unfolding is_readable allows_past_ascii
 readable_alone set c alone = rw (alone.0, alone.1) (or_false (is_unreserved c))
 
@@ -62,7 +57,7 @@ taken_past_ascii None text inner = refl
 taken_past_ascii (Some ranges) text inner = fitting_past_ascii ranges text inner
 
 -- a piece of bytes past ASCII is of a character past ASCII
-past_ascii_piece : (set : TableSet) (p : Piece) → IsAsciiAlone set → IsPiece p → list_all (leb 128) (piece_bytes p) ≡ true → read_piece set p ≡ map Octet (piece_bytes p)
+past_ascii_piece : (set : TableSet) (p : Piece) → LacksPastAscii set → IsOfCharacter p → list_all (leb 128) (piece_bytes p) ≡ true → read_piece set p ≡ map Octet (piece_bytes p)
 past_ascii_piece set (IllFormed bytes) alone h e = refl
 past_ascii_piece set (WellFormed bytes) alone h e =
     let unread : is_readable set (char_of bytes) ≡ false = readable_alone set (char_of bytes) alone
@@ -73,7 +68,7 @@ past_ascii_piece set (WellFormed bytes) alone h e =
     omega arith) in
     cond-false _ _ _ unread
 
-ascii_piece : (set : TableSet) (b : ℕ) → IsAsciiAlone set → b < 128 → read_piece set (WellFormed (b ∷ [])) ≡ octet b ∷ []
+ascii_piece : (set : TableSet) (b : ℕ) → LacksPastAscii set → b < 128 → read_piece set (WellFormed (b ∷ [])) ≡ octet b ∷ []
 unfolding octet
 ascii_piece set b alone low =
     let same : char_of (b ∷ []) ≡ b = ap char_of (sym (encode_ascii b low)) ∙ char_of-encode b (low_scalar b (omega arith)) in
@@ -81,7 +76,7 @@ ascii_piece set b alone low =
     ∙ ap (λ t. cond t (Char b ∷ []) (Octet b ∷ [])) (readable_alone set b alone)
     ∙ ⊎_elim (λ e. rw e refl) (λ e. rw e refl) (cases_Bool (is_unreserved b))
 
-piece_alone : (set : TableSet) (b : ℕ) (rest : List ℕ) → IsAsciiAlone set → read_piece set (first_piece (following b) b rest) ≡ map octet (b ∷ take (taken (following b) rest) rest)
+piece_alone : (set : TableSet) (b : ℕ) (rest : List ℕ) → LacksPastAscii set → read_piece set (first_piece (following b) b rest) ≡ map octet (b ∷ take (taken (following b) rest) rest)
 piece_alone set b rest alone = ⊎_elim
     (λ low. rw (row_1 b low) (ascii_piece set b alone low))
     (λ high.
@@ -91,7 +86,7 @@ piece_alone set b rest alone = ⊎_elim
     ∙ ap (map Octet) bytes ∙ sym (octets_stay (b ∷ take (taken (following b) rest) rest) past))
     (cases_lt b 128)
 
-passed_alone : (set : TableSet) (k : ℕ) (bytes : List ℕ) → IsAsciiAlone set → flat_map (read_piece set) (pieces_from k bytes) ≡ map octet (drop k bytes)
+passed_alone : (set : TableSet) (k : ℕ) (bytes : List ℕ) → LacksPastAscii set → flat_map (read_piece set) (pieces_from k bytes) ≡ map octet (drop k bytes)
 unfolding pieces_from
 passed_alone set zero [] alone = refl
 passed_alone set (suc k) [] alone = refl
@@ -102,11 +97,11 @@ passed_alone set zero (b ∷ rest) alone =
     ∙ ap (λ x. map octet (b ∷ take n rest) ++ x) (passed_alone set n rest alone)
     ∙ ap (λ x. octet b ∷ x) (sym (map-append octet (take n rest) (drop n rest)) ∙ ap (map octet) (take-append-drop n rest))
 
-run_alone : (set : TableSet) (run : List ℕ) → IsAsciiAlone set → read_run set run ≡ map octet run
+run_alone : (set : TableSet) (run : List ℕ) → LacksPastAscii set → read_run set run ≡ map octet run
 unfolding read_run
 run_alone set run alone = passed_alone set 0 run alone
 
-from_alone : (set : TableSet) (run : List ℕ) (ts : List Token) → IsAsciiAlone set → read_from set run ts ≡ map octet run ++ map read_alone ts
+from_alone : (set : TableSet) (run : List ℕ) (ts : List Token) → LacksPastAscii set → read_from set run ts ≡ map octet run ++ map read_alone ts
 unfolding read_from octet
 from_alone set run [] alone = run_alone set run alone ∙ sym (append-nil (map octet run))
 from_alone set run (Octet value ∷ ts) alone =
@@ -118,5 +113,5 @@ from_alone set run (Char c ∷ ts) alone =
     ∙ ap (λ x. map octet run ++ Char c ∷ x) (from_alone set [] ts alone)
 
 -- in a URI each octet is read by itself
-pub read-alone : (set : TableSet) (text : List ℕ) → IsAsciiAlone set → read set text ≡ map read_alone (tokens text)
+pub read-alone : (set : TableSet) (text : List ℕ) → LacksPastAscii set → read set text ≡ map read_alone (tokens text)
 read-alone set text alone = from_alone set [] (tokens text) alone

@@ -1,9 +1,8 @@
 -- The pieces of bytes: they are together the bytes, those at the front stay what they are without what follows, and
 -- a byte that continues no character always begins one.
-use Rattle.std.proofs.Common.{◌≡◌, ℕ, zero, suc, ◌+◌, ◌<◌, ◌≤◌, Bool, true, false, cond, eqb, leb, ltb, not, List, [], ◌∷◌, ◌++◌, length, take, drop, refl, sym, ap, ◌∙◌, arith, ◌||◌, ◌&&◌, ⊎_elim, append_assoc, Option, Some, None, option_map, subst, inl, inr, zero-add}
-use Rattle.std.specs.List.{list_all, flat_map, find}
-use Rattle.std.specs.Int.{is_in_range}
-use Rattle.std.proofs.lemmas.List.{length-drop, length-append, take-take, drop-take, drop_at, take_at, take-append-drop, take-append-le, drop-append-le}
+use Rattle.std.proofs.Common.{◌≡◌, ℕ, zero, suc, ◌+◌, ◌<◌, ◌≤◌, Bool, true, false, cond, eqb, leb, List, [], ◌∷◌, ◌++◌, length, take, drop, refl, sym, ap, ◌∙◌, arith, ◌&&◌, ⊎_elim, Option, Some, None, option_map, subst, zero-add}
+use Rattle.std.specs.List.{list_all, find}
+use Rattle.std.proofs.lemmas.List.{take-take, drop-take, take_at, take-append-drop, take-append-le}
 use Rattle.std.proofs.lemmas.Bool.{cases_Bool, cond-true, cond-false, and_parts, and_left, and_right, and_cases, leb-true, lt-leb, leb-false}
 use Rattle.uri_pct.specs.Pieces.{Piece, WellFormed, IllFormed, ByteRange, Row, is_within, continuation, well_formed_rows, begins_within, piece_bytes, bytes_of_pieces, following, fitting, taken, first_piece, pieces_from, utf8_pieces}
 

@@ -1,15 +1,15 @@
 -- What is printed is read back as the same tokens.
-use Rattle.std.proofs.Common.{◌≡◌, ℕ, zero, suc, ◌+◌, ◌*◌, ◌/◌, ◌%◌, ◌<◌, ◌≤◌, Bool, true, false, cond, eqb, ltb, leb, not, List, [], ◌∷◌, ◌++◌, length, refl, sym, ap, ◌∙◌, arith, ◌||◌, ◌&&◌, ⊎_elim, append_assoc, lit<, lit≤, subst}
+use Rattle.std.proofs.Common.{◌≡◌, ℕ, ◌+◌, ◌*◌, ◌/◌, ◌%◌, ◌<◌, Bool, true, false, eqb, ltb, List, [], ◌∷◌, ◌++◌, refl, sym, ap, ◌∙◌, arith, ◌&&◌, lit<}
 use Rattle.std.specs.List.{list_all, flat_map}
-use Rattle.std.specs.Char.{encode_utf8, digit_value, is_ascii_hexdigit, IsScalar}
+use Rattle.std.specs.Char.{encode_utf8, digit_value, is_ascii_hexdigit}
 use Rattle.std.specs.Fmt.{digit_glyph}
 use Rattle.std.specs.Str.{chars, encode_utf8_all, all_scalars, IsUtf8}
 use Rattle.std.proofs.Math.Utf8.{low_scalar}
 use Rattle.std.proofs.lemmas.Str.{chars-encodes, encode_ascii, encodes-append}
-use Rattle.std.proofs.lemmas.Bool.{agree_below_at, cases_Bool, cond-true, cond-false, and_left, and_from, and_parts, or_cases, eqb-true, ltb-true, ne_eqb, not-true, not_from_false, false≢true, lt-ltb}
+use Rattle.std.proofs.lemmas.Bool.{agree_below_at, cond-true, cond-false, and_left, and_from, and_parts, eqb-true, ltb-true, not-true}
 use Rattle.std.proofs.lemmas.List.{append-nil}
-use Rattle.uri_pct.specs.Sets.{TableSet, LacksPercent, allows, allows_past_ascii, is_ucschar, is_iprivate}
-use Rattle.uri_pct.specs.Tokens.{Token, Char, Octet, tokens, tokens_of, print, text_of_token, is_pct_encoded, allows_token, is_valid_for, IsValidFor}
+use Rattle.uri_pct.specs.Sets.{TableSet}
+use Rattle.uri_pct.specs.Tokens.{Token, Char, Octet, tokens, tokens_of, print, text_of_token, is_pct_encoded, allows_token, is_valid_for}
 use Rattle.uri_pct.specs.Reading.{is_printable}
 
 -- the digits of a byte are two hexadecimal digits of its value

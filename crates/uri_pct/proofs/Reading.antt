@@ -1,37 +1,38 @@
 -- What reading keeps: the bytes, what the set allows, and what stands on either side of a character.
-use Rattle.std.proofs.Common.{◌≡◌, ℕ, zero, suc, ◌+◌, ◌<◌, ◌≤◌, Bool, true, false, cond, eqb, ltb, leb, not, List, [], ◌∷◌, ◌++◌, length, take, drop, map, refl, sym, ap, ◌∙◌, arith, ◌||◌, ◌&&◌, ⊎_elim, append_assoc, Option, Some, None, subst, lit<}
-use Rattle.std.specs.Char.{encode_utf8, IsScalar}
-use Rattle.std.specs.List.{list_all, flat_map, AllByRecursion}
-use Rattle.std.proofs.lemmas.List.{append-nil, map-append, take-append-drop}
+use Rattle.std.proofs.Common.{◌≡◌, ℕ, Bool, true, List, [], ◌∷◌, ◌++◌, map, refl, sym, ap, ◌∙◌, ⊎_elim, append_assoc}
+use Rattle.std.specs.Char.{encode_utf8}
+use Rattle.std.specs.List.{list_all, flat_map, All}
+use Rattle.std.proofs.lemmas.List.{append-nil, map-append}
 use Rattle.std.proofs.lemmas.List.Concat.{flat_map-append}
 use Rattle.std.proofs.lemmas.List.Folds.{list_all-append}
-use Rattle.std.proofs.lemmas.Bool.{cases_Bool, cond-true, cond-false, and_parts, and_from, or_from, cases_lt, ltb-true}
-use Rattle.uri_pct.specs.Sets.{TableSet, LacksPercent, IsSubset, allows, allows_past_ascii, is_unreserved, unreserved_set}
+use Rattle.std.proofs.lemmas.List.Elements.{All-head, All-tail}
+use Rattle.std.proofs.lemmas.Bool.{cases_Bool, and_parts, and_from}
+use Rattle.uri_pct.specs.Sets.{TableSet, LacksPercent, IsSubset, unreserved_set}
 use Rattle.uri_pct.specs.Tokens.{Token, Char, Octet, tokens, token_bytes, bytes_of_token, print, allows_token, is_valid_for, IsValidFor}
-use Rattle.uri_pct.specs.Pieces.{Piece, WellFormed, IllFormed, char_of, piece_bytes, bytes_of_pieces, utf8_pieces, pieces_from}
-use Rattle.uri_pct.specs.Reading.{is_printable, is_readable, read_alone, read_piece, read_run, read_from, read_tokens, read, lower_token}
+use Rattle.uri_pct.specs.Pieces.{Piece, WellFormed, IllFormed, char_of, piece_bytes, bytes_of_pieces, utf8_pieces, IsOfCharacter}
+use Rattle.uri_pct.specs.Reading.{is_printable, is_readable, read_piece, read_run, read_from, read_tokens, read}
 use Rattle.uri_pct.proofs.Pieces.{bytes_of_pieces-utf8_pieces}
-use Rattle.uri_pct.proofs.Characters.{IsPiece, utf8_pieces-are}
-use Rattle.uri_pct.proofs.Printing.{tokens-print, is_valid_for-print}
+use Rattle.uri_pct.proofs.Characters.{utf8_pieces-are}
+use Rattle.uri_pct.proofs.Printing.{is_valid_for-print}
 use Rattle.uri_pct.proofs.Allowed.{printable_readable, allows_readable, printable_valid}
 
 octet_bytes : (bytes : List ℕ) → token_bytes (map Octet bytes) ≡ bytes
 octet_bytes [] = refl
 octet_bytes (b ∷ rest) = ap (λ x. b ∷ x) (octet_bytes rest)
 
-piece_kept : (set : TableSet) (p : Piece) → IsPiece p → token_bytes (read_piece set p) ≡ piece_bytes p
+piece_kept : (set : TableSet) (p : Piece) → IsOfCharacter p → token_bytes (read_piece set p) ≡ piece_bytes p
 piece_kept set (IllFormed bytes) h = octet_bytes bytes
 piece_kept set (WellFormed bytes) h = ⊎_elim
     (λ e. rw e (append-nil (encode_utf8 (char_of bytes)) ∙ h.1))
     (λ e. rw e (octet_bytes bytes))
     (cases_Bool (is_readable set (char_of bytes)))
 
-pieces_kept : (set : TableSet) (ps : List Piece) → AllByRecursion IsPiece ps → token_bytes (flat_map (read_piece set) ps) ≡ bytes_of_pieces ps
+pieces_kept : (set : TableSet) (ps : List Piece) → All IsOfCharacter ps → token_bytes (flat_map (read_piece set) ps) ≡ bytes_of_pieces ps
 pieces_kept set [] h = refl
 pieces_kept set (p ∷ ps) h =
     flat_map-append bytes_of_token (read_piece set p) (flat_map (read_piece set) ps)
-    ∙ ap (λ x. x ++ token_bytes (flat_map (read_piece set) ps)) (piece_kept set p h.0)
-    ∙ ap (λ x. piece_bytes p ++ x) (pieces_kept set ps h.1)
+    ∙ ap (λ x. x ++ token_bytes (flat_map (read_piece set) ps)) (piece_kept set p (All-head IsOfCharacter p ps h))
+    ∙ ap (λ x. piece_bytes p ++ x) (pieces_kept set ps (All-tail IsOfCharacter p ps h))
 
 token_bytes-read_run : (set : TableSet) (run : List ℕ) → token_bytes (read_run set run) ≡ run
 unfolding read_run

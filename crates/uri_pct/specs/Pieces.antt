@@ -1,5 +1,6 @@
 -- The characters and the ill-formed parts of bytes: Unicode, section 3.9, table 3-7.
-use Rattle.std.specs.Prelude.{ℕ, zero, suc, Bool, false, ◌==◌, List, [], ◌∷◌, length, take, Option, Some, None, option_map, slice_index, if◌then◌else◌}
+use Rattle.std.specs.Prelude.{◌≡◌, ℕ, zero, suc, Bool, false, ◌==◌, List, [], ◌∷◌, length, take, Option, Some, None, option_map, slice_index, if◌then◌else◌}
+use Rattle.std.specs.Char.{encode_utf8, IsScalar}
 use Rattle.std.specs.Int.{is_in_range}
 use Rattle.std.specs.List.{find, flat_map}
 use Rattle.std.specs.Str.{chars}
@@ -84,6 +85,11 @@ bytes_of_pieces pieces = flat_map piece_bytes pieces
 -- the character with these bytes
 abbrev pub char_of : List ℕ → ℕ
 char_of bytes = slice_index (chars bytes) 0
+
+-- a well-formed piece is the bytes of its character
+abbrev pub IsOfCharacter : Piece → Type 0
+IsOfCharacter (WellFormed bytes) = IsScalar (char_of bytes) × (encode_utf8 (char_of bytes) ≡ bytes)
+IsOfCharacter (IllFormed bytes) = Unit {0}
 
 -- Unicode, section 3.9: U+FFFD for each ill-formed part
 abbrev pub lossy_piece : Piece → List ℕ

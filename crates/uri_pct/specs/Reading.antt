@@ -1,5 +1,5 @@
 -- Which octets of a text stand for their characters: RFC 3986, section 6.2.2.2, and RFC 3987, section 5.3.2.3.
-use Rattle.std.specs.Prelude.{ℕ, Bool, not, ◌&&◌, ◌||◌, ◌==◌, nat_lt, List, [], ◌∷◌, ◌++◌, map, if◌then◌else◌}
+use Rattle.std.specs.Prelude.{◌≡◌, ℕ, Bool, false, not, ◌&&◌, ◌||◌, ◌==◌, nat_lt, List, [], ◌∷◌, ◌++◌, map, if◌then◌else◌}
 use Rattle.std.specs.List.{flat_map}
 use Rattle.std.specs.Char.{to_ascii_lowercase}
 use Rattle.std.specs.Str.{all_scalars}
@@ -11,6 +11,10 @@ use Rattle.uri_pct.specs.Pieces.{Piece, WellFormed, IllFormed, char_of, utf8_pie
 -- unreserved, and in an IRI one of `ucschar`, and in its query one of `iprivate`
 unfoldable pub is_readable : TableSet → ℕ → Bool
 is_readable set c = is_unreserved c || allows_past_ascii set c
+
+-- no character past ASCII, as in each component of a URI
+abbrev pub LacksPastAscii : TableSet → Type 0
+LacksPastAscii set = (set.ucschar ≡ false) × (set.iprivate ≡ false)
 
 -- RFC 3986, section 6.2.2.2: an octet by itself, as a URI has it
 abbrev pub read_alone : Token → Token

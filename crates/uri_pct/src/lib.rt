@@ -1,4 +1,5 @@
 //! Sets of characters, and texts that are percent-encoded over them.
 #![tactic(auto)]
 
+pub mod laws;
 pub mod table;
