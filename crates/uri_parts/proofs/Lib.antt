@@ -8,5 +8,6 @@ pub mod Stops
 pub mod Accepts
 pub mod Relative
 pub mod Texts
+pub mod ReadPositions
 pub mod Places
 mod Rows
