@@ -9,5 +9,6 @@ pub mod Accepts
 pub mod Relative
 pub mod Texts
 pub mod ReadPositions
+pub mod KindLemmas
 pub mod Places
 mod Rows
