@@ -7,3 +7,4 @@ pub mod Reading
 pub mod Rereading
 pub mod Octets
 pub mod ReadingLaws
+pub mod Lossy
