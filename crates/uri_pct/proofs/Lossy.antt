@@ -14,7 +14,7 @@ use Rattle.std.proofs.lemmas.Bool.{cases_Bool, cond-true, cond-false, and_parts,
 use Rattle.std.proofs.lemmas.Bool.Decides.{nat_tests}
 use Rattle.uri_pct.specs.Pieces.{Piece, WellFormed, IllFormed, ByteRange, IsOfCharacter, is_well_formed, is_within, continuation, piece_bytes, bytes_of_pieces, char_of, following, fitting, taken, first_piece, pieces_from, utf8_pieces, lossy_piece, lossy_text}
 use Rattle.uri_pct.proofs.Pieces.{bytes_of_pieces-utf8_pieces, pieces_from-drop}
-use Rattle.uri_pct.proofs.Characters.{utf8_pieces-are, utf8_pieces-encode_first}
+use Rattle.uri_pct.proofs.Characters.{utf8_pieces-are, utf8_pieces-encode_first, is_piece, row_1, row_2, row_3, row_4, row_5, row_6, row_7, row_8, row_9}
 
 of_char : ℕ → Piece
 of_char c = WellFormed (encode_utf8 c)
@@ -88,3 +88,117 @@ front_longest bs (suc m) k more within u = ⊎_elim
     (λ other. front_longest bs m k (subst (λ n. n < k) (cond-false _ _ _ e) more) (omega (arith, other)) u)
     (cases_eq k (suc m)))
     (cases_Bool (is_utf8 (take (suc m) bs)))
+
+-- how many bytes std takes for an ill-formed part
+invalid_other : (b : ℕ) (rest : List ℕ) → (b < 0xC2) ⊎ (0xF4 < b) → utf8_invalid_len (b ∷ rest) ≡ 1
+unfolding utf8_error_len
+invalid_other b rest (inl h) = grind (arith, nat_tests)
+invalid_other b rest (inr h) = grind (arith, nat_tests)
+
+invalid_lead : (b : ℕ) (rest : List ℕ) → 0xC2 ≤ b → b ≤ 0xF4 → utf8_invalid_len (b ∷ rest) ≡ unwrap_or (error_len_after_one (b ∷ rest)) (suc (length rest))
+unfolding utf8_error_len
+invalid_lead b rest low high = grind (arith, nat_tests)
+
+after_lead : (b : ℕ) (rest : List ℕ) → unwrap_or (error_len_after_one (b ∷ rest)) (suc (length rest)) ≡ suc (fitting ((second_byte_min b, second_byte_max b) ∷ continuation ∷ []) rest)
+after_lead b [] = refl
+after_lead b (s ∷ []) = ⊎_elim (λ e. rw e refl) (λ e. rw e refl) (cases_Bool (is_within (second_byte_min b, second_byte_max b) s))
+after_lead b (s ∷ t ∷ []) = ⊎_elim
+    (λ e. rw e (⊎_elim (λ f. rw f refl) (λ f. rw f refl) (cases_Bool (is_within continuation t))))
+    (λ e. rw e refl) (cases_Bool (is_within (second_byte_min b, second_byte_max b) s))
+after_lead b (s ∷ t ∷ u ∷ rest) = ⊎_elim
+    (λ e. rw e (⊎_elim (λ f. rw f (grind (arith, nat_tests))) (λ f. rw f (grind (arith, nat_tests))) (cases_Bool (is_within continuation t))))
+    (λ e. rw e (grind (arith, nat_tests))) (cases_Bool (is_within (second_byte_min b, second_byte_max b) s))
+
+fitting_most : (ranges : List ByteRange) (text : List ℕ) → fitting ranges text ≤ length ranges
+fitting_most [] text = omega arith
+fitting_most (range ∷ ranges) [] = omega arith
+fitting_most (range ∷ ranges) (b ∷ rest) =
+    let h = fitting_most ranges rest in
+    ⊎_elim (λ e. rw e (omega arith)) (λ e. rw e (omega arith)) (cases_Bool (is_within range b))
+
+-- what an unfinished row fits, a longer row fits, and no more
+fitting_longer : (ranges more : List ByteRange) (text : List ℕ) → fitting ranges text < length ranges → fitting (ranges ++ more) text ≡ fitting ranges text
+fitting_longer [] more text h = absurd (omega arith)
+fitting_longer (range ∷ ranges) more [] h = refl
+fitting_longer (range ∷ ranges) more (b ∷ rest) h = ⊎_elim
+    (λ e. let short : suc (fitting ranges rest) < suc (length ranges) = subst (λ n. n < suc (length ranges)) (cond-true _ _ _ e) h in
+    rw e (ap suc (fitting_longer ranges more rest (omega arith))))
+    (λ e. rw e refl) (cases_Bool (is_within range b))
+
+-- and a row that lacks its last range too
+fitting_shorter : (ranges : List ByteRange) (last : ByteRange) (text : List ℕ) → fitting (ranges ++ last ∷ []) text ≤ length ranges → fitting (ranges ++ last ∷ []) text ≡ fitting ranges text
+fitting_shorter [] last text h = omega arith
+fitting_shorter (range ∷ ranges) last [] h = refl
+fitting_shorter (range ∷ ranges) last (b ∷ rest) h = ⊎_elim
+    (λ e. let short : suc (fitting (ranges ++ last ∷ []) rest) ≤ suc (length ranges) = subst (λ n. n ≤ suc (length ranges)) (cond-true _ _ _ e) h in
+    rw e (ap suc (fitting_shorter ranges last rest (omega arith))))
+    (λ e. rw e refl) (cases_Bool (is_within range b))
+
+ill_formed_short : (b : ℕ) (ranges : List ByteRange) (rest bytes : List ℕ) → first_piece (Some ranges) b rest ≡ IllFormed bytes → fitting ranges rest < length ranges
+ill_formed_short b ranges rest bytes e = ⊎_elim
+    (λ same. let n = fitting ranges rest in
+    let w : WellFormed (b ∷ take n rest) ≡ IllFormed bytes = sym (cond-true _ _ _ (eq-eqb n (length ranges) same)) ∙ e in cc)
+    (λ other. omega (arith, other, fitting_most ranges rest))
+    (cases_eq (fitting ranges rest) (length ranges))
+
+-- an ill-formed part at the front is as long as std takes it
+abbrev IsAsLong : ℕ → Option (List ByteRange) → Type 0
+IsAsLong b row = (rest bytes : List ℕ) → first_piece row b rest ≡ IllFormed bytes → suc (taken row rest) ≡ utf8_invalid_len (b ∷ rest)
+
+std_lead : (b : ℕ) (second : ByteRange) (rest : List ℕ) → 0xC2 ≤ b → b ≤ 0xF4 → second_byte_min b ≡ second.0 → second_byte_max b ≡ second.1
+    → utf8_invalid_len (b ∷ rest) ≡ suc (fitting (second ∷ continuation ∷ []) rest)
+std_lead b second rest low high least most =
+    invalid_lead b rest low high ∙ after_lead b rest
+    ∙ ap (λ x. suc (fitting ((x, second_byte_max b) ∷ continuation ∷ []) rest)) least
+    ∙ ap (λ x. suc (fitting ((second.0, x) ∷ continuation ∷ []) rest)) most
+
+long_0 : (b : ℕ) → (b < 0xC2) ⊎ (0xF4 < b) → IsAsLong b None
+long_0 b other rest bytes e = sym (invalid_other b rest other)
+
+long_1 : (b : ℕ) → IsAsLong b (Some [])
+long_1 b rest bytes e = absurd (omega (arith, ill_formed_short b [] rest bytes e))
+
+long_2 : (b : ℕ) (second : ByteRange) → 0xC2 ≤ b → b ≤ 0xF4 → second_byte_min b ≡ second.0 → second_byte_max b ≡ second.1 → IsAsLong b (Some (second ∷ []))
+long_2 b second low high least most rest bytes e =
+    ap suc (sym (fitting_longer (second ∷ []) (continuation ∷ []) rest (ill_formed_short b (second ∷ []) rest bytes e)))
+    ∙ sym (std_lead b second rest low high least most)
+
+long_3 : (b : ℕ) (second : ByteRange) → 0xC2 ≤ b → b ≤ 0xF4 → second_byte_min b ≡ second.0 → second_byte_max b ≡ second.1 → IsAsLong b (Some (second ∷ continuation ∷ []))
+long_3 b second low high least most rest bytes e = sym (std_lead b second rest low high least most)
+
+long_4 : (b : ℕ) (second : ByteRange) → 0xC2 ≤ b → b ≤ 0xF4 → second_byte_min b ≡ second.0 → second_byte_max b ≡ second.1 → IsAsLong b (Some (second ∷ continuation ∷ continuation ∷ []))
+long_4 b second low high least most rest bytes e =
+    let short : fitting (second ∷ continuation ∷ continuation ∷ []) rest < 3 = ill_formed_short b (second ∷ continuation ∷ continuation ∷ []) rest bytes e in
+    ap suc (fitting_shorter (second ∷ continuation ∷ []) continuation rest (omega arith))
+    ∙ sym (std_lead b second rest low high least most)
+
+no_row_low : (b : ℕ) → 0x80 ≤ b → b < 0xC2 → following b ≡ None
+unfolding following
+no_row_low b low high = grind (arith, nat_tests)
+
+no_row_high : (b : ℕ) → 0xF4 < b → following b ≡ None
+unfolding following
+no_row_high b low = grind (arith, nat_tests)
+
+long_low : (b : ℕ) → b < 0xE1 → IsAsLong b (following b)
+long_low b high = ⊎_elim (λ h. subst (IsAsLong b) (sym (row_1 b h)) (long_1 b)) (λ l1.
+    ⊎_elim (λ h. subst (IsAsLong b) (sym (no_row_low b l1 h)) (long_0 b (inl h))) (λ l2.
+    ⊎_elim (λ h. subst (IsAsLong b) (sym (row_2 b l2 (omega arith))) (long_2 b continuation l2 (omega arith) (grind (arith, nat_tests)) (grind (arith, nat_tests))))
+    (λ l3. subst (IsAsLong b) (sym (row_3 b (omega arith))) (long_3 b (0xA0, 0xBF) l2 (omega arith) (grind (arith, nat_tests)) (grind (arith, nat_tests))))
+    (cases_lt b 0xE0)) (cases_lt b 0xC2)) (cases_lt b 0x80)
+
+long_mid : (b : ℕ) → 0xE1 ≤ b → b < 0xF0 → IsAsLong b (following b)
+long_mid b low high = ⊎_elim (λ h. subst (IsAsLong b) (sym (row_4 b low (omega arith))) (long_3 b continuation (omega arith) (omega arith) (grind (arith, nat_tests)) (grind (arith, nat_tests)))) (λ l1.
+    ⊎_elim (λ h. subst (IsAsLong b) (sym (row_5 b (omega arith))) (long_3 b (0x80, 0x9F) (omega arith) (omega arith) (grind (arith, nat_tests)) (grind (arith, nat_tests))))
+    (λ l2. subst (IsAsLong b) (sym (row_6 b l2 (omega arith))) (long_3 b continuation (omega arith) (omega arith) (grind (arith, nat_tests)) (grind (arith, nat_tests))))
+    (cases_lt b 0xEE)) (cases_lt b 0xED)
+
+long_high : (b : ℕ) → 0xF0 ≤ b → IsAsLong b (following b)
+long_high b low = ⊎_elim (λ h. subst (IsAsLong b) (sym (row_7 b (omega arith))) (long_4 b (0x90, 0xBF) (omega arith) (omega arith) (grind (arith, nat_tests)) (grind (arith, nat_tests)))) (λ l1.
+    ⊎_elim (λ h. subst (IsAsLong b) (sym (row_8 b l1 (omega arith))) (long_4 b continuation (omega arith) (omega arith) (grind (arith, nat_tests)) (grind (arith, nat_tests)))) (λ l2.
+    ⊎_elim (λ h. subst (IsAsLong b) (sym (row_9 b (omega arith))) (long_4 b (0x80, 0x8F) (omega arith) (omega arith) (grind (arith, nat_tests)) (grind (arith, nat_tests))))
+    (λ l3. subst (IsAsLong b) (sym (no_row_high b (omega arith))) (long_0 b (inr (omega arith))))
+    (cases_lt b 0xF5)) (cases_lt b 0xF4)) (cases_lt b 0xF1)
+
+ill_formed_len : (b : ℕ) → IsAsLong b (following b)
+ill_formed_len b = ⊎_elim (λ h. long_low b h) (λ l1. ⊎_elim (λ h. long_mid b l1 h) (λ l2. long_high b l2) (cases_lt b 0xF0)) (cases_lt b 0xE1)
