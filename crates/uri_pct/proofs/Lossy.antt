@@ -1,19 +1,18 @@
 -- Bytes are UTF-8 where each piece is well-formed, and the lossy text is that of std.
-use Rattle.std.proofs.Common.{◌≡◌, ℕ, zero, suc, ◌+◌, ◌-◌, ◌<◌, ◌≤◌, ◌⊎◌, ◌↔◌, Bool, true, false, cond, eqb, leb, ltb, not, List, [], ◌∷◌, ◌++◌, length, take, drop, map, refl, sym, ap, ◌∙◌, arith, ◌||◌, ◌&&◌, ⊎_elim, append_assoc, Option, Some, None, subst, inl, inr, lit≤, zero-add}
-use Rattle.std.specs.Char.{encode_utf8, IsScalar}
+use Rattle.std.proofs.Common.{◌≡◌, ℕ, zero, suc, ◌+◌, ◌-◌, ◌<◌, ◌≤◌, ◌⊎◌, ◌↔◌, true, List, [], ◌∷◌, ◌++◌, length, take, drop, map, refl, sym, ap, ◌∙◌, arith, ⊎_elim, append_assoc, Option, Some, None, subst, inl, inr}
+use Rattle.std.specs.Char.{encode_utf8}
 use Rattle.std.specs.List.{list_all, flat_map, All}
-use Rattle.std.specs.Int.{is_in_range}
 use Rattle.std.specs.Option.{unwrap_or}
 use Rattle.std.specs.Str.{IsUtf8, is_utf8, all_scalars, encode_utf8_all}
-use Rattle.std.specs.Str.Lossy.{valid_len_up_to, utf8_valid_len, utf8_lossy, replacement_bytes, utf8_invalid_len, utf8_error_len, error_len_of_some, error_len_after_one, error_len_after_two, second_byte_min, second_byte_max, after_first_chunk}
-use Rattle.std.proofs.lemmas.List.{append-nil, take-append-drop, length-take, length-drop, length-append, take_at, drop_at, drop-drop}
+use Rattle.std.specs.Str.Lossy.{valid_len_up_to, utf8_valid_len, utf8_lossy, replacement_bytes, utf8_invalid_len, utf8_error_len, error_len_after_one, second_byte_min, second_byte_max, after_first_chunk}
+use Rattle.std.proofs.lemmas.List.{append-nil, take-append-drop, length-drop, take_all, drop-drop}
 use Rattle.std.proofs.lemmas.List.Concat.{flat_map-append}
 use Rattle.std.proofs.lemmas.List.Elements.{All-head, All-tail}
 use Rattle.std.proofs.lemmas.Str.{IsUtf8-append, IsUtf8-nil, IsUtf8-encode, IsUtf8-from_is_utf8, is_utf8-from_IsUtf8, utf8_valid_len_le, utf8_lossy_step, utf8_lossy-IsUtf8}
-use Rattle.std.proofs.lemmas.Bool.{cases_Bool, cond-true, cond-false, and_parts, and_from, cases_lt, cases_eq, eq-eqb, ne_eqb, both_ways}
+use Rattle.std.proofs.lemmas.Bool.{cases_Bool, cond-true, cond-false, and_parts, cases_lt, cases_eq, eq-eqb, both_ways}
 use Rattle.std.proofs.lemmas.Bool.Decides.{nat_tests}
 use Rattle.uri_pct.specs.Pieces.{Piece, WellFormed, IllFormed, ByteRange, IsOfCharacter, is_well_formed, is_within, continuation, piece_bytes, bytes_of_pieces, char_of, following, fitting, taken, first_piece, pieces_from, utf8_pieces, lossy_piece, lossy_text}
-use Rattle.uri_pct.proofs.Pieces.{bytes_of_pieces-utf8_pieces, pieces_from-drop}
+use Rattle.uri_pct.proofs.Pieces.{bytes_of_pieces-utf8_pieces, pieces_from-drop, first_bytes, taken_le, take_two}
 use Rattle.uri_pct.proofs.Characters.{utf8_pieces-are, utf8_pieces-encode_first, is_piece, row_1, row_2, row_3, row_4, row_5, row_6, row_7, row_8, row_9}
 
 of_char : ℕ → Piece
@@ -202,3 +201,73 @@ long_high b low = ⊎_elim (λ h. subst (IsAsLong b) (sym (row_7 b (omega arith)
 
 ill_formed_len : (b : ℕ) → IsAsLong b (following b)
 ill_formed_len b = ⊎_elim (λ h. long_low b h) (λ l1. ⊎_elim (λ h. long_mid b l1 h) (λ l2. long_high b l2) (cases_lt b 0xF0)) (cases_lt b 0xE1)
+
+first_of : (text : List ℕ) → 0 < length text → (b : ℕ) × (rest : List ℕ) × (text ≡ b ∷ rest)
+first_of [] h = absurd (omega arith)
+first_of (b ∷ rest) h = (b, rest, refl)
+
+-- behind the longest front that is UTF-8 stands an ill-formed part
+fault_first : (bs : List ℕ) (b : ℕ) (rest : List ℕ) (p : Piece) → drop (utf8_valid_len bs) bs ≡ b ∷ rest → first_piece (following b) b rest ≡ p → (bytes : List ℕ) × (p ≡ IllFormed bytes)
+unfolding utf8_valid_len
+fault_first bs b rest (IllFormed bytes) behind e = (bytes, refl)
+fault_first bs b rest (WellFormed bytes) behind e =
+    let n = valid_len_up_to bs (length bs) in
+    let m = taken (following b) rest in
+    let character = is_piece b rest (WellFormed bytes) e in
+    let text : IsUtf8 bytes = subst IsUtf8 character.1 (IsUtf8-encode (char_of bytes) character.0) in
+    let same : bytes ≡ take (suc m) (drop n bs) = sym (ap piece_bytes e) ∙ first_bytes (following b) b rest ∙ sym (ap (take (suc m)) behind) in
+    let whole : take n bs ++ bytes ≡ take (n + suc m) bs = ap (λ x. take n bs ++ x) same ∙ take_two n (suc m) bs in
+    let long : length bs - n ≡ suc (length rest) = sym (length-drop n bs) ∙ ap length behind in
+    let within = taken_le (following b) rest in
+    absurd (front_longest bs (length bs) (n + suc m) (omega arith) (omega arith) (subst IsUtf8 whole (IsUtf8-append (take n bs) bytes (front_utf8 bs (length bs)) text)))
+
+valid_front : (bs : List ℕ) → IsUtf8 (take (utf8_valid_len bs) bs)
+unfolding utf8_valid_len
+valid_front bs = front_utf8 bs (length bs)
+
+lossy_of_text : (bs : List ℕ) → IsUtf8 bs → lossy_text bs ≡ bs
+unfolding pieces_from
+lossy_of_text bs u = ap lossy_text (sym (append-nil bs)) ∙ lossy_text-append bs [] u ∙ append-nil bs
+
+lossy_first : (b : ℕ) (rest : List ℕ) (bytes : List ℕ) → first_piece (following b) b rest ≡ IllFormed bytes → lossy_text (b ∷ rest) ≡ replacement_bytes ++ lossy_text (drop (taken (following b) rest) rest)
+unfolding pieces_from
+lossy_first b rest bytes e =
+    ap (λ p. lossy_piece p ++ flat_map lossy_piece (pieces_from (taken (following b) rest) rest)) e
+    ∙ ap (λ ps. replacement_bytes ++ flat_map lossy_piece ps) (pieces_from-drop (taken (following b) rest) rest)
+
+-- past a fault, where the rest is known
+lossy_fault : (bs : List ℕ) (b : ℕ) (rest bytes : List ℕ) → ¬ (utf8_valid_len bs ≡ length bs) → drop (utf8_valid_len bs) bs ≡ b ∷ rest → first_piece (following b) b rest ≡ IllFormed bytes
+    → ((ys : List ℕ) → length ys < length bs → lossy_text ys ≡ utf8_lossy ys) → lossy_text bs ≡ utf8_lossy bs
+lossy_fault bs b rest bytes faulty front bad shorter =
+    let n = utf8_valid_len bs in
+    let m = taken (following b) rest in
+    let long : suc m ≡ utf8_invalid_len (drop n bs) = ill_formed_len b rest bytes bad ∙ ap utf8_invalid_len (sym front) in
+    let behind : drop m rest ≡ after_first_chunk bs = ap (drop (suc m)) (sym front) ∙ drop-drop (suc m) n bs ∙ ap (λ j. drop (n + j) bs) long in
+    let less : length (drop m rest) < length bs = omega (arith, length-drop m rest, length-drop n bs, ap length front) in
+    ap lossy_text (sym (take-append-drop n bs) ∙ ap (λ x. take n bs ++ x) front)
+    ∙ lossy_text-append (take n bs) (b ∷ rest) (valid_front bs)
+    ∙ ap (λ x. take n bs ++ x) (lossy_first b rest bytes bad ∙ ap (λ x. replacement_bytes ++ x) (shorter (drop m rest) less ∙ ap utf8_lossy behind))
+    ∙ sym (utf8_lossy_step bs faulty)
+
+lossy_step : (bs : List ℕ) → ¬ (utf8_valid_len bs ≡ length bs) → ((ys : List ℕ) → length ys < length bs → lossy_text ys ≡ utf8_lossy ys) → lossy_text bs ≡ utf8_lossy bs
+lossy_step bs faulty shorter =
+    let within = utf8_valid_len_le bs in
+    let f = first_of (drop (utf8_valid_len bs) bs) (omega (arith, faulty, length-drop (utf8_valid_len bs) bs)) in
+    let piece = first_piece (following f.0) f.0 f.1 in
+    let bad = fault_first bs f.0 f.1 piece f.2 (refl {a = piece}) in
+    lossy_fault bs f.0 f.1 bad.0 faulty f.2 bad.1 shorter
+
+lossy_whole : (bs : List ℕ) → utf8_valid_len bs ≡ length bs → lossy_text bs ≡ utf8_lossy bs
+lossy_whole bs whole =
+    let text : IsUtf8 bs = subst IsUtf8 (ap (λ n. take n bs) whole ∙ take_all (length bs) bs (omega arith)) (valid_front bs) in
+    lossy_of_text bs text ∙ sym (utf8_lossy-IsUtf8 bs text)
+
+lossy_up_to : (k : ℕ) (bs : List ℕ) → length bs < k → lossy_text bs ≡ utf8_lossy bs
+lossy_up_to zero bs h = absurd (omega arith)
+lossy_up_to (suc k) bs h = ⊎_elim (λ whole. lossy_whole bs whole)
+    (λ faulty. lossy_step bs faulty (λ ys less. lossy_up_to k ys (omega arith)))
+    (cases_eq (utf8_valid_len bs) (length bs))
+
+-- the lossy text is std's
+pub lossy_text-is : (bytes : List ℕ) → lossy_text bytes ≡ utf8_lossy bytes
+lossy_text-is bytes = lossy_up_to (suc (length bytes)) bytes (omega arith)

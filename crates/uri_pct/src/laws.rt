@@ -1,12 +1,14 @@
 //! Laws of the definitions: each is the contract of a function that does nothing.
 #![tactic(auto, using(crate::proofs::ReadingLaws::reading_laws))]
 
-ghost use Rattle.std.specs.Prelude.{◌≡◌, ℕ, true, false, List, ◌∷◌, ◌++◌, map, All};
+ghost use Rattle.std.specs.Prelude.{◌≡◌, ◌↔◌, ℕ, true, false, List, ◌∷◌, ◌++◌, map, All};
 ghost use Rattle.std.specs.Char.{IsScalar, encode_utf8};
 ghost use Rattle.std.specs.List.{list_all};
+ghost use Rattle.std.specs.Str.{IsUtf8};
+ghost use Rattle.std.specs.Str.Lossy.{utf8_lossy};
 ghost use Rattle.uri_pct.specs.Sets.{TableSet, LacksPercent, IsSubset, unreserved_set};
 ghost use Rattle.uri_pct.specs.Tokens.{Token, Char, tokens, token_bytes, print, allows_token, IsValidFor};
-ghost use Rattle.uri_pct.specs.Pieces.{WellFormed, IsOfCharacter, begins_within, bytes_of_pieces, utf8_pieces};
+ghost use Rattle.uri_pct.specs.Pieces.{WellFormed, IsOfCharacter, is_well_formed, begins_within, bytes_of_pieces, utf8_pieces, lossy_text};
 ghost use Rattle.uri_pct.specs.Reading.{LacksPastAscii, is_printable, lower_token, read_alone, read_tokens, read};
 
 /// What is printed is read back as the tokens that were printed, and the tokens of a text that is
@@ -26,6 +28,14 @@ pub fn pieces()
     ensures characters { (bytes : List ℕ) → All IsOfCharacter (utf8_pieces bytes) }
     ensures around_char { (before : List ℕ) (c : ℕ) (behind : List ℕ) → IsScalar c → utf8_pieces (before ++ (encode_utf8 c ++ behind)) ≡ utf8_pieces before ++ WellFormed (encode_utf8 c) ∷ utf8_pieces behind }
     ensures between { (before behind : List ℕ) → begins_within behind ≡ false → utf8_pieces (before ++ behind) ≡ utf8_pieces before ++ utf8_pieces behind }
+{}
+
+/// Bytes are UTF-8 exactly where no piece is ill-formed, and the lossy text is that of std's
+/// `String::from_utf8_lossy`.
+#[doc(hidden)]
+pub fn lossy()
+    ensures whole { (bytes : List ℕ) → (list_all is_well_formed (utf8_pieces bytes) ≡ true) ↔ IsUtf8 bytes }
+    ensures text { (bytes : List ℕ) → lossy_text bytes ≡ utf8_lossy bytes }
 {}
 
 /// Reading changes no bytes, what is read of a text that is valid for a set is valid for it, and a
