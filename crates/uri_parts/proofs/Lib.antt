@@ -12,3 +12,4 @@ pub mod ReadPositions
 pub mod KindLemmas
 pub mod Places
 mod Rows
+pub mod Parts

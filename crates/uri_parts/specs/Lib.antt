@@ -1,7 +1,10 @@
+pub mod Authorities
 pub mod Components
+pub mod CoreTexts
 pub mod Errors
 pub mod Grammar
 pub mod Grammars
 pub mod Positions
 pub mod Readers
 pub mod Reading
+pub mod Schemes
