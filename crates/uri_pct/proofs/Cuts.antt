@@ -47,7 +47,7 @@ module _ (set : TableSet) where
   excluded : (marks : List ℕ) → excludes set marks ≡ true → (b : ℕ) → is_one_of marks b ≡ true → is_excluded set b ≡ true
   excluded marks e b m = of_each (is_excluded set) marks e b m
 
-  mark_ascii : (marks : List ℕ) → excludes set marks ≡ true → (b : ℕ) → is_one_of marks b ≡ true → b < 128
+  pub mark_ascii : (marks : List ℕ) → excludes set marks ≡ true → (b : ℕ) → is_one_of marks b ≡ true → b < 128
   mark_ascii marks e b m = ltb-true b 128 (of_excluded b (excluded marks e b m)).0
 
   mark_char : (marks : List ℕ) → excludes set marks ≡ true → (b : ℕ) → is_one_of marks b ≡ true → set.ascii b ≡ false
@@ -56,7 +56,7 @@ module _ (set : TableSet) where
   pub mark_hex : (marks : List ℕ) → excludes set marks ≡ true → (b : ℕ) → is_one_of marks b ≡ true → is_ascii_hexdigit b ≡ false
   mark_hex marks e b m = (of_excluded b (excluded marks e b m)).2
 
-  mark_percent : (marks : List ℕ) → excludes set marks ≡ true → (b : ℕ) → is_one_of marks b ≡ true → eqb b 37 ≡ false
+  pub mark_percent : (marks : List ℕ) → excludes set marks ≡ true → (b : ℕ) → is_one_of marks b ≡ true → eqb b 37 ≡ false
   mark_percent marks e b m = (of_excluded b (excluded marks e b m)).3
 
 eqb_step : (a b : ℕ) → eqb (a + 1) (suc b) ≡ eqb a b
@@ -73,7 +73,7 @@ pub front_cons : (set : TableSet) (b : ℕ) (bs : List ℕ) → front_from set 0
 unfolding front_from
 front_cons set b bs = refl
 
-mark_len : (marks : List ℕ) (b : ℕ) (rest : List ℕ) → is_one_of marks b ≡ true → to_mark marks (b ∷ rest) ≡ 0
+pub mark_len : (marks : List ℕ) (b : ℕ) (rest : List ℕ) → is_one_of marks b ≡ true → to_mark marks (b ∷ rest) ≡ 0
 mark_len marks b rest e = cond-false _ _ _ (not_from_true _ e)
 
 pub other_len : (marks : List ℕ) (b : ℕ) (rest : List ℕ) → is_one_of marks b ≡ false → to_mark marks (b ∷ rest) ≡ suc (to_mark marks rest)
@@ -217,7 +217,7 @@ module _ (marks : List ℕ) (set : TableSet) (lacks : LacksPercent set) (outside
       (cases_Bool (allows_first set b bs))
       ∙ sym (ap (λ n. eqb n (suc m)) (front_cons set b bs ∙ cond-false _ _ _ o))
 
-  front_zero_mark : (b : ℕ) (bs : List ℕ) → is_one_of marks b ≡ true → front_from set 0 (b ∷ bs) ≡ 0
+  pub front_zero_mark : (b : ℕ) (bs : List ℕ) → is_one_of marks b ≡ true → front_from set 0 (b ∷ bs) ≡ 0
   front_zero_mark b bs e =
       front_cons set b bs ∙ cond-false _ _ _ (and_right _ _ (mark_percent set marks outside b e))
       ∙ cond-false _ _ _ (allows_first-ascii set b bs (ascii b e) ∙ mark_char set marks outside b e)
