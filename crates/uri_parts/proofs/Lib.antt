@@ -8,5 +8,7 @@ pub mod Stops
 pub mod Accepts
 pub mod Relative
 pub mod Texts
+pub mod ReadPositions
+pub mod KindLemmas
 pub mod Places
 mod Rows
