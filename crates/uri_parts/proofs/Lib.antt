@@ -1,0 +1,13 @@
+pub mod Cuts
+pub mod Marks
+pub mod Splits
+pub mod Recompose
+pub mod Next
+pub mod Separations
+pub mod Stops
+pub mod Accepts
+pub mod Relative
+pub mod Texts
+pub mod ReadPositions
+pub mod Places
+mod Rows

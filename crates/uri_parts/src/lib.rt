@@ -1,7 +1,9 @@
 //! The parts of a reference.
 #![tactic(auto)]
 
-/// Nothing yet.
-pub fn same(x: usize) -> usize {
-    x
-}
+pub mod error;
+pub mod grammar;
+pub mod laws;
+pub mod parse;
+pub mod positions;
+pub mod reader;

@@ -1,0 +1,19 @@
+pub mod Characters
+pub mod Validity
+pub mod Cuts
+pub mod Fronts
+pub mod Masks
+pub mod Ranges
+pub mod Tables
+pub mod Percent
+pub mod Constants
+pub mod EStrs
+pub mod Pieces
+pub mod CharacterPieces
+pub mod Printing
+pub mod Allowed
+pub mod Reading
+pub mod Rereading
+pub mod Octets
+pub mod ReadingLaws
+mod ReadingRows

@@ -1,9 +1,12 @@
-use Rattle.std.specs.Prelude.{ℕ, ◌-◌, Bool, ◌&&◌, ◌==◌, nat_lt, if◌then◌else◌}
-use Rattle.std.specs.Int.{bit_at}
-use Rattle.uri_pct.specs.Sets.{TableSet}
+use Rattle.std.specs.Prelude.{false}
+use Rattle.uri_pct.specs.Sets.{TableSet, plain}
 use Rattle.uri_pct.specs.Masks.{has_bit}
 use Rattle.uri_pct.specs.declared.table.Table.{Table}
 
 -- what the table stands for
 abbrev pub set_of : Table → TableSet
 set_of t = record { ascii = has_bit t.low t.high; pct_encoded = t.pct_encoded; ucschar = t.ucschar; iprivate = t.iprivate }
+
+-- no character and no flag
+abbrev pub empty_set : TableSet
+empty_set = plain (λ c. false)

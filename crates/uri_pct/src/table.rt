@@ -1,9 +1,7 @@
 //! Sets of characters (RFC 3986, appendix A; RFC 3987, section 2.2).
-ghost use Rattle.std.specs.Prelude.{◌≡◌, ◌<◌, ◌↔◌, ◌+◌, ◌&&◌, ◌||◌, ◌==◌, IsTrue, All, true, false, length, drop};
-ghost use Rattle.std.specs.Str.{IsCharBoundary};
-ghost use Rattle.uri_pct.specs.Sets.{allows, allows_past_ascii, is_one_of, plain, union, difference, IsSubset};
-ghost use Rattle.uri_pct.specs.Fronts.{front};
-ghost use Rattle.uri_pct.specs.Masks.{has_bit};
+ghost use Rattle.std.specs.Prelude.{◌≡◌, ◌≢◌, ◌<◌, ◌↔◌, ◌==◌, IsTrue, All, true, false};
+ghost use Rattle.uri_pct.specs.Sets.{allows, allows_past_ascii, is_ucschar, is_iprivate, is_one_of, plain, union, difference, IsSubset};
+ghost use Rattle.std.specs.Int.{bit_at};
 
 use std::alloc::AllocError;
 
@@ -15,7 +13,7 @@ pub struct Table {
     pct_encoded: bool,
     ucschar: bool,
     iprivate: bool,
-    pub ghost lacks_percent: { has_bit low high 37 ≡ false },
+    pub ghost lacks_percent: { (bit_at low 37 == 1) ≡ false },
 }
 
 impl Clone for Table {
@@ -27,12 +25,322 @@ impl Clone for Table {
 impl Copy for Table {}
 
 impl Table {
-    ghost use Rattle.uri_pct.specs.Tables.{set_of};
+    ghost use Rattle.uri_pct.specs.Tables.{set_of, empty_set};
+
+    /// The characters of these codes, and no flag.
+    ///
+    /// Each byte is ASCII and not `%`; the list may be empty.
+    pub fn new(bytes: &[u8]) -> Table
+        requires { All (λ b. (b < 128) × (b ≢ 37)) bytes.now }
+        ensures { set_of result ≡ plain (is_one_of bytes.now) }
+    {
+        let mut low: u64 = 0;
+        let mut high: u64 = 0;
+        for &byte in bytes {
+            if byte < 64 {
+                low |= 1 << byte;
+            } else {
+                high |= 1 << (byte - 64);
+            }
+        }
+        Table {
+            low,
+            high,
+            pct_encoded: false,
+            ucschar: false,
+            iprivate: false,
+        }
+    }
+
+    /// What `self` or `other` allows: the union of their characters, and of each flag.
+    pub fn or(self, other: &Table) -> Table
+        ensures { set_of result ≡ union (set_of self) (set_of other.now) }
+    {
+        Table {
+            low: self.low | other.low,
+            high: self.high | other.high,
+            pct_encoded: self.pct_encoded | other.pct_encoded,
+            ucschar: self.ucschar | other.ucschar,
+            iprivate: self.iprivate | other.iprivate,
+        }
+    }
+
+    /// What `self` allows and `other` does not, among the characters and the flags.
+    pub fn sub(self, other: &Table) -> Table
+        ensures { set_of result ≡ difference (set_of self) (set_of other.now) }
+    {
+        Table {
+            low: self.low & !other.low,
+            high: self.high & !other.high,
+            pct_encoded: self.pct_encoded & !other.pct_encoded,
+            ucschar: self.ucschar & !other.ucschar,
+            iprivate: self.iprivate & !other.iprivate,
+        }
+    }
+
+    /// The same table, with percent-encoded octets allowed.
+    pub fn or_pct_encoded(mut self) -> Table
+        ensures { set_of result ≡ record (set_of self) { pct_encoded = true } }
+    {
+        self.pct_encoded = true;
+        self
+    }
+
+    /// The same table, with the characters of `ucschar` (RFC 3987, section 2.2) allowed.
+    pub fn or_ucschar(mut self) -> Table
+        ensures { set_of result ≡ record (set_of self) { ucschar = true } }
+    {
+        self.ucschar = true;
+        self
+    }
+
+    /// The same table, with the characters of `iprivate` (RFC 3987, section 2.2) allowed.
+    pub fn or_iprivate(mut self) -> Table
+        ensures { set_of result ≡ record (set_of self) { iprivate = true } }
+    {
+        self.iprivate = true;
+        self
+    }
+
+    /// Whether `other` allows every character that `self` allows, and has each flag that `self` has.
+    pub fn is_subset(&self, other: &Table) -> bool
+        ensures { IsTrue result ↔ IsSubset (set_of self.now) (set_of other.now) }
+    {
+        self.sub(other).is_empty()
+    }
+
+    /// Whether there is no character and no flag.
+    fn is_empty(&self) -> bool
+        ensures { IsTrue result ↔ (set_of self.now ≡ empty_set) }
+    {
+        (self.low | self.high == 0) & !(self.pct_encoded | self.ucschar | self.iprivate)
+    }
 
     /// Whether percent-encoded octets are allowed.
     pub fn allows_pct_encoded(&self) -> bool
         ensures { result ≡ (set_of self.now).pct_encoded }
     {
         self.pct_encoded
+    }
+
+    /// Whether the ASCII character of the code `byte` is allowed; from 128 on no byte is.
+    #[doc(hidden)]
+    pub fn allows_ascii(&self, byte: u8) -> bool
+        ensures value { result ≡ (set_of self.now).ascii byte }
+        ensures ascii { IsTrue result → byte < 128 }
+    {
+        let words = [self.low, self.high, 0, 0];
+        (words[(byte >> 6) as usize] >> (byte & 63)) & 1 == 1
+    }
+
+    /// Whether a character past ASCII is allowed, as one of `ucschar` or of `iprivate`.
+    #[tactic(auto, unfolding(crate::specs::Sets::allows_past_ascii))]
+    #[doc(hidden)]
+    pub fn allows_past_ascii(&self, ch: char) -> bool
+        ensures { result ≡ allows_past_ascii (set_of self.now) ch }
+    {
+        (self.ucschar && is_ucschar(ch)) || (self.iprivate && is_iprivate(ch))
+    }
+
+    /// Whether the character may stand for itself.
+    #[tactic(auto, using(std::proofs::lemmas::Bool::Decides::nat_tests), unfolding(crate::specs::Sets::allows))]
+    pub fn allows(&self, ch: char) -> bool
+        ensures { result ≡ allows (set_of self.now) ch }
+    {
+        if ch.is_ascii() {
+            self.allows_ascii(ch as u8)
+        } else {
+            self.allows_past_ascii(ch)
+        }
+    }
+}
+
+/// A character of the rule `ucschar` (RFC 3987, section 2.2).
+#[tactic(auto, using(std::proofs::lemmas::Bool::Decides::nat_tests, crate::proofs::Ranges::ucschar_low, crate::proofs::Ranges::ucschar_middle, crate::proofs::Ranges::ucschar_last))]
+fn is_ucschar(ch: char) -> bool
+    ensures { result ≡ is_ucschar ch }
+{
+    let code = ch as u32;
+    if code < 0x10000 {
+        matches!(code, 0xA0..=0xD7FF | 0xF900..=0xFDCF | 0xFDF0..=0xFFEF)
+    } else if code < 0xE0000 {
+        code % 0x10000 <= 0xFFFD
+    } else {
+        matches!(code, 0xE1000..=0xEFFFD)
+    }
+}
+
+/// A character of the rule `iprivate` (RFC 3987, section 2.2).
+#[tactic(auto, using(std::proofs::lemmas::Bool::Decides::nat_tests, crate::proofs::Ranges::iprivate_ranges))]
+fn is_iprivate(ch: char) -> bool
+    ensures { result ≡ is_iprivate ch }
+{
+    matches!(ch as u32, 0xE000..=0xF8FF | 0xF0000..=0xFFFFD | 0x100000..=0x10FFFD)
+}
+
+/// `ALPHA = %x41-5A / %x61-7A`: the letters (RFC 3986, appendix A).
+pub const ALPHA: Table = Table {
+    low: 0x0000_0000_0000_0000,
+    high: 0x07FF_FFFE_07FF_FFFE,
+    pct_encoded: false,
+    ucschar: false,
+    iprivate: false,
+};
+
+/// `DIGIT = %x30-39`: the decimal digits (RFC 3986, appendix A).
+pub const DIGIT: Table = Table {
+    low: 0x03FF_0000_0000_0000,
+    high: 0x0000_0000_0000_0000,
+    pct_encoded: false,
+    ucschar: false,
+    iprivate: false,
+};
+
+/// `HEXDIG = DIGIT / "A" / "B" / "C" / "D" / "E" / "F"`, the letters in either case (RFC 3986, appendix A).
+pub const HEXDIG: Table = Table {
+    low: 0x03FF_0000_0000_0000,
+    high: 0x0000_007E_0000_007E,
+    pct_encoded: false,
+    ucschar: false,
+    iprivate: false,
+};
+
+/// The characters of `scheme = ALPHA *( ALPHA / DIGIT / "+" / "-" / "." )` (RFC 3986, section 3.1).
+pub const SCHEME: Table = Table {
+    low: 0x03FF_6800_0000_0000,
+    high: 0x07FF_FFFE_07FF_FFFE,
+    pct_encoded: false,
+    ucschar: false,
+    iprivate: false,
+};
+
+/// What `userinfo = *( unreserved / pct-encoded / sub-delims / ":" )` consists of (RFC 3986, section 3.2.1).
+pub const USERINFO: Table = Table {
+    low: 0x2FFF_7FD2_0000_0000,
+    high: 0x47FF_FFFE_87FF_FFFE,
+    pct_encoded: true,
+    ucschar: false,
+    iprivate: false,
+};
+
+/// The characters behind the dot of `IPvFuture = "v" 1*HEXDIG "." 1*( unreserved / sub-delims / ":" )` (RFC 3986, section 3.2.2).
+pub const IPV_FUTURE: Table = Table {
+    low: 0x2FFF_7FD2_0000_0000,
+    high: 0x47FF_FFFE_87FF_FFFE,
+    pct_encoded: false,
+    ucschar: false,
+    iprivate: false,
+};
+
+/// What `reg-name = *( unreserved / pct-encoded / sub-delims )` consists of (RFC 3986, section 3.2.2).
+pub const REG_NAME: Table = Table {
+    low: 0x2BFF_7FD2_0000_0000,
+    high: 0x47FF_FFFE_87FF_FFFE,
+    pct_encoded: true,
+    ucschar: false,
+    iprivate: false,
+};
+
+/// What a path consists of: `pchar / "/"` (RFC 3986, section 3.3).
+pub const PATH: Table = Table {
+    low: 0x2FFF_FFD2_0000_0000,
+    high: 0x47FF_FFFE_87FF_FFFF,
+    pct_encoded: true,
+    ucschar: false,
+    iprivate: false,
+};
+
+/// What `segment-nz-nc = 1*( unreserved / pct-encoded / sub-delims / "@" )` consists of (RFC 3986, section 3.3).
+pub const SEGMENT_NZ_NC: Table = Table {
+    low: 0x2BFF_7FD2_0000_0000,
+    high: 0x47FF_FFFE_87FF_FFFF,
+    pct_encoded: true,
+    ucschar: false,
+    iprivate: false,
+};
+
+/// `pchar = unreserved / pct-encoded / sub-delims / ":" / "@"` (RFC 3986, section 3.3).
+pub const PCHAR: Table = Table {
+    low: 0x2FFF_7FD2_0000_0000,
+    high: 0x47FF_FFFE_87FF_FFFF,
+    pct_encoded: true,
+    ucschar: false,
+    iprivate: false,
+};
+
+/// What `query = *( pchar / "/" / "?" )` consists of (RFC 3986, section 3.4).
+pub const QUERY: Table = Table {
+    low: 0xAFFF_FFD2_0000_0000,
+    high: 0x47FF_FFFE_87FF_FFFF,
+    pct_encoded: true,
+    ucschar: false,
+    iprivate: false,
+};
+
+/// What `fragment = *( pchar / "/" / "?" )` consists of (RFC 3986, section 3.5).
+pub const FRAGMENT: Table = Table {
+    low: 0xAFFF_FFD2_0000_0000,
+    high: 0x47FF_FFFE_87FF_FFFF,
+    pct_encoded: true,
+    ucschar: false,
+    iprivate: false,
+};
+
+/// `unreserved = ALPHA / DIGIT / "-" / "." / "_" / "~"` (RFC 3986, section 2.3).
+pub const UNRESERVED: Table = Table {
+    low: 0x03FF_6000_0000_0000,
+    high: 0x47FF_FFFE_87FF_FFFE,
+    pct_encoded: false,
+    ucschar: false,
+    iprivate: false,
+};
+
+/// `reserved = gen-delims / sub-delims` (RFC 3986, section 2.2).
+pub const RESERVED: Table = Table {
+    low: 0xAC00_9FDA_0000_0000,
+    high: 0x0000_0000_2800_0001,
+    pct_encoded: false,
+    ucschar: false,
+    iprivate: false,
+};
+
+/// `gen-delims = ":" / "/" / "?" / "#" / "[" / "]" / "@"` (RFC 3986, section 2.2).
+pub const GEN_DELIMS: Table = Table {
+    low: 0x8400_8008_0000_0000,
+    high: 0x0000_0000_2800_0001,
+    pct_encoded: false,
+    ucschar: false,
+    iprivate: false,
+};
+
+/// `sub-delims = "!" / "$" / "&" / "'" / "(" / ")" / "*" / "+" / "," / ";" / "="` (RFC 3986, section 2.2).
+pub const SUB_DELIMS: Table = Table {
+    low: 0x2800_1FD2_0000_0000,
+    high: 0x0000_0000_0000_0000,
+    pct_encoded: false,
+    ucschar: false,
+    iprivate: false,
+};
+
+#[cfg(test)]
+mod tests {
+    use super::{ALPHA, DIGIT, UNRESERVED};
+
+    #[test]
+    fn digits_are_in_the_low_mask(rt: HostRuntime) {
+        assert_eq!(rt; DIGIT.low, 0x03FF_0000_0000_0000);
+        assert_eq!(rt; DIGIT.high, 0);
+    }
+
+    #[test]
+    fn letters_are_in_the_high_mask(rt: HostRuntime) {
+        assert_eq!(rt; ALPHA.low, 0);
+        assert_eq!(rt; ALPHA.high, 0x07FF_FFFE_07FF_FFFE);
+    }
+
+    #[test]
+    fn unreserved_characters_are_in_both_masks(rt: HostRuntime) {
+        assert_eq!(rt; UNRESERVED.low, 0x03FF_6000_0000_0000);
+        assert_eq!(rt; UNRESERVED.high, 0x47FF_FFFE_87FF_FFFE);
     }
 }

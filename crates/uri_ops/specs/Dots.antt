@@ -1,0 +1,101 @@
+-- Dot segments: RFC 3986, section 5.2.4, for a path that begins with `/`. A dot counts percent-encoded too.
+use Rattle.std.specs.Prelude.{◌≡◌, ℕ, zero, suc, ◌+◌, Bool, true, false, not, ◌||◌, ◌==◌, List, [], ◌∷◌, ◌++◌, length, drop, codes, bytes_eq, IsTrue, if◌then◌else◌}
+use Rattle.std.specs.List.{list_all, list_any, slice_split}
+use Rattle.uri_parts.specs.Components.{starts, before_any, from_any}
+
+-- the spellings of a dot
+abbrev pub dots : List (List ℕ)
+dots = codes "." ∷ codes "%2E" ∷ codes "%2e" ∷ []
+
+-- section 3.3: the dot segments, of one dot and of two
+abbrev pub is_single_dot : List ℕ → Bool
+is_single_dot segment = list_any (bytes_eq segment) dots
+
+abbrev pub is_double_dot : List ℕ → Bool
+is_double_dot segment = list_any (λ first. list_any (λ second. bytes_eq segment (first ++ second)) dots) dots
+
+abbrev pub is_dot_segment : List ℕ → Bool
+is_dot_segment segment = is_single_dot segment || is_double_dot segment
+
+-- section 3.3: the segments of a path, the texts between its slashes
+abbrev pub segments : List ℕ → List (List ℕ)
+segments path = slice_split (λ c. c == 47) path
+
+abbrev pub lacks_dot_segments : List ℕ → Bool
+lacks_dot_segments path = list_all (λ segment. not (is_dot_segment segment)) (segments path)
+
+abbrev pub is_empty : List ℕ → Bool
+is_empty [] = true
+is_empty (c ∷ rest) = false
+
+abbrev pub has_slash : List ℕ → Bool
+has_slash text = list_any (λ c. c == 47) text
+
+-- the text before its last `/`, or nothing where it has none
+abbrev pub before_last_slash : List ℕ → List ℕ
+before_last_slash [] = []
+before_last_slash (c ∷ rest) = if has_slash rest then c ∷ before_last_slash rest else []
+
+-- the text up to and with its last `/`, or nothing where it has none
+abbrev pub up_to_last_slash : List ℕ → List ℕ
+up_to_last_slash text = if has_slash text then before_last_slash text ++ codes "/" else []
+
+-- the text after its last `/`, or all of it where it has none
+abbrev pub last_segment : List ℕ → List ℕ
+last_segment [] = []
+last_segment (c ∷ rest) = if has_slash rest then last_segment rest else (if c == 47 then rest else c ∷ rest)
+
+-- section 5.2.4, step 1: the input buffer and the output buffer, and whether a double dot met an empty output
+pub record Buffers : Type 0 where
+  pub input : List ℕ
+  pub output : List ℕ
+  pub underflowed : Bool
+
+-- a whole input `/.` or `/..` leaves `/`
+abbrev pub or_slash : List ℕ → List ℕ
+or_slash [] = codes "/"
+or_slash (c ∷ rest) = c ∷ rest
+
+-- step 2, where the input begins with `/`: B drops a single dot, C drops a double dot and the output's last segment with the
+-- `/` before it, and E moves the first segment to the output
+abbrev pub step : Buffers → Buffers
+step b =
+    let segment = before_any (codes "/") (drop 1 b.input) in
+    let rest = from_any (codes "/") (drop 1 b.input) in
+    if is_single_dot segment then record { input = or_slash rest; output = b.output; underflowed = b.underflowed }
+    else (if is_double_dot segment
+    then record { input = or_slash rest; output = before_last_slash b.output; underflowed = b.underflowed || is_empty b.output }
+    else record { input = rest; output = b.output ++ 47 ∷ segment; underflowed = b.underflowed })
+
+-- the loop of step 2, at most so many times
+unfoldable pub run : ℕ → Buffers → Buffers
+run zero b = b
+run (suc n) b = if is_empty b.input then b else run n (step b)
+
+-- no path needs more steps
+abbrev pub run_whole : List ℕ → Buffers
+run_whole path = run (length path + 1) (record { input = path; output = []; underflowed = false })
+
+-- step 3
+unfoldable pub remove_dot_segments : List ℕ → List ℕ
+remove_dot_segments path = (run_whole path).output
+
+-- a double dot has nothing left to remove
+unfoldable pub underflows : List ℕ → Bool
+underflows path = (run_whole path).underflowed
+
+-- section 5.2.3: what of the base's path stands before a merged path. Other than in the RFC, a base path that ends in a
+-- double dot is kept whole, so that its dots may be removed first or last.
+unfoldable pub directory : List ℕ → List ℕ
+directory path =
+    if is_empty path then codes "/"
+    else (if is_double_dot (last_segment path) then path ++ codes "/"
+    else up_to_last_slash path)
+
+-- the path begins with `/`
+abbrev pub IsAbsolute : List ℕ → Type 0
+IsAbsolute path = IsTrue (starts 47 path)
+
+-- the path ends in `/`
+abbrev pub EndsInSlash : List ℕ → Type 0
+EndsInSlash path = (front : List ℕ) × (path ≡ front ++ codes "/")

@@ -1,0 +1,4 @@
+//! What is done with references: building, normalising and resolving them.
+#![tactic(auto)]
+
+pub mod laws;

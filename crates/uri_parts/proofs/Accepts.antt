@@ -1,0 +1,173 @@
+-- What the parser reads is the grammar of its kind.
+use Rattle.std.proofs.Common.{◌≡◌, ℕ, zero, suc, ◌+◌, ◌<◌, ◌≤◌, Bool, true, false, cond, eqb, not, List, [], ◌∷◌, length, get_or, take, drop, refl, sym, ap, ◌∙◌, arith, ◌||◌, ◌&&◌, ⊎_elim, inl, inr, ◌⊎◌}
+use Rattle.std.specs.Prelude.{codes, Some, None, is_some}
+use Rattle.std.specs.List.{list_any}
+use Rattle.std.specs.Char.{is_ascii_alphabetic}
+use Rattle.std.specs.Str.{IsUtf8}
+use Rattle.std.proofs.lemmas.List.{drop_all, take_all, drop-drop}
+use Rattle.std.proofs.lemmas.Bool.{cases_lt, cases_Bool, cond-true, cond-false, and_left, and_right, and_from, and_parts, eq-eqb, eqb-true, ne_eqb, not_from_true, not_from_false, not-false, not-true, both_ways, cases_eq, false≢true, and_cases, false_from_ne_true, or_from, or_left, or_right}
+use Rattle.std.proofs.lemmas.Bool.Decides.{nat_tests}
+use Rattle.uri_pct.specs.Sets.{TableSet, LacksPercent, IsSubset, is_one_of, scheme_set}
+use Rattle.uri_pct.specs.Tokens.{is_valid_for}
+use Rattle.uri_pct.specs.Fronts.{front_from, front, after, allows_first, begins_hex}
+use Rattle.uri_pct.proofs.Cuts.{ascii_marks, to_mark, excludes, from_mark, cut, front_zero_mark, front_cons, other_len, valid_where_read}
+use Rattle.uri_pct.proofs.Fronts.{front-after, front-within}
+use Rattle.uri_parts.specs.Components.{before_any, from_any, starts, has_authority, has_scheme, after_scheme, after_authority, components, when, after_query}
+use Rattle.uri_parts.specs.Grammar.{Kind, if_some, is_scheme, is_authority, has_colon_first, are_components, is_of_kind}
+use Rattle.uri_parts.specs.Reading.{is_stray, reads_after, is_end, reads_fragment, reads_end, reads_path, reads_rooted, reads_authority, reads_relative, reads_hier, reads_schemeless, reads}
+use Rattle.uri_parts.proofs.Stops.{StopsWithin, stop_cases, piece, utf8_from, utf8_tail, utf8_slashes, no_stray}
+use Rattle.uri_parts.proofs.Separations.{Separates}
+
+and_true : (x : Bool) → (x && true) ≡ x
+and_true true = refl
+and_true false = refl
+
+or_false : (x : Bool) → (x || false) ≡ x
+or_false true = refl
+or_false false = refl
+
+flip : (a b : ℕ) → eqb b a ≡ true → eqb a b ≡ true
+flip a b e = eq-eqb a b (sym (eqb-true b a e))
+
+flip_false : (a b : ℕ) → eqb b a ≡ false → eqb a b ≡ false
+flip_false a b e = ne_eqb a b (λ d. both_ways _ e (eq-eqb b a (sym d)))
+
+pub is_end_cons : (b : ℕ) (rest : List ℕ) → is_end (b ∷ rest) ≡ false
+unfolding is_end
+is_end_cons b rest = refl
+
+pub hash : (b : ℕ) → is_one_of (codes "#") b ≡ eqb 35 b
+hash b = or_false _
+
+one_of_two : (b : ℕ) → is_one_of (codes "?#") b ≡ true → eqb b 63 ≡ false → eqb b 35 ≡ true
+one_of_two b e q = grind (arith, nat_tests)
+
+none_of_two : (b : ℕ) → is_one_of (codes "?#") b ≡ false → (eqb b 63 ≡ false) × (eqb b 35 ≡ false)
+none_of_two b e = (grind (arith, nat_tests), grind (arith, nat_tests))
+
+none_of_three : (b : ℕ) → is_one_of (codes "/?#") b ≡ false → (eqb b 47 ≡ false) × (is_one_of (codes "?#") b ≡ false)
+none_of_three b e = (grind (arith, nat_tests), grind (arith, nat_tests))
+
+one_of_three : (b : ℕ) → is_one_of (codes "/?#") b ≡ true → eqb b 47 ≡ false → is_one_of (codes "?#") b ≡ true
+one_of_three b e s = grind (arith, nat_tests)
+
+none_of_four : (b : ℕ) → is_one_of (codes ":/?#") b ≡ false → (is_one_of (codes ":/") b ≡ false) × (is_one_of (codes "?#") b ≡ false)
+none_of_four b e = (grind (arith, nat_tests), grind (arith, nat_tests))
+
+nothing_read : (n : ℕ) → n + 1 ≡ 0 → ⊥
+nothing_read n e = omega arith
+
+module _ (segment : TableSet) (kind : Kind) (w : Separates segment kind) where
+  -- fragments and queries
+  unfoldable pub fragment_ok : List ℕ → Bool
+  fragment_ok rest = if_some (when (starts 35 rest) (drop 1 rest)) (is_valid_for kind.fragment)
+
+  unfoldable pub end_ok : List ℕ → Bool
+  end_ok rest = if_some (when (starts 63 rest) (before_any (codes "#") (drop 1 rest))) (is_valid_for kind.query) && fragment_ok (after_query rest)
+
+  none_cut : (bs : List ℕ) → (before_any [] bs ≡ bs) × (from_any [] bs ≡ [])
+  none_cut [] = (refl, refl)
+  none_cut (b ∷ bs) =
+      let p = none_cut bs in
+      let e = other_len [] b bs refl in
+      (ap (λ n. take n (b ∷ bs)) e ∙ ap (λ t. b ∷ t) p.0, ap (λ n. drop n (b ∷ bs)) e ∙ p.1)
+
+  fragment_piece : (bs : List ℕ) → IsUtf8 bs → reads_after kind.fragment is_end bs ≡ is_valid_for kind.fragment bs
+  unfolding is_end
+  fragment_piece bs u =
+      let p = none_cut bs in
+      piece [] kind.fragment w.fragment_lacks refl is_end (λ b rest _ _. refl) bs u
+      ∙ ap (λ xs. is_valid_for kind.fragment xs && is_end (from_any [] bs)) p.0
+      ∙ ap (λ xs. is_valid_for kind.fragment bs && is_end xs) p.1 ∙ and_true _
+
+  pub fragment_stuck : (b : ℕ) (rest : List ℕ) → eqb b 35 ≡ false → reads_fragment kind (b ∷ rest) ≡ false
+  unfolding reads_fragment is_end
+  fragment_stuck b rest e = cond-false _ _ _ e
+
+  fragment_at : (b : ℕ) (rest : List ℕ) → eqb b 35 ≡ true → IsUtf8 (b ∷ rest) → reads_fragment kind (b ∷ rest) ≡ fragment_ok (b ∷ rest)
+  unfolding reads_fragment fragment_ok
+  fragment_at b rest e u = rw e (fragment_piece rest (utf8_tail b rest (let d = eqb-true b 35 e in omega arith) u))
+
+  fragment_back : (bs : List ℕ) → IsUtf8 bs → reads_fragment kind (from_any (codes "#") bs) ≡ fragment_ok (from_any (codes "#") bs)
+  unfolding reads_fragment fragment_ok is_end
+  fragment_back bs u =
+      from_mark (codes "#") (λ r. IsUtf8 r → reads_fragment kind r ≡ fragment_ok r) (λ _. refl)
+        (λ b rest e. fragment_at b rest (flip b 35 (sym (hash b) ∙ e)))
+        bs (utf8_from (codes "#") bs (ascii_marks (codes "#") refl) u)
+
+  query_piece : (rest : List ℕ) → IsUtf8 rest → reads_after kind.query (reads_fragment kind) rest ≡ (is_valid_for kind.query (before_any (codes "#") rest) && fragment_ok (from_any (codes "#") rest))
+  query_piece rest u =
+      piece (codes "#") kind.query w.query_lacks w.query_marks (reads_fragment kind) (λ b r e _. fragment_stuck b r (flip_false b 35 (sym (hash b) ∙ e))) rest u
+      ∙ ap (λ t. is_valid_for kind.query (before_any (codes "#") rest) && t) (fragment_back rest u)
+
+  end_at : (b : ℕ) (rest : List ℕ) → is_one_of (codes "?#") b ≡ true → IsUtf8 (b ∷ rest) → reads_end kind (b ∷ rest) ≡ end_ok (b ∷ rest)
+  unfolding reads_end end_ok
+  end_at b rest e u = ⊎_elim
+      (λ q. rw q (query_piece rest (utf8_tail b rest (let d = eqb-true b 63 q in omega arith) u)))
+      (λ q. rw q (fragment_at b rest (one_of_two b e q) u))
+      (cases_Bool (eqb b 63))
+
+  end_back : (bs : List ℕ) → IsUtf8 bs → reads_end kind (from_any (codes "?#") bs) ≡ end_ok (from_any (codes "?#") bs)
+  unfolding reads_end end_ok reads_fragment fragment_ok is_end
+  end_back bs u =
+      from_mark (codes "?#") (λ r. IsUtf8 r → reads_end kind r ≡ end_ok r) (λ _. refl) (λ b rest e. end_at b rest e)
+        bs (utf8_from (codes "?#") bs (ascii_marks (codes "?#") refl) u)
+
+  pub end_stuck : (b : ℕ) (rest : List ℕ) → is_one_of (codes "?#") b ≡ false → reads_end kind (b ∷ rest) ≡ false
+  unfolding reads_end
+  end_stuck b rest e = cond-false _ _ _ (none_of_two b e).0 ∙ fragment_stuck b rest (none_of_two b e).1
+
+  -- paths
+  pub path_lemma : (bs : List ℕ) → IsUtf8 bs → reads_path kind bs ≡ (is_valid_for kind.path (before_any (codes "?#") bs) && end_ok (from_any (codes "?#") bs))
+  unfolding reads_path
+  path_lemma bs u =
+      piece (codes "?#") kind.path w.path_lacks w.path_marks (reads_end kind) (λ b r e _. end_stuck b r e) bs u
+      ∙ ap (λ t. is_valid_for kind.path (before_any (codes "?#") bs) && t) (end_back bs u)
+
+  pub rooted_stuck : (b : ℕ) (rest : List ℕ) → is_one_of (codes "/?#") b ≡ false → reads_rooted kind (b ∷ rest) ≡ false
+  unfolding reads_rooted
+  rooted_stuck b rest e =
+      let p = none_of_three b e in
+      let n = front kind.path (b ∷ rest) in
+      let r : List ℕ = after kind.path (b ∷ rest) in
+      let first : Bool = eqb b 47 || eqb n 0 in
+      and_right (not (is_stray kind.path r)) (first && reads_end kind r) (⊎_elim
+        (λ z. and_right first (reads_end kind r) (ap (λ n. reads_end kind (drop n (b ∷ rest))) z ∙ end_stuck b rest p.1))
+        (λ z. and_left first (reads_end kind r) (or_from _ _ p.0 (ne_eqb _ 0 z)))
+        (cases_eq n 0))
+
+  rooted_at : (b : ℕ) (rest : List ℕ) → is_one_of (codes "/?#") b ≡ true → reads_rooted kind (b ∷ rest) ≡ reads_path kind (b ∷ rest)
+  unfolding reads_rooted reads_path
+  rooted_at b rest e =
+      let r : List ℕ = after kind.path (b ∷ rest) in
+      ap (λ t. not (is_stray kind.path r) && (t && reads_end kind r)) (⊎_elim
+        (λ s. or_left _ _ s)
+        (λ s. or_right _ _ (eq-eqb _ 0 (front_zero_mark (codes "?#") kind.path w.path_lacks w.path_marks b rest (one_of_three b e s))))
+        (cases_Bool (eqb b 47)))
+
+  rooted_back : (bs : List ℕ) → reads_rooted kind (from_any (codes "/?#") bs) ≡ reads_path kind (from_any (codes "/?#") bs)
+  unfolding reads_rooted reads_path front_from
+  rooted_back bs = from_mark (codes "/?#") (λ r. reads_rooted kind r ≡ reads_path kind r) refl rooted_at bs
+
+  -- authorities
+  authority_piece : (bs : List ℕ) → IsUtf8 bs → reads_authority kind bs ≡ (is_authority kind (before_any (codes "/?#") bs) && reads_path kind (from_any (codes "/?#") bs))
+  unfolding reads_authority
+  authority_piece bs u =
+      piece (codes "/?#") kind.reg_name w.reg_name_lacks w.reg_name_marks (reads_rooted kind) (λ b r e _. rooted_stuck b r e) bs u
+      ∙ ap (λ t. is_authority kind (before_any (codes "/?#") bs) && t) (rooted_back bs)
+
+  unfoldable pub rest_ok : List ℕ → Bool
+  rest_ok rest = if_some (when (has_authority rest) (before_any (codes "/?#") (drop 2 rest))) (is_authority kind) && reads_path kind (after_authority rest)
+
+  pub slashes_lemma : (rest : List ℕ) → has_authority rest ≡ true → IsUtf8 rest → reads_authority kind (drop 2 rest) ≡ rest_ok rest
+  unfolding rest_ok
+  slashes_lemma rest e u =
+      authority_piece (drop 2 rest) (utf8_slashes rest e u)
+      ∙ sym (ap (λ t. if_some (when t (before_any (codes "/?#") (drop 2 rest))) (is_authority kind) && reads_path kind (cond t (from_any (codes "/?#") (drop 2 rest)) rest)) e)
+
+  pub hier_lemma : (rest : List ℕ) → IsUtf8 rest → reads_hier kind rest ≡ rest_ok rest
+  unfolding reads_hier rest_ok
+  hier_lemma rest u = ⊎_elim
+      (λ e. cond-true _ _ _ e ∙ slashes_lemma rest e u)
+      (λ e. rw e refl)
+      (cases_Bool (has_authority rest))

@@ -1,0 +1,28 @@
+-- What is next at a place in a text.
+use Rattle.std.proofs.Common.{◌≡◌, ℕ, ◌+◌, ◌<◌, ◌≤◌, Bool, true, false, cond, eqb, ltb, List, [], ◌∷◌, length, get_or, drop, refl, sym, ap, ◌∙◌, arith, ◌&&◌, ⊎_elim}
+use Rattle.std.proofs.lemmas.Bool.{cases_lt, and_left, eq-eqb, ne_eqb, lt-ltb, le-ltb}
+use Rattle.std.proofs.lemmas.List.{drop_more, drop_all, drop-drop}
+use Rattle.uri_pct.specs.Sets.{TableSet}
+use Rattle.uri_pct.specs.Fronts.{front, after, IsStrayPercent, has_digits}
+use Rattle.uri_pct.proofs.Fronts.{front-after, stray-digits}
+use Rattle.uri_parts.specs.Components.{starts}
+use Rattle.uri_parts.specs.Reading.{is_end}
+
+pub starts_at : (mark i : ℕ) (text : List ℕ) → starts mark (drop i text) ≡ (ltb i (length text) && eqb (get_or text i 0) mark)
+starts_at mark i text = ⊎_elim
+    (λ h. ap (starts mark) (drop_more text i 0 h) ∙ sym (ap (λ t. t && eqb (get_or text i 0) mark) (lt-ltb i (length text) h)))
+    (λ h. ap (starts mark) (drop_all i text h) ∙ sym (and_left _ _ (le-ltb i (length text) h)))
+    (cases_lt i (length text))
+
+pub stray_fault : (set : TableSet) (text : List ℕ) (i n : ℕ) → set.pct_encoded ≡ true → n ≡ i + front set (drop i text) → n < length text → get_or text n 0 ≡ 37 → IsStrayPercent text n
+stray_fault set text i n o e h p =
+    let d : drop n text ≡ after set (drop i text) = ap (λ k. drop k text) e ∙ sym (drop-drop (front set (drop i text)) i text) in
+    record { inside = h; percent = p; stray = stray-digits set text n h o p (ap (front set) d ∙ front-after set (drop i text)) }
+
+-- nothing is left where the place is the length
+pub is_end_at : (i : ℕ) (text : List ℕ) → i ≤ length text → is_end (drop i text) ≡ eqb i (length text)
+unfolding is_end
+is_end_at i text l = ⊎_elim
+    (λ h. ap is_end (drop_more text i 0 h) ∙ sym (ne_eqb i (length text) (λ e. omega arith)))
+    (λ h. ap is_end (drop_all i text h) ∙ sym (eq-eqb i (length text) (omega arith)))
+    (cases_lt i (length text))

@@ -1,0 +1,24 @@
+-- What the sets of a kind have to keep apart for its texts to be read from left to right.
+use Rattle.std.proofs.Common.{◌≡◌, ℕ, Bool, true, false, List}
+use Rattle.std.specs.Prelude.{codes}
+use Rattle.uri_pct.specs.Sets.{TableSet, LacksPercent, IsSubset, is_one_of, scheme_set}
+use Rattle.uri_pct.specs.Fronts.{allows_first}
+use Rattle.uri_pct.proofs.Cuts.{excludes}
+use Rattle.uri_parts.specs.Grammar.{Kind}
+
+pub record Separates (segment : TableSet) (kind : Kind) : Type 0 where
+  pub reg_name_lacks : LacksPercent kind.reg_name
+  pub path_lacks : LacksPercent kind.path
+  pub query_lacks : LacksPercent kind.query
+  pub fragment_lacks : LacksPercent kind.fragment
+  pub segment_lacks : LacksPercent segment
+  -- no set holds a character that ends its component
+  pub reg_name_marks : excludes kind.reg_name (codes "/?#") ≡ true
+  pub path_marks : excludes kind.path (codes "?#") ≡ true
+  pub query_marks : excludes kind.query (codes "#") ≡ true
+  pub segment_marks : excludes segment (codes ":/?#") ≡ true
+  -- the set of a first segment is that of a path without `:` and `/`, and holds that of a scheme
+  pub scheme_within : IsSubset scheme_set segment
+  pub within : IsSubset segment kind.path
+  pub octets : kind.path.pct_encoded ≡ segment.pct_encoded
+  pub rest : (b : ℕ) (bs : List ℕ) → is_one_of (codes ":/") b ≡ false → allows_first segment b bs ≡ false → allows_first kind.path b bs ≡ false

@@ -1,0 +1,5 @@
+use Rattle.uri_parts.proofs.Splits.{components-recompose}
+use Rattle.uri_parts.proofs.laws.components_are_the_only_split.Goals as goal
+
+pub returns : goal.returns
+returns c = components-recompose

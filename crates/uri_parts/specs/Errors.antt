@@ -1,0 +1,24 @@
+-- What a refusal of the parser tells.
+use Rattle.std.specs.Prelude.{ℕ, List, ⊤}
+use Rattle.std.specs.Str.{IsCharBoundary}
+use Rattle.uri_pct.specs.Fronts.{IsStrayPercent}
+use Rattle.uri_parts.specs.declared.error.ParseError.{ParseError}
+use Rattle.uri_parts.specs.declared.error.ParseErrorKind.{ParseErrorKind}
+use Rattle.uri_parts.specs.declared.error.ParseErrorKind.TheVariants.{InvalidPctEncodedOctet, UnexpectedChar, InvalidIpv6Addr}
+
+abbrev pub index_of : ParseError → ℕ
+index_of e = e.index
+
+abbrev pub kind_of : ParseError → ParseErrorKind
+kind_of e = e.kind
+
+-- what is wrong at the place
+abbrev pub IsFault : List ℕ → ParseErrorKind → ℕ → Type 0
+IsFault text InvalidPctEncodedOctet index = IsStrayPercent text index
+IsFault text UnexpectedChar index = ⊤
+IsFault text InvalidIpv6Addr index = ⊥
+
+-- the index lies on a character boundary of the text, and the kind says what is wrong there
+pub record IsErrorIn (text : List ℕ) (e : ParseError) : Type 0 where
+  pub boundary : IsCharBoundary text e.index
+  pub fault : IsFault text e.kind e.index

@@ -1,0 +1,14 @@
+use Rattle.uri_pct.specs.Tables.{set_of}
+use Rattle.uri_parts.specs.Grammar.{Kind}
+use Rattle.uri_parts.specs.declared.grammar.Grammar.{Grammar}
+
+-- the kind whose sets the tables stand for
+abbrev pub kind_of : Grammar → Kind
+kind_of g = record {
+  userinfo = set_of g.userinfo;
+  reg_name = set_of g.reg_name;
+  path = set_of g.path;
+  query = set_of g.query;
+  fragment = set_of g.fragment;
+  needs_scheme = g.needs_scheme;
+}

@@ -1,0 +1,31 @@
+-- Where the components of a text lie in it.
+use Rattle.std.specs.Prelude.{◌≡◌, ℕ, ◌+◌, List, length, Option, Some, None, option_map, unwrap_or}
+use Rattle.uri_parts.specs.declared.positions.Positions.{Positions}
+use Rattle.uri_parts.specs.Components.{Components, components}
+
+-- the length of a component, where it is present, with that of the marks beside it
+abbrev pub marked_length : ℕ → Option (List ℕ) → ℕ
+marked_length marks None = 0
+marked_length marks (Some part) = marks + length part
+
+-- where components lie in their text, by the lengths of those before each
+abbrev pub positions_of : Components → Positions
+positions_of p =
+    let behind_scheme = marked_length 1 p.scheme in
+    let path_start = behind_scheme + marked_length 2 p.authority in
+    let path_end = path_start + length p.path in
+    record {
+      scheme_end = option_map length p.scheme;
+      authority = option_map (λ a. record { start = behind_scheme + 2; end = behind_scheme + 2 + length a }) p.authority;
+      path_start = path_start;
+      path_end = path_end;
+      query_end = option_map (λ q. path_end + 1 + length q) p.query;
+    }
+
+-- where the query ends, or the path if there is none
+abbrev pub before_fragment : Positions → ℕ
+before_fragment p = unwrap_or p.query_end p.path_end
+
+-- the positions of a text's own components
+abbrev pub AreAt : List ℕ → Positions → Type 0
+AreAt text p = p ≡ positions_of (components text)

@@ -1,0 +1,101 @@
+-- What the parser reads, as functions of the text that is left.
+use Rattle.std.specs.Prelude.{◌≡◌, ℕ, ◌+◌, Bool, true, false, not, ◌&&◌, ◌||◌, ◌==◌, List, [], ◌∷◌, drop, slice_index, Option, Some, None, if◌then◌else◌}
+use Rattle.std.specs.Char.{is_ascii_alphabetic}
+use Rattle.uri_pct.specs.Sets.{TableSet, scheme_set}
+use Rattle.uri_pct.specs.Fronts.{front, after}
+use Rattle.uri_parts.specs.Components.{starts, has_authority}
+use Rattle.uri_parts.specs.Grammar.{Kind}
+use Rattle.uri_parts.specs.declared.positions.Positions.{Positions}
+use Rattle.uri_parts.specs.declared.positions.AuthorityPositions.{AuthorityPositions}
+
+-- reading for a set with octets stopped at a `%` that begins none
+abbrev pub is_stray : TableSet → List ℕ → Bool
+is_stray set rest = set.pct_encoded && starts 37 rest
+
+-- what follows the longest front that the set allows is read by a test
+abbrev pub reads_after : TableSet → (List ℕ → Bool) → List ℕ → Bool
+reads_after set test rest = not (is_stray set (after set rest)) && test (after set rest)
+
+unfoldable pub is_end : List ℕ → Bool
+is_end [] = true
+is_end (b ∷ rest) = false
+
+-- a fragment if there is one, and then the end
+unfoldable pub reads_fragment : Kind → List ℕ → Bool
+reads_fragment kind rest = if starts 35 rest then reads_after kind.fragment is_end (drop 1 rest) else is_end rest
+
+-- a query if there is one, and what follows it
+unfoldable pub reads_end : Kind → List ℕ → Bool
+reads_end kind rest = if starts 63 rest then reads_after kind.query (reads_fragment kind) (drop 1 rest) else reads_fragment kind rest
+
+-- a path, and what follows it
+unfoldable pub reads_path : Kind → List ℕ → Bool
+reads_path kind rest = reads_after kind.path (reads_end kind) rest
+
+-- the same behind an authority, where the path is empty or begins with `/`
+unfoldable pub reads_rooted : Kind → List ℕ → Bool
+reads_rooted kind rest =
+    not (is_stray kind.path (after kind.path rest))
+    && ((starts 47 rest || front kind.path rest == 0) && reads_end kind (after kind.path rest))
+
+-- an authority, and what follows it
+unfoldable pub reads_authority : Kind → List ℕ → Bool
+reads_authority kind rest = reads_after kind.reg_name (reads_rooted kind) rest
+
+-- a path that has no colon behind the characters of a first segment, and what follows it
+unfoldable pub reads_relative : TableSet → Kind → List ℕ → Bool
+reads_relative segment kind rest = reads_after segment (λ r. not (starts 58 r) && reads_path kind r) rest
+
+-- what follows a scheme
+unfoldable pub reads_hier : Kind → List ℕ → Bool
+reads_hier kind rest = if has_authority rest then reads_authority kind (drop 2 rest) else reads_path kind rest
+
+-- a text that has no scheme, of which so many characters are read that may stand in one
+unfoldable pub reads_schemeless : TableSet → Kind → ℕ → List ℕ → Bool
+reads_schemeless segment kind read rest =
+    if read == 0 && has_authority rest then reads_authority kind (drop 2 rest) else reads_relative segment kind rest
+
+unfoldable pub reads : TableSet → Kind → List ℕ → Bool
+reads segment kind text =
+    if starts 58 (after scheme_set text)
+    then is_ascii_alphabetic (slice_index text 0) && reads_hier kind (drop 1 (after scheme_set text))
+    else not kind.needs_scheme && reads_schemeless segment kind (front scheme_set text) (after scheme_set text)
+
+-- where the query ends that begins at a place
+unfoldable pub query_end_at : Kind → ℕ → List ℕ → Option ℕ
+query_end_at kind place rest = if starts 63 rest then Some (place + 1 + front kind.query (drop 1 rest)) else None
+
+-- the positions, where the path begins at `start` and the text is read up to `place` within it
+unfoldable pub path_positions : Kind → Option ℕ → Option AuthorityPositions → ℕ → ℕ → List ℕ → Positions
+path_positions kind scheme_end authority start place rest =
+    let end = place + front kind.path rest in
+    record {
+      scheme_end = scheme_end;
+      authority = authority;
+      path_start = start;
+      path_end = end;
+      query_end = query_end_at kind end (after kind.path rest);
+    }
+
+unfoldable pub authority_positions : Kind → Option ℕ → ℕ → List ℕ → Positions
+authority_positions kind scheme_end place rest =
+    let end = place + front kind.reg_name rest in
+    path_positions kind scheme_end (Some (record { start = place; end = end })) end end (after kind.reg_name rest)
+
+unfoldable pub hier_positions : Kind → Option ℕ → ℕ → List ℕ → Positions
+hier_positions kind scheme_end place rest =
+    if has_authority rest then authority_positions kind scheme_end (place + 2) (drop 2 rest) else path_positions kind scheme_end None place place rest
+
+unfoldable pub relative_positions : TableSet → Kind → ℕ → List ℕ → Positions
+relative_positions segment kind place rest = path_positions kind None None 0 (place + front segment rest) (after segment rest)
+
+unfoldable pub schemeless_positions : TableSet → Kind → ℕ → List ℕ → Positions
+schemeless_positions segment kind read rest =
+    if read == 0 && has_authority rest then authority_positions kind None 2 (drop 2 rest) else relative_positions segment kind read rest
+
+unfoldable pub read_positions : TableSet → Kind → List ℕ → Positions
+read_positions segment kind text =
+    let read = front scheme_set text in
+    if starts 58 (after scheme_set text)
+    then hier_positions kind (Some read) (read + 1) (drop 1 (after scheme_set text))
+    else schemeless_positions segment kind read (after scheme_set text)

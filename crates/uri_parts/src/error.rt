@@ -1,0 +1,65 @@
+//! Why a text is refused.
+ghost use Rattle.std.specs.Prelude.{◌≡◌};
+
+use thiserror::Error;
+
+/// What is wrong with a text that is no URI or IRI.
+#[derive(Clone, Copy, Debug, PartialEq, Eq)]
+pub enum ParseErrorKind {
+    /// A `%` that two hexadecimal digits do not follow.
+    ///
+    /// The index points to the `%`.
+    InvalidPctEncodedOctet,
+    /// A character that may not stand there, or the end of the text where more has to follow.
+    ///
+    /// The index points to the character, or to the end.
+    UnexpectedChar,
+    /// An IPv6 address in brackets that is none.
+    ///
+    /// The index points to the byte behind the `[`.
+    InvalidIpv6Addr,
+}
+
+/// Why a text is no URI or IRI, and where.
+#[derive(Clone, Copy, Debug, PartialEq, Eq, Error)]
+#[error("{} at index {index}", kind_text(.kind))]
+pub struct ParseError {
+    index: usize,
+    kind: ParseErrorKind,
+}
+
+fn kind_text(kind: &ParseErrorKind) -> &'static str {
+    match kind {
+        ParseErrorKind::InvalidPctEncodedOctet => "invalid percent-encoded octet",
+        ParseErrorKind::UnexpectedChar => "unexpected character",
+        ParseErrorKind::InvalidIpv6Addr => "invalid IPv6 address",
+    }
+}
+
+impl ParseError {
+    ghost use Rattle.uri_parts.specs.Errors.{index_of, kind_of};
+
+    /// The refusal of this kind at a byte offset.
+    #[doc(hidden)]
+    pub fn new(index: usize, kind: ParseErrorKind) -> Self
+        ensures index { index_of result ≡ index }
+        ensures kind { kind_of result ≡ kind }
+    {
+        ParseError { index, kind }
+    }
+
+    /// Where the text was refused: a byte offset, at most the length of the text and on a
+    /// character boundary.
+    pub fn index(&self) -> usize
+        ensures { result ≡ index_of self.now }
+    {
+        self.index
+    }
+
+    /// What is wrong there.
+    pub fn kind(&self) -> ParseErrorKind
+        ensures { result ≡ kind_of self.now }
+    {
+        self.kind
+    }
+}

@@ -1,0 +1,163 @@
+//! The parser of the four kinds.
+ghost use Rattle.std.specs.Prelude.{◌≡◌, ◌↔◌, ◌+◌, IfErr, IfOk, IsOk, OnOk, is_ok, Some, None};
+ghost use Rattle.uri_pct.specs.Tables.{set_of};
+ghost use Rattle.uri_parts.specs.Errors.{IsErrorIn};
+ghost use Rattle.uri_parts.specs.Grammars.{kind_of};
+ghost use Rattle.uri_parts.specs.Readers.{rest_of, text_of, place_of};
+ghost use Rattle.uri_parts.specs.Reading.{reads_fragment, reads_end, reads_path, reads_rooted, reads_authority, reads_relative, reads_hier, reads_schemeless, reads, query_end_at, path_positions, authority_positions, relative_positions, hier_positions, schemeless_positions, read_positions};
+
+use crate::error::ParseError;
+use crate::grammar::Grammar;
+use crate::positions::{AuthorityPositions, Positions};
+use crate::reader::Reader;
+
+/// A fragment if there is one, and then the end.
+#[tactic(auto, unfolding(crate::specs::Reading::reads_fragment))]
+fn read_fragment(reader: &mut Reader<'_>, grammar: &Grammar) -> Result<(), ParseError>
+    ensures accepts { is_ok result ≡ reads_fragment (kind_of grammar.now) (rest_of reader.old) }
+    ensures err { IfErr result (IsErrorIn (text_of reader.old)) }
+{
+    if reader.skip(b'#') {
+        reader.pass(&grammar.fragment)?;
+    }
+    if !reader.is_at_end() {
+        return Err(reader.unexpected());
+    }
+    Ok(())
+}
+
+/// A query if there is one, and what follows it. Answers where the query ends.
+#[tactic(auto, unfolding(crate::specs::Reading::reads_end, crate::specs::Reading::query_end_at))]
+fn read_end(reader: &mut Reader<'_>, grammar: &Grammar) -> Result<Option<usize>, ParseError>
+    ensures accepts { is_ok result ≡ reads_end (kind_of grammar.now) (rest_of reader.old) }
+    ensures place { IfOk result (λ end. end ≡ query_end_at (kind_of grammar.now) (place_of reader.old) (rest_of reader.old)) }
+    ensures err { IfErr result (IsErrorIn (text_of reader.old)) }
+{
+    let mut query_end = None;
+    if reader.skip(b'?') {
+        reader.pass(&grammar.query)?;
+        query_end = Some(reader.position());
+    }
+    read_fragment(reader, grammar)?;
+    Ok(query_end)
+}
+
+/// The rest of a path that begins at `path_start`, and what follows it.
+#[tactic(auto, unfolding(crate::specs::Reading::reads_path, crate::specs::Reading::path_positions))]
+fn read_path(
+    reader: &mut Reader<'_>,
+    grammar: &Grammar,
+    scheme_end: Option<usize>,
+    path_start: usize,
+) -> Result<Positions, ParseError>
+    ensures accepts { is_ok result ≡ reads_path (kind_of grammar.now) (rest_of reader.old) }
+    ensures places { IfOk result (λ p. p ≡ path_positions (kind_of grammar.now) scheme_end None path_start (place_of reader.old) (rest_of reader.old)) }
+    ensures err { IfErr result (IsErrorIn (text_of reader.old)) }
+{
+    reader.pass(&grammar.path)?;
+    let path_end = reader.position();
+    let query_end = read_end(reader, grammar)?;
+    Ok(Positions {
+        scheme_end,
+        authority: None,
+        path_start,
+        path_end,
+        query_end,
+    })
+}
+
+/// A path behind an authority, which is empty or begins with `/`, and what follows it.
+#[tactic(auto, unfolding(crate::specs::Reading::reads_rooted, crate::specs::Reading::path_positions))]
+fn read_rooted(
+    reader: &mut Reader<'_>,
+    grammar: &Grammar,
+    scheme_end: Option<usize>,
+    authority: AuthorityPositions,
+) -> Result<Positions, ParseError>
+    ensures accepts { is_ok result ≡ reads_rooted (kind_of grammar.now) (rest_of reader.old) }
+    ensures places { IfOk result (λ p. p ≡ path_positions (kind_of grammar.now) scheme_end (Some authority) (place_of reader.old) (place_of reader.old) (rest_of reader.old)) }
+    ensures err { IfErr result (IsErrorIn (text_of reader.old)) }
+{
+    let path_start = reader.position();
+    let rootless = reader.unexpected();
+    let is_rooted = reader.sees(b'/');
+    reader.pass(&grammar.path)?;
+    let path_end = reader.position();
+    if !is_rooted && path_end != path_start {
+        return Err(rootless);
+    }
+    let query_end = read_end(reader, grammar)?;
+    Ok(Positions {
+        scheme_end,
+        authority: Some(authority),
+        path_start,
+        path_end,
+        query_end,
+    })
+}
+
+/// An authority, and what follows it.
+#[tactic(auto, unfolding(crate::specs::Reading::reads_authority, crate::specs::Reading::authority_positions))]
+fn read_authority(
+    reader: &mut Reader<'_>,
+    grammar: &Grammar,
+    scheme_end: Option<usize>,
+) -> Result<Positions, ParseError>
+    ensures accepts { is_ok result ≡ reads_authority (kind_of grammar.now) (rest_of reader.old) }
+    ensures places { IfOk result (λ p. p ≡ authority_positions (kind_of grammar.now) scheme_end (place_of reader.old) (rest_of reader.old)) }
+    ensures err { IfErr result (IsErrorIn (text_of reader.old)) }
+{
+    let start = reader.position();
+    reader.pass(&grammar.reg_name)?;
+    let end = reader.position();
+    read_rooted(reader, grammar, scheme_end, AuthorityPositions { start, end })
+}
+
+/// What follows a scheme.
+#[tactic(auto, unfolding(crate::specs::Reading::reads_hier, crate::specs::Reading::hier_positions))]
+fn read_hier(
+    reader: &mut Reader<'_>,
+    grammar: &Grammar,
+    scheme_end: usize,
+) -> Result<Positions, ParseError>
+    ensures accepts { is_ok result ≡ reads_hier (kind_of grammar.now) (rest_of reader.old) }
+    ensures places { IfOk result (λ p. p ≡ hier_positions (kind_of grammar.now) (Some scheme_end) (place_of reader.old) (rest_of reader.old)) }
+    ensures err { IfErr result (IsErrorIn (text_of reader.old)) }
+{
+    if reader.skip_slashes() {
+        read_authority(reader, grammar, Some(scheme_end))
+    } else {
+        let path_start = reader.position();
+        read_path(reader, grammar, Some(scheme_end), path_start)
+    }
+}
+
+/// A path that begins the text, so far as its first segment is read with no colon, and what
+/// follows it.
+#[tactic(auto, unfolding(crate::specs::Reading::reads_relative, crate::specs::Reading::relative_positions))]
+fn read_relative(reader: &mut Reader<'_>, grammar: &Grammar) -> Result<Positions, ParseError>
+    ensures accepts { is_ok result ≡ reads_relative (set_of grammar.now.segment_nz_nc) (kind_of grammar.now) (rest_of reader.old) }
+    ensures places { IfOk result (λ p. p ≡ relative_positions (set_of grammar.now.segment_nz_nc) (kind_of grammar.now) (place_of reader.old) (rest_of reader.old)) }
+    ensures err { IfErr result (IsErrorIn (text_of reader.old)) }
+{
+    reader.pass(&grammar.segment_nz_nc)?;
+    if reader.sees(b':') {
+        return Err(reader.unexpected());
+    }
+    read_path(reader, grammar, None, 0)
+}
+
+/// A text that has no scheme, behind the characters that might have been one.
+#[tactic(auto, unfolding(crate::specs::Reading::reads_schemeless, crate::specs::Reading::schemeless_positions))]
+fn read_schemeless(reader: &mut Reader<'_>, grammar: &Grammar) -> Result<Positions, ParseError>
+    ensures accepts { is_ok result ≡ reads_schemeless (set_of grammar.now.segment_nz_nc) (kind_of grammar.now) (place_of reader.old) (rest_of reader.old) }
+    ensures places { IfOk result (λ p. p ≡ schemeless_positions (set_of grammar.now.segment_nz_nc) (kind_of grammar.now) (place_of reader.old) (rest_of reader.old)) }
+    ensures err { IfErr result (IsErrorIn (text_of reader.old)) }
+{
+    if reader.position() == 0 && reader.skip_slashes() {
+        read_authority(reader, grammar, None)
+    } else {
+        read_relative(reader, grammar)
+    }
+}
+

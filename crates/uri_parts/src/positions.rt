@@ -1,0 +1,123 @@
+//! Where the components of a text lie (RFC 3986, appendix B), and the components cut out by them.
+ghost use Rattle.std.specs.Prelude.{◌≡◌, is_some, option_map};
+ghost use Rattle.uri_parts.specs.Components.{components};
+
+/// Where the components of a text lie, as byte offsets into it.
+///
+/// A component runs up to the place that is named for its end; the fragment, where there is one,
+/// runs from behind its `#` to the end of the text.
+#[doc(hidden)]
+#[derive(Clone, Copy, Debug)]
+pub struct Positions {
+    /// Where the `:` behind the scheme stands, if there is a scheme.
+    pub scheme_end: Option<usize>,
+    /// Where the authority lies, if there is one.
+    pub authority: Option<AuthorityPositions>,
+    /// Where the path begins.
+    pub path_start: usize,
+    /// Where the path ends.
+    pub path_end: usize,
+    /// Where the query ends, if there is one.
+    pub query_end: Option<usize>,
+}
+
+/// Where an authority lies, behind its `//`, as byte offsets into the whole text.
+#[doc(hidden)]
+#[derive(Clone, Copy, Debug)]
+pub struct AuthorityPositions {
+    /// Where it begins.
+    pub start: usize,
+    /// Where it ends.
+    pub end: usize,
+}
+
+impl Positions {
+    ghost use Rattle.uri_parts.specs.Positions.{AreAt, before_fragment};
+
+    /// Whether the text has a scheme.
+    pub fn has_scheme(&self, text: &str) -> bool
+        requires { AreAt text.now self.now }
+        ensures { result ≡ is_some (components text.now).scheme }
+    {
+        self.scheme_end.is_some()
+    }
+
+    /// Whether the text has an authority.
+    pub fn has_authority(&self, text: &str) -> bool
+        requires { AreAt text.now self.now }
+        ensures { result ≡ is_some (components text.now).authority }
+    {
+        self.authority.is_some()
+    }
+
+    /// Whether the text has a query.
+    pub fn has_query(&self, text: &str) -> bool
+        requires { AreAt text.now self.now }
+        ensures { result ≡ is_some (components text.now).query }
+    {
+        self.query_end.is_some()
+    }
+
+    /// Whether the text has a fragment.
+    pub fn has_fragment(&self, text: &str) -> bool
+        requires { AreAt text.now self.now }
+        ensures { result ≡ is_some (components text.now).fragment }
+    {
+        self.before_fragment() < text.len()
+    }
+
+    /// The scheme of the text, without its `:`.
+    pub fn scheme<'a>(&self, text: &'a str) -> Option<&'a str>
+        requires { AreAt text.now self.now }
+        ensures { option_map (λ s. s.now) result ≡ (components text.now).scheme }
+    {
+        let end = self.scheme_end?;
+        Some(&text[..end])
+    }
+
+    /// The authority of the text, without its `//`.
+    pub fn authority<'a>(&self, text: &'a str) -> Option<&'a str>
+        requires { AreAt text.now self.now }
+        ensures { option_map (λ s. s.now) result ≡ (components text.now).authority }
+    {
+        let authority = self.authority?;
+        Some(&text[authority.start..authority.end])
+    }
+
+    /// The path of the text.
+    pub fn path<'a>(&self, text: &'a str) -> &'a str
+        requires { AreAt text.now self.now }
+        ensures { result.now ≡ (components text.now).path }
+    {
+        &text[self.path_start..self.path_end]
+    }
+
+    /// The query of the text, without its `?`.
+    pub fn query<'a>(&self, text: &'a str) -> Option<&'a str>
+        requires { AreAt text.now self.now }
+        ensures { option_map (λ s. s.now) result ≡ (components text.now).query }
+    {
+        let end = self.query_end?;
+        Some(&text[self.path_end + 1..end])
+    }
+
+    /// The fragment of the text, without its `#`.
+    pub fn fragment<'a>(&self, text: &'a str) -> Option<&'a str>
+        requires { AreAt text.now self.now }
+        ensures { option_map (λ s. s.now) result ≡ (components text.now).fragment }
+    {
+        let mark = self.before_fragment();
+        if mark < text.len() {
+            Some(&text[mark + 1..])
+        } else {
+            None
+        }
+    }
+
+    /// Where the query ends, or the path if there is none: where the `#` of a fragment stands.
+    fn before_fragment(&self) -> usize
+        ensures { result ≡ before_fragment self.now }
+    {
+        self.query_end.unwrap_or(self.path_end)
+    }
+}

@@ -1,0 +1,7 @@
+use Rattle.std.proofs.Common.{◌≡◌, ℕ, take}
+use Rattle.uri_pct.specs.Sets.{is_one_of}
+use Rattle.uri_pct.specs.Masks.{has_bit}
+use Rattle.uri_pct.proofs.table.Table.new.Given as goal
+
+abbrev pub invariant-loop-byte : goal.invariant-loop-byte
+invariant-loop-byte l = (c : ℕ) → has_bit l.low l.high c ≡ is_one_of (take l.byte-index l.bytes) c

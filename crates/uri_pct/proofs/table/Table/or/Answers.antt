@@ -1,0 +1,23 @@
+use Rattle.std.proofs.Common.{◌∙◌, sym, ◌||◌}
+use Rattle.std.proofs.lemmas.Bool.{or_from}
+use Rattle.uri_pct.specs.Masks.{has_bit}
+use Rattle.uri_pct.proofs.Masks.{has_bit_or, percent_bit}
+use Rattle.uri_pct.proofs.Percent.{lacks_percent}
+use Rattle.uri_pct.proofs.Tables.{same_set}
+use Rattle.uri_pct.proofs.table.Table.or.Goals as goal
+
+pub invariant_of-result : goal.invariant_of-result
+invariant_of-result c =
+    let s = c.args.self in
+    let t = c.args.other.now in
+    record {
+      lacks_percent =
+          sym (percent_bit _ _) ∙ has_bit_or s.low s.high t.low t.high 37
+          ∙ or_from (has_bit s.low s.high 37) (has_bit t.low t.high 37) (lacks_percent s) (lacks_percent t);
+    }
+
+pub returns : goal.returns
+returns c =
+    let s = c.args.self in
+    let t = c.args.other.now in
+    same_set _ (λ code. has_bit s.low s.high code || has_bit t.low t.high code) _ _ _ (has_bit_or s.low s.high t.low t.high)

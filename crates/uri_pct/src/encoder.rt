@@ -1,0 +1,114 @@
+//! The encoders of a URI's components: which characters and octets each component consists of.
+ghost use Rattle.std.specs.Prelude.{◌≡◌};
+
+use crate::table::{self, Table};
+
+/// Which characters stand for themselves, and whether percent-encoded octets stand beside them.
+///
+/// `set` names the set once and for all: whoever implements the trait chooses it, and `table`
+/// answers it.
+pub trait Encoder {
+    ghost use Rattle.uri_pct.specs.Sets.{TableSet};
+    ghost use Rattle.uri_pct.specs.Tables.{set_of};
+
+    ghost set: { TableSet };
+
+    /// The table of the set.
+    fn table() -> Table
+        ensures { set_of result ≡ set };
+}
+
+/// An encoder of paths.
+pub trait PathEncoder: Encoder {}
+
+/// The encoder of a URI's userinfo (RFC 3986, section 3.2.1).
+#[derive(Clone, Copy)]
+pub struct Userinfo;
+
+impl Encoder for Userinfo {
+    ghost use Rattle.uri_pct.specs.Sets.{userinfo_set};
+
+    ghost set = { userinfo_set };
+
+    #[tactic(auto, using(crate::proofs::Constants::userinfo_table))]
+    fn table() -> Table {
+        table::USERINFO
+    }
+}
+
+/// The encoder of a URI's registered name (RFC 3986, section 3.2.2).
+#[derive(Clone, Copy)]
+pub struct RegName;
+
+impl Encoder for RegName {
+    ghost use Rattle.uri_pct.specs.Sets.{reg_name_set};
+
+    ghost set = { reg_name_set };
+
+    #[tactic(auto, using(crate::proofs::Constants::reg_name_table))]
+    fn table() -> Table {
+        table::REG_NAME
+    }
+}
+
+/// The encoder of a port (RFC 3986, section 3.2.3): decimal digits alone.
+#[derive(Clone, Copy)]
+pub struct Port;
+
+impl Encoder for Port {
+    ghost use Rattle.uri_pct.specs.Sets.{digit_set};
+
+    ghost set = { digit_set };
+
+    #[tactic(auto, using(crate::proofs::Constants::digit_table))]
+    fn table() -> Table {
+        table::DIGIT
+    }
+}
+
+/// The encoder of a URI's path (RFC 3986, section 3.3).
+#[derive(Clone, Copy)]
+pub struct Path;
+
+impl Encoder for Path {
+    ghost use Rattle.uri_pct.specs.Sets.{path_set};
+
+    ghost set = { path_set };
+
+    #[tactic(auto, using(crate::proofs::Constants::path_table))]
+    fn table() -> Table {
+        table::PATH
+    }
+}
+
+impl PathEncoder for Path {}
+
+/// The encoder of a URI's query (RFC 3986, section 3.4).
+#[derive(Clone, Copy)]
+pub struct Query;
+
+impl Encoder for Query {
+    ghost use Rattle.uri_pct.specs.Sets.{query_set};
+
+    ghost set = { query_set };
+
+    #[tactic(auto, using(crate::proofs::Constants::query_table))]
+    fn table() -> Table {
+        table::QUERY
+    }
+}
+
+/// The encoder of a URI's fragment (RFC 3986, section 3.5).
+#[derive(Clone, Copy)]
+pub struct Fragment;
+
+impl Encoder for Fragment {
+    ghost use Rattle.uri_pct.specs.Sets.{fragment_set};
+
+    ghost set = { fragment_set };
+
+    #[tactic(auto, using(crate::proofs::Constants::fragment_table))]
+    fn table() -> Table {
+        table::FRAGMENT
+    }
+}

@@ -1,0 +1,64 @@
+//! Laws of the definitions: each is the contract of a function that does nothing.
+#![tactic(auto, using(crate::proofs::ReadingLaws::reading_laws))]
+
+ghost use Rattle.std.specs.Prelude.{◌≡◌, ℕ, true, false, List, ◌∷◌, ◌++◌, map, All};
+ghost use Rattle.std.specs.Char.{IsScalar, encode_utf8};
+ghost use Rattle.std.specs.List.{list_all};
+ghost use Rattle.uri_pct.specs.Sets.{TableSet, LacksPercent, IsSubset, unreserved_set};
+ghost use Rattle.uri_pct.specs.Tokens.{Token, Char, tokens, token_bytes, print, allows_token, IsValidFor};
+ghost use Rattle.uri_pct.specs.Pieces.{WellFormed, IsOfCharacter, begins_within, bytes_of_pieces, utf8_pieces};
+ghost use Rattle.uri_pct.specs.Reading.{LacksPastAscii, is_printable, lower_token, read_alone, read_tokens, read};
+
+/// What is printed is read back as the tokens that were printed, and the tokens of a text that is
+/// valid for a set may be printed (RFC 3986, sections 2.1 and 6.2.2.1).
+#[doc(hidden)]
+pub fn printing()
+    ensures tokens { (ts : List Token) → list_all is_printable ts ≡ true → tokens (print ts) ≡ ts }
+    ensures valid { (set : TableSet) (ts : List Token) → list_all is_printable ts ≡ true → list_all (allows_token set) ts ≡ true → IsValidFor set (print ts) }
+    ensures printable { (set : TableSet) (text : List ℕ) → LacksPercent set → IsValidFor set text → list_all is_printable (tokens text) ≡ true }
+{}
+
+/// The pieces of bytes are together these bytes, those that are well-formed are characters, and they
+/// are cut wherever a character stands and before every byte but 80 to BF (Unicode, section 3.9).
+#[doc(hidden)]
+pub fn pieces()
+    ensures bytes { (bytes : List ℕ) → bytes_of_pieces (utf8_pieces bytes) ≡ bytes }
+    ensures characters { (bytes : List ℕ) → All IsOfCharacter (utf8_pieces bytes) }
+    ensures around_char { (before : List ℕ) (c : ℕ) (behind : List ℕ) → IsScalar c → utf8_pieces (before ++ (encode_utf8 c ++ behind)) ≡ utf8_pieces before ++ WellFormed (encode_utf8 c) ∷ utf8_pieces behind }
+    ensures between { (before behind : List ℕ) → begins_within behind ≡ false → utf8_pieces (before ++ behind) ≡ utf8_pieces before ++ utf8_pieces behind }
+{}
+
+/// Reading changes no bytes, what is read of a text that is valid for a set is valid for it, and a
+/// character that stands for itself parts what is read before it from what is read behind it.
+#[doc(hidden)]
+pub fn reading()
+    ensures bytes { (set : TableSet) (text : List ℕ) → token_bytes (read set text) ≡ token_bytes (tokens text) }
+    ensures allowed { (set : TableSet) (text : List ℕ) → IsSubset unreserved_set set → IsValidFor set text → list_all (allows_token set) (read set text) ≡ true }
+    ensures valid { (set : TableSet) (text : List ℕ) → LacksPercent set → IsSubset unreserved_set set → IsValidFor set text → IsValidFor set (print (read set text)) }
+    ensures printable { (set : TableSet) (ts : List Token) → list_all is_printable ts ≡ true → list_all is_printable (read_tokens set ts) ≡ true }
+    ensures around_char { (set : TableSet) (before : List Token) (c : ℕ) (behind : List Token) → read_tokens set (before ++ Char c ∷ behind) ≡ read_tokens set before ++ Char c ∷ read_tokens set behind }
+{}
+
+/// In a URI each octet is read by itself (RFC 3986, section 6.2.2.2), which is the reading of an IRI
+/// (RFC 3987, section 5.3.2.3) at a set with no character past ASCII.
+#[doc(hidden)]
+pub fn reading_of_a_uri()
+    ensures { (set : TableSet) (text : List ℕ) → LacksPastAscii set → read set text ≡ map read_alone (tokens text) }
+{}
+
+/// Reading twice is reading once.
+#[doc(hidden)]
+pub fn reading_twice()
+    ensures tokens { (set : TableSet) (ts : List Token) → read_tokens set (read_tokens set ts) ≡ read_tokens set ts }
+    ensures text { (set : TableSet) (text : List ℕ) → list_all is_printable (tokens text) ≡ true → read set (print (read set text)) ≡ read set text }
+{}
+
+/// The reading with its letters lowered is read as itself, and a set that allows the reading allows it.
+#[doc(hidden)]
+pub fn reading_lowered()
+    ensures tokens { (set : TableSet) (ts : List Token) → read_tokens set (map lower_token (read_tokens set ts)) ≡ map lower_token (read_tokens set ts) }
+    ensures text { (set : TableSet) (text : List ℕ) → list_all is_printable (tokens text) ≡ true → read set (print (map lower_token (read set text))) ≡ map lower_token (read set text) }
+    ensures twice { (ts : List Token) → map lower_token (map lower_token ts) ≡ map lower_token ts }
+    ensures printable { (ts : List Token) → list_all is_printable ts ≡ true → list_all is_printable (map lower_token ts) ≡ true }
+    ensures allowed { (set : TableSet) (ts : List Token) → IsSubset unreserved_set set → list_all (allows_token set) ts ≡ true → list_all (allows_token set) (map lower_token ts) ≡ true }
+{}
