@@ -1,3 +1,4 @@
+pub mod Addresses
 pub mod Components
 pub mod Errors
 pub mod Grammar
