@@ -10,3 +10,4 @@ pub mod Relative
 pub mod Texts
 pub mod Places
 mod Rows
+mod AuthorityRows
