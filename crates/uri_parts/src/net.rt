@@ -72,7 +72,8 @@ impl fmt::Display for Ipv6Addr {
     ghost output = { λ a. Some (ipv6_text (ipv6_segments a)) };
 
     fn fmt<W: fmt::Write>(&self, f: &mut fmt::Formatter<W>) -> fmt::Result {
-        fmt::Display::fmt(&self.0, f)
+        let Ipv6Addr(address) = self;
+        fmt::Display::fmt(address, f)
     }
 }
 
