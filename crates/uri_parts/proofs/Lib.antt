@@ -3,6 +3,7 @@ pub mod Marks
 pub mod Splits
 pub mod Recompose
 pub mod Next
+pub mod AuthorityCuts
 pub mod Separations
 pub mod Stops
 pub mod Accepts

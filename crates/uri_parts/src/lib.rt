@@ -1,10 +1,14 @@
 //! The parts of a reference: its components, and the grammar of each kind.
 #![tactic(auto)]
 
+#[doc(hidden)]
+pub mod authority;
 pub mod component;
 #[doc(hidden)]
 pub mod core_text;
 pub mod error;
+#[doc(hidden)]
+pub mod fault;
 #[doc(hidden)]
 pub mod grammar;
 #[doc(hidden)]
@@ -18,3 +22,5 @@ pub mod positions;
 pub mod reader;
 #[doc(hidden)]
 pub mod rules;
+#[doc(hidden)]
+pub mod slicing;
