@@ -12,4 +12,6 @@ pub mod Places
 mod Rows
 pub mod Addresses
 pub mod Spelt
+pub mod Futures
+pub mod Hosts
 mod AuthorityRows
