@@ -63,7 +63,7 @@ at_name : (names : TableSet) (text : List ℕ) → starts 91 text ≡ false →
 unfolding host_kind is_host
 at_name names text e = (cond-false _ _ _ e, cond-false _ _ _ e)
 
-lacks_starts : (marks text : List ℕ) (c : ℕ) → is_one_of marks c ≡ true → Lacks marks text → starts c text ≡ false
+pub lacks_starts : (marks text : List ℕ) (c : ℕ) → is_one_of marks c ≡ true → Lacks marks text → starts c text ≡ false
 lacks_starts marks [] c m h = refl
 lacks_starts marks (d ∷ text) c m h = ⊎_elim
     (λ e. absurd (both_ways _ (h 0 0 (omega arith)) (subst (λ x. is_one_of marks x ≡ true) (sym (eqb-true d c e)) m)))
@@ -97,11 +97,11 @@ bracket_outside : excludes ipv_future_set (codes "]") ≡ true
 unfolding is_userinfo_char is_reg_name_char is_unreserved is_sub_delim
 bracket_outside = refl
 
-name_marks_outside : excludes reg_name_set (codes "@:[") ≡ true
+pub name_marks_outside : excludes reg_name_set (codes "@:[") ≡ true
 unfolding is_reg_name_char is_unreserved is_sub_delim
 name_marks_outside = refl
 
-utf8_bracketed : (address : List ℕ) → IsUtf8 (bracketed address) → IsUtf8 address
+pub utf8_bracketed : (address : List ℕ) → IsUtf8 (bracketed address) → IsUtf8 address
 utf8_bracketed address u = (utf8_apart address 93 [] (omega arith) (utf8_tail 91 (address ++ codes "]") (omega arith) u)).0
 
 module _ (names : TableSet) (percent : LacksPercent names) (outside : excludes names (codes "@:[") ≡ true) where

@@ -14,4 +14,5 @@ pub mod Addresses
 pub mod Spelt
 pub mod Futures
 pub mod Hosts
+pub mod Authority
 mod AuthorityRows
