@@ -1,14 +1,14 @@
 -- An authority has one cut, and passes its test exactly if the parts of that cut meet the grammar.
-use Rattle.std.proofs.Common.{◌≡◌, ℕ, zero, suc, ◌+◌, ◌<◌, ◌≤◌, Bool, true, false, not, eqb, ltb, List, [], ◌∷◌, ◌++◌, length, drop, refl, sym, ap, subst, ◌∙◌, arith, ◌||◌, ◌&&◌, ⊎_elim, inl, inr, ◌⊎◌, append_assoc, append-nil}
+use Rattle.std.proofs.Common.{◌≡◌, ℕ, zero, suc, Bool, true, false, not, eqb, ltb, List, [], ◌∷◌, ◌++◌, drop, refl, sym, ap, subst, ◌∙◌, arith, ◌||◌, ◌&&◌, ⊎_elim, inl, inr, ◌⊎◌, append_assoc, append-nil}
 use Rattle.std.specs.Prelude.{codes, bytes_eq, Option, Some, None, IfSome}
 use Rattle.std.specs.List.{list_any, list_all}
 use Rattle.std.specs.Char.{is_ascii_hexdigit}
 use Rattle.std.specs.Option.{option_map_or}
 use Rattle.std.specs.Str.{IsUtf8}
-use Rattle.std.proofs.lemmas.Bool.{and_from, and_parts, eqb-true, cond-true, cond-false, false≢true, true≢false, both_ways, cases_Bool}
+use Rattle.std.proofs.lemmas.Bool.{and_from, and_parts, cond-true, cond-false, true≢false, both_ways, cases_Bool}
 use Rattle.std.proofs.lemmas.Bool.Decides.{nat_tests}
 use Rattle.std.proofs.lemmas.Slice.Eq.{bytes_eq-Decides}
-use Rattle.uri_pct.specs.Sets.{TableSet, LacksPercent, is_one_of, digit_set, ipv_future_set, reg_name_set, is_userinfo_char, is_reg_name_char, is_unreserved, is_sub_delim}
+use Rattle.uri_pct.specs.Sets.{TableSet, is_one_of, digit_set, ipv_future_set, is_userinfo_char, is_reg_name_char, is_unreserved, is_sub_delim}
 use Rattle.uri_pct.specs.Tokens.{is_valid_for, IsValidFor}
 use Rattle.uri_pct.proofs.Cuts.{excludes}
 use Rattle.uri_parts.specs.Components.{Lacks, before_any, from_any, starts, marked, when}
@@ -16,9 +16,8 @@ use Rattle.uri_parts.specs.Hosts.{HostKind, Ipv4, Ipv6, IpvFuture, RegName, IsHo
 use Rattle.uri_parts.specs.Authority.{AuthorityParts, authority_text, IsAuthorityFor, KeepsApart, behind_userinfo, host_before, behind_host, authority_parts, is_authority_for}
 use Rattle.uri_parts.proofs.Cuts.{cut-append, Begins}
 use Rattle.uri_parts.proofs.Spelt.{utf8_apart, valid_lacks}
-use Rattle.uri_parts.proofs.Stops.{utf8_tail}
 use Rattle.uri_parts.proofs.Futures.{ipv4_lacks, ipv6_lacks, ipv_future_lacks, lacks_append}
-use Rattle.uri_parts.proofs.Hosts.{lacks_starts, utf8_bracketed, is_host-sound, IsFound, is_host-complete, name_marks_outside}
+use Rattle.uri_parts.proofs.Hosts.{lacks_starts, utf8_bracketed, is_host-sound, is_host-complete, name_marks_outside}
 
 none_of : (a b : Bool) → (a || b) ≡ false → (a ≡ false) × (b ≡ false)
 none_of false b e = (refl, e)
@@ -170,7 +169,7 @@ module _ (users names : TableSet) (apart : KeepsApart users names) where
   users_outside : excludes users (codes "@") ≡ true
   users_outside = outside_from users (codes "@") refl apart.users_marks
 
-  names_outside : excludes names (codes "@:[") ≡ true
+  pub names_outside : excludes names (codes "@:[") ≡ true
   names_outside = outside_from names (codes "@:[") refl apart.names_marks
 
   user_lacks : (userinfo : Option (List ℕ)) → IfSome userinfo IsUtf8 → IfSome userinfo (IsValidFor users) → IfSome userinfo (Lacks (codes "@"))

@@ -1,19 +1,19 @@
 -- The test of an IPvFuture address is its grammar; and what no address in brackets holds.
-use Rattle.std.proofs.Common.{◌≡◌, ℕ, zero, suc, ◌+◌, ◌<◌, ◌≤◌, ◌^◌, Bool, true, false, not, eqb, ltb, List, [], ◌∷◌, ◌++◌, length, get_or, drop, All, refl, sym, ap, subst, ◌∙◌, arith, ◌||◌, ◌&&◌, ⊎_elim, inl, inr}
+use Rattle.std.proofs.Common.{◌≡◌, ℕ, zero, suc, ◌<◌, ◌^◌, Bool, true, false, not, eqb, ltb, List, [], ◌∷◌, ◌++◌, length, get_or, drop, All, refl, sym, ap, subst, ◌∙◌, arith, ◌&&◌, ⊎_elim, inl, inr}
 use Rattle.std.specs.Prelude.{codes}
 use Rattle.std.specs.Char.{is_ascii_hexdigit}
 use Rattle.std.specs.Str.{IsUtf8}
 use Rattle.std.specs.Net.Grammar.{IsDotted, IsColonHex}
 use Rattle.std.proofs.lemmas.List.Elements.{All-nil, All-cons, All-append}
 use Rattle.std.proofs.NetLemmas.Alphabet.{IsDigitOrDot, All-ipv4_text}
-use Rattle.std.proofs.lemmas.Bool.{and_from, and_parts, eqb-true, lt-ltb, ltb-true, false≢true, both_ways, cases_Bool}
+use Rattle.std.proofs.lemmas.Bool.{and_from, and_parts, lt-ltb, ltb-true, false≢true, both_ways, cases_Bool}
 use Rattle.std.proofs.lemmas.Bool.Decides.{nat_tests}
 use Rattle.uri_pct.specs.Sets.{TableSet, LacksPercent, is_one_of, hexdig_set, reg_name_set, ipv_future_set, is_userinfo_char, is_reg_name_char, is_unreserved, is_sub_delim}
 use Rattle.uri_pct.specs.Tokens.{is_valid_for}
 use Rattle.uri_pct.proofs.Cuts.{excludes}
-use Rattle.uri_parts.specs.Components.{Lacks, before_any, from_any, starts}
+use Rattle.uri_parts.specs.Components.{Lacks, before_any, from_any}
 use Rattle.uri_parts.specs.Hosts.{IsIpvFuture, is_ipv_future, is_future_address}
-use Rattle.uri_parts.proofs.Cuts.{cut-append, IsCut-any, Begins}
+use Rattle.uri_parts.proofs.Cuts.{cut-append, IsCut-any}
 use Rattle.uri_parts.proofs.Stops.{utf8_tail}
 use Rattle.uri_parts.proofs.Spelt.{utf8_apart, mark_outside, valid_lacks, starts_cons}
 use Rattle.uri_parts.proofs.Addresses.{is_address_char, address_text-ipv6, address_text-lacks}

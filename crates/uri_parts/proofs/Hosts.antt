@@ -1,19 +1,18 @@
 -- The test of a host is its grammar, and a text is a host of one kind.
-use Rattle.std.proofs.Common.{◌≡◌, ℕ, ◌+◌, ◌<◌, ◌≤◌, Bool, true, false, eqb, List, [], ◌∷◌, ◌++◌, length, drop, refl, sym, ap, subst, ◌∙◌, arith, ◌||◌, ◌&&◌, ⊎_elim, inl, inr, ◌⊎◌, Option, Some, None}
+use Rattle.std.proofs.Common.{◌≡◌, ℕ, true, false, eqb, List, [], ◌∷◌, ◌++◌, refl, sym, ap, subst, ◌∙◌, arith, ◌||◌, ◌&&◌, ⊎_elim, inl, inr, ◌⊎◌, Option, Some, None}
 use Rattle.std.specs.Prelude.{codes, bytes_eq, is_some}
 use Rattle.std.specs.Str.{IsUtf8}
-use Rattle.std.specs.Net.Grammar.{IsDotted, IsColonHex}
-use Rattle.std.proofs.lemmas.Bool.{and_from, and_parts, or_left, or_right, or_from, or_cases, eqb-true, cond-true, cond-false, false≢true, true≢false, both_ways, cases_Bool}
+use Rattle.std.proofs.lemmas.Bool.{and_parts, or_right, eqb-true, cond-true, cond-false, both_ways, cases_Bool}
 use Rattle.std.proofs.lemmas.Bool.Decides.{nat_tests}
 use Rattle.std.proofs.lemmas.Slice.Eq.{bytes_eq-Decides}
 use Rattle.std.proofs.lemmas.Option.{none-some}
 use Rattle.uri_pct.specs.Sets.{TableSet, LacksPercent, is_one_of, ipv_future_set, reg_name_set, is_userinfo_char, is_reg_name_char, is_unreserved, is_sub_delim}
-use Rattle.uri_pct.specs.Tokens.{is_valid_for, IsValidFor}
+use Rattle.uri_pct.specs.Tokens.{is_valid_for}
 use Rattle.uri_pct.proofs.Cuts.{excludes}
-use Rattle.uri_parts.specs.Components.{Lacks, before_any, from_any, starts}
-use Rattle.uri_parts.specs.Hosts.{HostKind, Ipv4, Ipv6, IpvFuture, RegName, IsHost, IsIpvFuture, IsIpv4Text, IsIpv6Text, bracketed, literal_of, literal_kind, name_kind, ipv4_value, ipv6_value, is_ipv_future, host_kind, is_host}
+use Rattle.uri_parts.specs.Components.{Lacks, starts}
+use Rattle.uri_parts.specs.Hosts.{HostKind, Ipv4, Ipv6, IpvFuture, RegName, IsHost, IsIpvFuture, IsIpv4Text, bracketed, literal_of, literal_kind, name_kind, ipv4_value, ipv6_value, is_ipv_future, host_kind, is_host}
 use Rattle.uri_parts.proofs.Cuts.{cut-append}
-use Rattle.uri_parts.proofs.Spelt.{utf8_apart, valid_lacks, starts_cons}
+use Rattle.uri_parts.proofs.Spelt.{utf8_apart, valid_lacks}
 use Rattle.uri_parts.proofs.Stops.{utf8_tail}
 use Rattle.uri_parts.proofs.Addresses.{is_address_char, is_address_text, address_text-ipv6, address_text-first, ipv4_value-complete, ipv4_value-sound, ipv6_value-complete, ipv6_value-sound}
 use Rattle.uri_parts.proofs.Futures.{is_ipv_future-complete, is_ipv_future-sound, ipv4_lacks, ipv6_lacks, ipv_future_lacks}
