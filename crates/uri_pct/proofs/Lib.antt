@@ -8,3 +8,13 @@ pub mod Tables
 pub mod Percent
 pub mod Constants
 pub mod EStrs
+pub mod Pieces
+pub mod CharacterPieces
+pub mod Printing
+pub mod Allowed
+pub mod Reading
+pub mod Rereading
+pub mod Octets
+pub mod ReadingLaws
+mod ReadingRows
+pub mod Lossy

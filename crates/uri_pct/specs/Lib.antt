@@ -4,3 +4,5 @@ pub mod Fronts
 pub mod Masks
 pub mod Tables
 pub mod EStrs
+pub mod Pieces
+pub mod Reading

@@ -1,69 +1,76 @@
-//! Laws of the constants: a contract names such a value only where a function returns it.
-ghost use Rattle.std.specs.Prelude.{◌≡◌};
-ghost use Rattle.uri_pct.specs.Sets.{alpha_set, digit_set, hexdig_set, scheme_set, userinfo_set, ipv_future_set, reg_name_set, path_set, segment_nz_nc_set, pchar_set, query_set, fragment_set, unreserved_set, reserved_set, gen_delims_set, sub_delims_set};
-ghost use Rattle.uri_pct.specs.Tables.{set_of};
+//! Laws of the definitions: each is the contract of a function that does nothing.
+#![tactic(auto, using(crate::proofs::ReadingLaws::reading_laws))]
 
-use crate::table::{
-    ALPHA, DIGIT, FRAGMENT, GEN_DELIMS, HEXDIG, IPV_FUTURE, PATH, PCHAR, QUERY, REG_NAME, RESERVED,
-    SCHEME, SEGMENT_NZ_NC, SUB_DELIMS, Table, UNRESERVED, USERINFO,
-};
+ghost use Rattle.std.specs.Prelude.{◌≡◌, ◌↔◌, ℕ, true, false, List, ◌∷◌, ◌++◌, map, All};
+ghost use Rattle.std.specs.Char.{IsScalar, encode_utf8};
+ghost use Rattle.std.specs.List.{list_all};
+ghost use Rattle.std.specs.Str.{IsUtf8};
+ghost use Rattle.std.specs.Str.Lossy.{utf8_lossy};
+ghost use Rattle.uri_pct.specs.Sets.{TableSet, LacksPercent, IsSubset, unreserved_set};
+ghost use Rattle.uri_pct.specs.Tokens.{Token, Char, Octet, tokens, token_bytes, print, allows_token, IsValidFor};
+ghost use Rattle.uri_pct.specs.Pieces.{WellFormed, IsOfCharacter, is_well_formed, begins_within, bytes_of_pieces, utf8_pieces, lossy_text};
+ghost use Rattle.uri_pct.specs.Reading.{LacksPastAscii, is_printable, is_readable, lower_token, read_alone, read_tokens, read};
 
-/// A table for each rule that has one.
-pub struct Rules {
-    pub alpha: Table,
-    pub digit: Table,
-    pub hexdig: Table,
-    pub scheme: Table,
-    pub userinfo: Table,
-    pub ipv_future: Table,
-    pub reg_name: Table,
-    pub path: Table,
-    pub segment_nz_nc: Table,
-    pub pchar: Table,
-    pub query: Table,
-    pub fragment: Table,
-    pub unreserved: Table,
-    pub reserved: Table,
-    pub gen_delims: Table,
-    pub sub_delims: Table,
-}
+/// What is printed is read back as the tokens that were printed, and the tokens of a text that is
+/// valid for a set may be printed (RFC 3986, sections 2.1 and 6.2.2.1).
+#[doc(hidden)]
+pub fn printing()
+    ensures tokens { (ts : List Token) → list_all is_printable ts ≡ true → tokens (print ts) ≡ ts }
+    ensures valid { (set : TableSet) (ts : List Token) → list_all is_printable ts ≡ true → list_all (allows_token set) ts ≡ true → IsValidFor set (print ts) }
+    ensures printable { (set : TableSet) (text : List ℕ) → LacksPercent set → IsValidFor set text → list_all is_printable (tokens text) ≡ true }
+{}
 
-/// The constants, each under the name of its rule: it is the set of that rule.
-#[tactic(auto, using(crate::proofs::Constants::constant_tables))]
-pub fn constants() -> Rules
-    ensures alpha { set_of result.alpha ≡ alpha_set }
-    ensures digit { set_of result.digit ≡ digit_set }
-    ensures hexdig { set_of result.hexdig ≡ hexdig_set }
-    ensures scheme { set_of result.scheme ≡ scheme_set }
-    ensures userinfo { set_of result.userinfo ≡ userinfo_set }
-    ensures ipv_future { set_of result.ipv_future ≡ ipv_future_set }
-    ensures reg_name { set_of result.reg_name ≡ reg_name_set }
-    ensures path { set_of result.path ≡ path_set }
-    ensures segment_nz_nc { set_of result.segment_nz_nc ≡ segment_nz_nc_set }
-    ensures pchar { set_of result.pchar ≡ pchar_set }
-    ensures query { set_of result.query ≡ query_set }
-    ensures fragment { set_of result.fragment ≡ fragment_set }
-    ensures unreserved { set_of result.unreserved ≡ unreserved_set }
-    ensures reserved { set_of result.reserved ≡ reserved_set }
-    ensures gen_delims { set_of result.gen_delims ≡ gen_delims_set }
-    ensures sub_delims { set_of result.sub_delims ≡ sub_delims_set }
-{
-    Rules {
-        alpha: ALPHA,
-        digit: DIGIT,
-        hexdig: HEXDIG,
-        scheme: SCHEME,
-        userinfo: USERINFO,
-        ipv_future: IPV_FUTURE,
-        reg_name: REG_NAME,
-        path: PATH,
-        segment_nz_nc: SEGMENT_NZ_NC,
-        pchar: PCHAR,
-        query: QUERY,
-        fragment: FRAGMENT,
-        unreserved: UNRESERVED,
-        reserved: RESERVED,
-        gen_delims: GEN_DELIMS,
-        sub_delims: SUB_DELIMS,
-    }
-}
+/// The pieces of bytes are together these bytes, those that are well-formed are characters, and they
+/// are cut wherever a character stands and before every byte but 80 to BF (Unicode, section 3.9).
+#[doc(hidden)]
+pub fn pieces()
+    ensures bytes { (bytes : List ℕ) → bytes_of_pieces (utf8_pieces bytes) ≡ bytes }
+    ensures characters { (bytes : List ℕ) → All IsOfCharacter (utf8_pieces bytes) }
+    ensures around_char { (before : List ℕ) (c : ℕ) (behind : List ℕ) → IsScalar c → utf8_pieces (before ++ (encode_utf8 c ++ behind)) ≡ utf8_pieces before ++ WellFormed (encode_utf8 c) ∷ utf8_pieces behind }
+    ensures between { (before behind : List ℕ) → begins_within behind ≡ false → utf8_pieces (before ++ behind) ≡ utf8_pieces before ++ utf8_pieces behind }
+{}
+
+/// Bytes are UTF-8 exactly where no piece is ill-formed, and the lossy text is that of std's
+/// `String::from_utf8_lossy`.
+#[doc(hidden)]
+pub fn lossy()
+    ensures whole { (bytes : List ℕ) → (list_all is_well_formed (utf8_pieces bytes) ≡ true) ↔ IsUtf8 bytes }
+    ensures text { (bytes : List ℕ) → lossy_text bytes ≡ utf8_lossy bytes }
+{}
+
+/// Reading changes no bytes, what is read of a text that is valid for a set is valid for it, a
+/// character that stands for itself parts what is read before it from what is read behind it, and the
+/// octets of a readable character are read as it is, wherever they stand.
+#[doc(hidden)]
+pub fn reading()
+    ensures bytes { (set : TableSet) (text : List ℕ) → token_bytes (read set text) ≡ token_bytes (tokens text) }
+    ensures allowed { (set : TableSet) (text : List ℕ) → IsSubset unreserved_set set → IsValidFor set text → list_all (allows_token set) (read set text) ≡ true }
+    ensures valid { (set : TableSet) (text : List ℕ) → LacksPercent set → IsSubset unreserved_set set → IsValidFor set text → IsValidFor set (print (read set text)) }
+    ensures printable { (set : TableSet) (ts : List Token) → list_all is_printable ts ≡ true → list_all is_printable (read_tokens set ts) ≡ true }
+    ensures around_char { (set : TableSet) (before : List Token) (c : ℕ) (behind : List Token) → read_tokens set (before ++ Char c ∷ behind) ≡ read_tokens set before ++ Char c ∷ read_tokens set behind }
+    ensures encoded { (set : TableSet) (before : List Token) (c : ℕ) (behind : List Token) → IsScalar c → is_readable set c ≡ true → read_tokens set (before ++ (map Octet (encode_utf8 c) ++ behind)) ≡ read_tokens set (before ++ Char c ∷ behind) }
+{}
+
+/// In a URI each octet is read by itself (RFC 3986, section 6.2.2.2), which is the reading of an IRI
+/// (RFC 3987, section 5.3.2.3) at a set with no character past ASCII.
+#[doc(hidden)]
+pub fn reading_of_a_uri()
+    ensures { (set : TableSet) (text : List ℕ) → LacksPastAscii set → read set text ≡ map read_alone (tokens text) }
+{}
+
+/// Reading twice is reading once.
+#[doc(hidden)]
+pub fn reading_twice()
+    ensures tokens { (set : TableSet) (ts : List Token) → read_tokens set (read_tokens set ts) ≡ read_tokens set ts }
+    ensures text { (set : TableSet) (text : List ℕ) → list_all is_printable (tokens text) ≡ true → read set (print (read set text)) ≡ read set text }
+{}
+
+/// The reading with its letters lowered is read as itself, and a set that allows the reading allows it.
+#[doc(hidden)]
+pub fn reading_lowered()
+    ensures tokens { (set : TableSet) (ts : List Token) → read_tokens set (map lower_token (read_tokens set ts)) ≡ map lower_token (read_tokens set ts) }
+    ensures text { (set : TableSet) (text : List ℕ) → list_all is_printable (tokens text) ≡ true → read set (print (map lower_token (read set text))) ≡ map lower_token (read set text) }
+    ensures twice { (ts : List Token) → map lower_token (map lower_token ts) ≡ map lower_token ts }
+    ensures printable { (ts : List Token) → list_all is_printable ts ≡ true → list_all is_printable (map lower_token ts) ≡ true }
+    ensures allowed { (set : TableSet) (ts : List Token) → IsSubset unreserved_set set → list_all (allows_token set) ts ≡ true → list_all (allows_token set) (map lower_token ts) ≡ true }
+{}

@@ -5,6 +5,10 @@ pub mod encoder;
 #[doc(hidden)]
 pub mod laws;
 pub mod pct_enc;
+#[doc(hidden)]
+pub mod rules;
+#[doc(hidden)]
 pub mod scan;
 pub mod table;
+#[doc(hidden)]
 pub mod utf8;

@@ -1,0 +1,32 @@
+#!/bin/sh
+# Each file of must-not-compile/ is the source of a crate over fluent_uri that the check must refuse. Its first line,
+# `expect: NAME`, names the error. Nothing is proved here: the errors are those of types and borrows.
+set -eu
+root=$(cd "$(dirname "$0")/.." && pwd)
+work=$(mktemp -d)
+trap 'rm -rf "$work"' EXIT
+trap 'exit 1' HUP INT TERM
+
+cp -R "$root/crates" "$root/crates.txt" "$root/HANDLES" "$work/"
+echo 'refused: fluent_uri' >> "$work/crates.txt"
+crate=$work/crates/refused
+mkdir -p "$crate/src" "$crate/specs"
+: > "$crate/specs/Lib.antt"
+
+failed=0
+for source in "$root"/.ci/must-not-compile/*.txt; do
+    name=$(basename "$source" .txt)
+    expected=$(sed -n '1s/^expect: //p' "$source")
+    { echo '#![tactic(auto)]'; sed 1d "$source"; } > "$crate/src/lib.rt"
+    if said=$(cd "$crate" && rt check --jobs 1 --only "" 2>&1); then
+        echo "must not compile, and does: $name"
+        failed=1
+    elif [ -z "$expected" ] || ! printf '%s\n' "$said" | grep -qF "error[$expected]"; then
+        echo "must not compile by error[$expected], and does not for another reason: $name"
+        printf '%s\n' "$said" | grep 'error' || printf '%s\n' "$said"
+        failed=1
+    else
+        echo "does not compile, as it must not: $name: error[$expected]"
+    fi
+done
+exit $failed
