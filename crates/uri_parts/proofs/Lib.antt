@@ -15,4 +15,8 @@ pub mod Places
 mod Rows
 pub mod Parts
 pub mod Addresses
+pub mod Spelt
+pub mod Futures
+pub mod Hosts
+pub mod Authority
 mod AuthorityRows
