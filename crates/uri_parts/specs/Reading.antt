@@ -56,12 +56,15 @@ found_length kind rest =
     else (if is_name_and_port kind rest then front kind.reg_name rest + 1 + front digit_set (drop 1 (after kind.reg_name rest))
     else length (before_any (codes "/?#") rest))
 
+-- an authority with no userinfo, from its beginning to the end of the host and to its own
+abbrev pub name_at : ℕ → ℕ → ℕ → AuthorityPositions
+name_at place name_end end = record { start = place; host_start = place; host_end = name_end; end = end }
+
 unfoldable pub found_authority : Kind → ℕ → List ℕ → AuthorityPositions
 found_authority kind place rest =
     let name_end = place + front kind.reg_name rest in
-    let name = λ (end : ℕ). record { start = place; host_start = place; host_end = name_end; end = end } in
-    if is_plain_name kind rest then name name_end
-    else (if is_name_and_port kind rest then name (name_end + 1 + front digit_set (drop 1 (after kind.reg_name rest)))
+    if is_plain_name kind rest then name_at place name_end name_end
+    else (if is_name_and_port kind rest then name_at place name_end (name_end + 1 + front digit_set (drop 1 (after kind.reg_name rest)))
     else authority_at place (before_any (codes "/?#") rest))
 
 -- an authority, and what follows it

@@ -1,8 +1,6 @@
 //! The parts of a reference: its components, and the grammar of each kind.
 #![tactic(auto)]
 
-#[doc(hidden)]
-pub mod authority;
 pub mod component;
 #[doc(hidden)]
 pub mod core_text;
@@ -11,6 +9,8 @@ pub mod error;
 pub mod fault;
 #[doc(hidden)]
 pub mod grammar;
+#[doc(hidden)]
+pub mod host_places;
 #[doc(hidden)]
 pub mod laws;
 pub mod net;

@@ -8,7 +8,7 @@ ghost use Rattle.uri_parts.specs.Positions.{AreAt};
 ghost use Rattle.uri_parts.specs.Readers.{rest_of, text_of, place_of};
 ghost use Rattle.uri_parts.specs.Reading.{reads_fragment, reads_end, reads_path, finds_authority, found_length, found_authority, reads_authority, reads_relative, reads_hier, reads_schemeless, reads, query_end_at, path_positions, authority_positions, relative_positions, hier_positions, schemeless_positions, read_positions};
 
-use crate::authority::find_host;
+use crate::host_places::find_host;
 use crate::error::ParseError;
 use crate::fault::authority_fault;
 use crate::grammar::{Grammar, uri_ref_grammar};
@@ -73,7 +73,7 @@ fn read_path(
 }
 
 /// An authority: where it lies, and its host.
-#[tactic(auto, using(uri_pct::proofs::Constants::digit_table), unfolding(crate::specs::Reading::finds_authority, crate::specs::Reading::is_plain_name, crate::specs::Reading::is_name_and_port, crate::specs::Reading::found_length, crate::specs::Reading::found_authority))]
+#[tactic(auto, using(uri_pct::proofs::Constants::digit_table, crate::proofs::AuthorityCuts::behind_port), unfolding(crate::specs::Reading::finds_authority, crate::specs::Reading::is_plain_name, crate::specs::Reading::is_name_and_port, crate::specs::Reading::found_length, crate::specs::Reading::found_authority))]
 fn find_authority(
     reader: &mut Reader<'_>,
     grammar: &Grammar,

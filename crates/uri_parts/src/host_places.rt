@@ -1,5 +1,5 @@
 //! Where the parts of an authority lie in it (RFC 3986, section 3.2).
-ghost use Rattle.std.specs.Prelude.{◌≡◌, ◌+◌, IfSome, is_some, length};
+ghost use Rattle.std.specs.Prelude.{◌≡◌, ◌≤◌, ◌+◌, IfSome, is_some, length};
 ghost use Rattle.uri_pct.specs.Tables.{set_of};
 ghost use Rattle.uri_parts.specs.Authority.{host_before};
 ghost use Rattle.uri_parts.specs.AuthorityReading.{is_literal, is_name, ends_in_port, reads_host_and_port, reads_whole_authority};
@@ -39,6 +39,7 @@ pub fn is_ipv_future(text: &str) -> bool
 }
 
 /// Whether a text is that of an IPv6 address.
+#[tactic(auto, using(crate::proofs::AuthorityCuts::ipv6_parses))]
 fn is_ipv6(text: &str) -> bool
     ensures { result ≡ is_some (ipv6_value text.now) }
 {
@@ -46,6 +47,7 @@ fn is_ipv6(text: &str) -> bool
 }
 
 /// Whether a text is that of an IPv4 address.
+#[tactic(auto, using(crate::proofs::AuthorityCuts::ipv4_parses))]
 fn is_ipv4(text: &str) -> bool
     ensures { result ≡ is_some (ipv4_value text.now) }
 {
@@ -86,6 +88,7 @@ fn ends_in_port(text: &str) -> bool
 fn find_host_end(names: &Table, text: &str) -> Option<usize>
     ensures accepts { is_some result ≡ reads_host_and_port (set_of names.now) text.now }
     ensures end { IfSome result (λ n. n ≡ length (host_before text.now)) }
+    ensures within { IfSome result (λ n. n ≤ length text.now) }
 {
     if let Some(inside) = after_mark(text, b'[') {
         let (address, behind) = cut_before(inside, b"]");
@@ -112,6 +115,7 @@ pub fn find_host(grammar: &Grammar, authority: &str) -> Option<HostPlaces>
     ensures accepts { is_some result ≡ reads_whole_authority (set_of grammar.now.userinfo) (set_of grammar.now.reg_name) authority.now }
     ensures start { IfSome result (λ h. h.start ≡ host_start_of authority.now) }
     ensures end { IfSome result (λ h. h.end ≡ host_end_of authority.now) }
+    ensures within { IfSome result (λ h. (h.start ≤ h.end) × (h.end ≤ length authority.now)) }
 {
     let (userinfo, behind) = cut_before(authority, b"@");
     let Some(host_and_port) = after_mark(behind, b'@') else {
