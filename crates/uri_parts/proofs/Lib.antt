@@ -21,5 +21,6 @@ pub mod Addresses
 pub mod Spelt
 pub mod Futures
 pub mod Hosts
+pub mod Parsed
 pub mod Authority
 mod AuthorityRows
