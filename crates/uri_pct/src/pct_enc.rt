@@ -15,6 +15,12 @@ pub struct EStr<'a, E: Encoder> {
 }
 
 impl<'a, E: Encoder> Clone for EStr<'a, E> {
+    ghost use Rattle.std.specs.Prelude.{⊤};
+
+    ghost is_clone = { λ e copy. copy ≡ e };
+
+    ghost is_infallible = { λ _. ⊤ };
+
     fn clone(&self) -> Result<Self, AllocError> {
         Ok(*self)
     }
