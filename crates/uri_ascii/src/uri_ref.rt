@@ -42,7 +42,7 @@ impl<T: AsStr + Copy> Copy for UriRef<T> {}
 
 impl<'a> UriRef<&'a str> {
     ghost use Rattle.uri_pct.specs.EStrs.{text_of};
-    ghost use Rattle.uri_parts.specs.Authorities.{authority_text};
+    ghost use Rattle.uri_parts.specs.AuthorityTexts.{authority_text};
     ghost use Rattle.uri_parts.specs.CoreTexts.{core_text};
     ghost use Rattle.uri_parts.specs.Schemes.{scheme_text};
     ghost use Rattle.uri_ascii.specs.UriRefs.{uri_ref_text};

@@ -13,3 +13,5 @@ pub mod KindLemmas
 pub mod Places
 mod Rows
 pub mod Parts
+pub mod Addresses
+mod AuthorityRows

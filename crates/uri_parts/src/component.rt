@@ -69,7 +69,7 @@ impl<'a, U: Encoder, R: Encoder> Clone for Authority<'a, U, R> {
 impl<'a, U: Encoder, R: Encoder> Copy for Authority<'a, U, R> {}
 
 impl<'a, U: Encoder, R: Encoder> Authority<'a, U, R> {
-    ghost use Rattle.uri_parts.specs.Authorities.{authority_text};
+    ghost use Rattle.uri_parts.specs.AuthorityTexts.{authority_text};
 
     #[doc(hidden)]
     pub fn new_unchecked(text: &'a str) -> Self

@@ -35,7 +35,7 @@ impl<'a, K: Rules> Copy for CoreText<'a, K> {}
 impl<'a, K: Encoders> CoreText<'a, K> {
     ghost use Rattle.uri_pct.specs.EStrs.{text_of};
     ghost use Rattle.uri_parts.specs.Schemes.{scheme_text};
-    ghost use Rattle.uri_parts.specs.Authorities.{authority_text};
+    ghost use Rattle.uri_parts.specs.AuthorityTexts.{authority_text};
     ghost use Rattle.uri_parts.specs.CoreTexts.{core_text};
 
     /// The text with the positions of its own components.

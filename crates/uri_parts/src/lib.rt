@@ -9,6 +9,7 @@ pub mod error;
 pub mod grammar;
 #[doc(hidden)]
 pub mod laws;
+pub mod net;
 #[doc(hidden)]
 pub mod parse;
 #[doc(hidden)]
