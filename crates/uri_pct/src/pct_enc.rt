@@ -58,6 +58,7 @@ impl<'a, E: Encoder> EStr<'a, E> {
         EStr::new_unchecked(text)
     }
 
+    /// The text as it stands, with no test.
     #[doc(hidden)]
     pub fn new_unchecked(text: &'a str) -> Self
         requires { IsValidFor E.set text.now }
