@@ -9,5 +9,9 @@ pub mod Accepts
 pub mod Relative
 pub mod Texts
 pub mod ReadPositions
+pub mod KindLemmas
 pub mod Places
 mod Rows
+pub mod Parts
+pub mod Addresses
+mod AuthorityRows
