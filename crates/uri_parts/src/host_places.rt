@@ -8,7 +8,7 @@ ghost use Rattle.uri_parts.specs.Positions.{host_start_of, host_end_of};
 
 use crate::slicing::{after_mark, cut_before};
 use crate::grammar::Grammar;
-use std::net::{Ipv4Addr, Ipv6Addr};
+use crate::net::{Ipv4Addr, Ipv6Addr};
 use uri_pct::table::{DIGIT, HEXDIG, IPV_FUTURE, Table};
 
 /// Where a host begins and ends: byte offsets.
@@ -38,29 +38,13 @@ pub fn is_ipv_future(text: &str) -> bool
         && IPV_FUTURE.allows_text(address)
 }
 
-/// Whether a text is that of an IPv6 address.
-#[tactic(auto, using(crate::proofs::AuthorityCuts::ipv6_parses))]
-fn is_ipv6(text: &str) -> bool
-    ensures { result ≡ is_some (ipv6_value text.now) }
-{
-    Ipv6Addr::parse_ascii(text.as_bytes()).is_ok()
-}
-
-/// Whether a text is that of an IPv4 address.
-#[tactic(auto, using(crate::proofs::AuthorityCuts::ipv4_parses))]
-fn is_ipv4(text: &str) -> bool
-    ensures { result ≡ is_some (ipv4_value text.now) }
-{
-    Ipv4Addr::parse_ascii(text.as_bytes()).is_ok()
-}
-
 /// Whether a text may stand between the brackets of a host.
 #[doc(hidden)]
 #[tactic(auto, unfolding(crate::specs::AuthorityReading::is_literal))]
 pub fn is_literal(text: &str) -> bool
     ensures { result ≡ is_literal text.now }
 {
-    is_ipv6(text) || is_ipv_future(text)
+    Ipv6Addr::read(text).is_some() || is_ipv_future(text)
 }
 
 /// Whether a text is a host in no brackets.
@@ -68,7 +52,7 @@ pub fn is_literal(text: &str) -> bool
 fn is_name(table: &Table, text: &str) -> bool
     ensures { result ≡ is_name (set_of table.now) text.now }
 {
-    is_ipv4(text) || table.allows_text(text)
+    Ipv4Addr::read(text).is_some() || table.allows_text(text)
 }
 
 /// Whether nothing is left behind a host, or `:` and a port.
