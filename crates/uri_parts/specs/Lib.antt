@@ -8,6 +8,7 @@ pub mod Errors
 pub mod Grammar
 pub mod Grammars
 pub mod Hosts
+pub mod Literals
 pub mod Positions
 pub mod Readers
 pub mod Reading

@@ -9,6 +9,8 @@ pub mod error;
 pub mod grammar;
 #[doc(hidden)]
 pub mod laws;
+#[doc(hidden)]
+pub mod literal;
 pub mod net;
 #[doc(hidden)]
 pub mod parse;
