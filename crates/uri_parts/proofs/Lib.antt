@@ -23,5 +23,6 @@ pub mod Spelt
 pub mod Futures
 pub mod Hosts
 pub mod Parsed
+pub mod LiteralTexts
 pub mod Authority
 mod AuthorityRows
