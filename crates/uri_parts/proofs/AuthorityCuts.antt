@@ -17,16 +17,6 @@ use Rattle.std.proofs.lemmas.List.{drop-drop}
 pub length-before : (marks text : List ℕ) → length (before_any marks text) ≡ to_mark marks text
 length-before marks text = length-prefix_len (λ c. not (is_one_of marks c)) text
 
-two : (b : ℕ) → is_one_of (codes "vV") b ≡ (eqb b 118 || eqb b 86)
-two b = grind (arith)
-
--- `v` or `V` comes first, and then what is asked of the version and the address
-pub future_is : (text : List ℕ) → is_ipv_future text ≡ ((starts 118 text || starts 86 text)
-    && ((nat_lt 0 (length (before_any (codes ".") (drop 1 text))) && is_valid_for hexdig_set (before_any (codes ".") (drop 1 text))) && is_future_address (from_any (codes ".") (drop 1 text))))
-unfolding is_ipv_future
-future_is [] = refl
-future_is (b ∷ rest) = ap (λ t. t && ((nat_lt 0 (length (before_any (codes ".") rest)) && is_valid_for hexdig_set (before_any (codes ".") rest)) && is_future_address (from_any (codes ".") rest))) (two b)
-
 -- behind a host, a mark and a port
 pub behind_port : (n k : ℕ) (bs : List ℕ) → drop k (drop 1 (drop n bs)) ≡ drop (n + 1 + k) bs
 behind_port n k bs = ap (drop k) (drop-drop 1 n bs) ∙ drop-drop k (n + 1) bs

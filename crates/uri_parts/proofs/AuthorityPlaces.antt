@@ -79,8 +79,8 @@ host_lies userinfo port host text whole u =
       starts = host_starts userinfo (host ++ port_text port) text whole u;
       ends = subst (IsCharBoundary text) l (host_ends front port text joined);
       holds = ap (λ t. slice_range t (marked_length 1 userinfo) (marked_length 1 userinfo + length host)) (sym whole)
-        ∙ ap (λ k. slice_range (user_text userinfo ++ (host ++ port_text port)) k (k + length host)) (sym n)
-        ∙ range-between (user_text userinfo) host (port_text port);
+          ∙ ap (λ k. slice_range (user_text userinfo ++ (host ++ port_text port)) k (k + length host)) (sym n)
+          ∙ range-between (user_text userinfo) host (port_text port);
     }
 
 pub host_place : (users names : TableSet) (text : List ℕ) → is_authority_for users names text ≡ true → IsUtf8 text → LiesIn text (host_start_of text) (host_end_of text) (authority_parts text).host

@@ -4,6 +4,7 @@ pub mod Splits
 pub mod Recompose
 pub mod Next
 pub mod AuthorityCuts
+pub mod LiteralFaults
 pub mod AuthorityPlaces
 pub mod WholeAuthorities
 pub mod Separations

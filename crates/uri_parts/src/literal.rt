@@ -57,7 +57,8 @@ fn is_versioned(version: &str, address: &str) -> bool
 
 /// Whether the text is an IPvFuture address: `v`, one or more hexadecimal digits, `.`, and one or
 /// more of the characters of userinfo, none of them percent-encoded.
-fn is_ipv_future(text: &str) -> bool
+#[doc(hidden)]
+pub fn is_ipv_future(text: &str) -> bool
     ensures { result ≡ Hosts.is_ipv_future text.now }
 {
     if !is_lettered(text) {

@@ -8,10 +8,10 @@ ghost use Rattle.uri_parts.specs.Positions.{AreAt};
 ghost use Rattle.uri_parts.specs.Readers.{rest_of, text_of, place_of};
 ghost use Rattle.uri_parts.specs.Reading.{reads_fragment, reads_end, reads_path, finds_authority, found_length, found_authority, reads_authority, reads_relative, reads_hier, reads_schemeless, reads, query_end_at, path_positions, authority_positions, relative_positions, hier_positions, schemeless_positions, read_positions};
 
-use crate::host_places::find_host;
 use crate::error::ParseError;
 use crate::fault::authority_fault;
 use crate::grammar::{Grammar, uri_ref_grammar};
+use crate::host_places::find_host;
 use crate::positions::{AuthorityPositions, Positions};
 use crate::reader::Reader;
 use uri_pct::table::{DIGIT, SCHEME};
