@@ -26,4 +26,5 @@ pub mod Hosts
 pub mod Parsed
 pub mod LiteralTexts
 pub mod Authority
+pub mod Literals
 mod AuthorityRows
