@@ -1,17 +1,12 @@
 -- The kinds keep apart what has to be apart, and their tables stand for their sets.
 use Rattle.std.proofs.Common.{◌≡◌, ℕ, Bool, true, false, eqb, refl, sym, ap, ◌∙◌, arith, ◌||◌, ◌&&◌, not, ⊎_elim, List}
-use Rattle.std.specs.Prelude.{codes, nat_lt}
-use Rattle.std.specs.Str.{IsUtf8}
-use Rattle.std.proofs.lemmas.Bool.{cases_Bool, cases_lt, cond-true, cond-false, lt-ltb, le-ltb, or_from}
+use Rattle.std.specs.Prelude.{codes, is_some}
+use Rattle.std.proofs.lemmas.Bool.{cases_Bool, cases_lt, cond-true, cond-false, lt-ltb, le-ltb, and_parts, and_from}
 use Rattle.std.proofs.lemmas.Bool.Decides.{nat_tests}
 use Rattle.uri_pct.specs.Sets.{TableSet, IsSubset, is_one_of, is_scheme_char, is_segment_nz_nc_char, is_path_char, is_query_char, is_pchar, is_reg_name_char, is_unreserved, is_sub_delim, scheme_set, segment_nz_nc_set, path_set, userinfo_set, reg_name_set, query_set, fragment_set, allows_past_ascii}
 use Rattle.uri_pct.specs.Fronts.{allows_first, first_char}
-use Rattle.uri_parts.specs.Grammar.{Kind, uri_ref, is_of_kind}
+use Rattle.uri_parts.specs.Grammar.{Kind, uri, uri_ref, IsOfKind}
 use Rattle.uri_parts.specs.Components.{components}
-use Rattle.uri_parts.specs.Positions.{positions_of}
-use Rattle.uri_parts.specs.Reading.{reads, read_positions}
-use Rattle.uri_parts.proofs.Texts.{reads_of_kind}
-use Rattle.uri_parts.proofs.ReadPositions.{positions_read}
 use Rattle.uri_parts.proofs.Separations.{Separates}
 
 scheme_in_segment : (c : ℕ) → is_scheme_char c ≡ true → is_segment_nz_nc_char c ≡ true
@@ -51,9 +46,46 @@ uri_ref_separates = record {
   rest = first_rest;
 }
 
--- the parser's reading at the sets of a kind
-pub uri_ref_reads : (text : List ℕ) → IsUtf8 text → reads segment_nz_nc_set uri_ref text ≡ is_of_kind uri_ref text
-uri_ref_reads text u = reads_of_kind segment_nz_nc_set uri_ref uri_ref_separates text u
+-- whether a scheme is needed is no matter of its sets
+pub same_sets_separate : (segment : TableSet) (kind : Kind) (needs_scheme : Bool) → Separates segment kind → Separates segment (record kind { needs_scheme = needs_scheme })
+same_sets_separate segment kind needs_scheme w = record {
+  reg_name_lacks = w.reg_name_lacks;
+  path_lacks = w.path_lacks;
+  query_lacks = w.query_lacks;
+  fragment_lacks = w.fragment_lacks;
+  segment_lacks = w.segment_lacks;
+  reg_name_marks = w.reg_name_marks;
+  path_marks = w.path_marks;
+  query_marks = w.query_marks;
+  segment_marks = w.segment_marks;
+  scheme_within = w.scheme_within;
+  within = w.within;
+  octets = w.octets;
+  rest = w.rest;
+}
 
-pub uri_ref_positions : (text : List ℕ) → IsUtf8 text → reads segment_nz_nc_set uri_ref text ≡ true → read_positions segment_nz_nc_set uri_ref text ≡ positions_of (components text)
-uri_ref_positions text u h = positions_read segment_nz_nc_set uri_ref uri_ref_separates text u h
+pub uri_separates : Separates segment_nz_nc_set uri
+uri_separates = same_sets_separate segment_nz_nc_set uri_ref true uri_ref_separates
+
+-- where a scheme is needed it is there, and a text that has one is a reference too
+with_scheme : (needed present other : Bool) → needed ≡ true → (present || (not needed && other)) ≡ true → present ≡ true
+with_scheme needed true other n h = refl
+with_scheme needed false other n h = absurd (cc (ap not n))
+
+needed_or_not : (needed present other : Bool) → (present || (not needed && other)) ≡ true → (present || other) ≡ true
+needed_or_not needed true other h = refl
+needed_or_not needed false other h = (and_parts (not needed) other h).1
+
+pub scheme_there : (kind : Kind) (text : List ℕ) → kind.needs_scheme ≡ true → IsOfKind kind text → is_some (components text).scheme ≡ true
+scheme_there kind text n h = with_scheme kind.needs_scheme (is_some (components text).scheme) _ n (and_parts _ _ h).1
+
+pub is_reference : (kind : Kind) (text : List ℕ) → IsOfKind kind text → IsOfKind (record kind { needs_scheme = false }) text
+is_reference kind text h =
+    let parts = and_parts _ _ h in
+    and_from _ _ parts.0 (needed_or_not kind.needs_scheme _ _ parts.1)
+
+pub uri_has_scheme : (text : List ℕ) → IsOfKind uri text → is_some (components text).scheme ≡ true
+uri_has_scheme text h = scheme_there uri text refl h
+
+pub uri_is_uri_ref : (text : List ℕ) → IsOfKind uri text → IsOfKind uri_ref text
+uri_is_uri_ref text h = is_reference uri text h

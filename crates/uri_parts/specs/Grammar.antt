@@ -26,6 +26,10 @@ uri_ref = record {
   needs_scheme = false;
 }
 
+-- RFC 3986, section 3: a URI is a reference with a scheme
+abbrev pub uri : Kind
+uri = record uri_ref { needs_scheme = true }
+
 -- section 3.1: a letter, and then letters, digits, `+`, `-` and `.`
 abbrev pub is_scheme : List ℕ → Bool
 is_scheme text = is_ascii_alphabetic (slice_index text 0) && is_valid_for scheme_set text

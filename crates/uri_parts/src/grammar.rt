@@ -22,11 +22,12 @@ pub struct Grammar {
     pub needs_scheme: bool,
 }
 
-/// The tables of URI references (RFC 3986, section 4.1).
+/// The tables of URIs, where a scheme is needed (RFC 3986, section 3), and else of URI references
+/// (section 4.1).
 #[tactic(auto, using(uri_pct::proofs::Constants::segment_nz_nc_table))]
 #[doc(hidden)]
-pub fn uri_ref_grammar() -> Grammar
-    ensures kind { kind_of result ≡ uri_ref }
+pub fn uri_grammar(needs_scheme: bool) -> Grammar
+    ensures kind { kind_of result ≡ record uri_ref { needs_scheme = needs_scheme } }
     ensures segment { set_of result.segment_nz_nc ≡ segment_nz_nc_set }
 {
     Grammar {
@@ -36,6 +37,6 @@ pub fn uri_ref_grammar() -> Grammar
         segment_nz_nc: SEGMENT_NZ_NC,
         query: Query::table(),
         fragment: Fragment::table(),
-        needs_scheme: false,
+        needs_scheme,
     }
 }
