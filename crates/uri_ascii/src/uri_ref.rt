@@ -142,9 +142,10 @@ impl<'a> UriRef<&'a str> {
 impl<'a> TryFrom<&'a str> for UriRef<&'a str> {
     type Error = ParseError;
 
-    ghost use Rattle.uri_ascii.specs.UriRefs.{ParsesUriRef};
+    ghost use Rattle.uri_ascii.specs.Parses.{Parses};
+    ghost use Rattle.uri_ascii.specs.UriRefs.{uri_ref_text};
 
-    ghost try_from_gives = { λ text result. ParsesUriRef text.now result };
+    ghost try_from_gives = { λ text result. Parses uri_ref uri_ref_text text.now result };
 
     /// The same as `parse`.
     fn try_from(text: &'a str) -> Result<Self, ParseError> {

@@ -113,12 +113,7 @@ fn read_authority(
     let start = reader.position();
     reader.pass(&grammar.reg_name)?;
     let end = reader.position();
-    read_rooted(
-        reader,
-        grammar,
-        scheme_end,
-        AuthorityPositions { start, end },
-    )
+    read_rooted(reader, grammar, scheme_end, AuthorityPositions { start, end })
 }
 
 /// What follows a scheme.
