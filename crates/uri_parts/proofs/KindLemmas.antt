@@ -3,9 +3,9 @@ use Rattle.std.proofs.Common.{◌≡◌, ℕ, Bool, true, false, eqb, refl, sym,
 use Rattle.std.specs.Prelude.{codes, is_some}
 use Rattle.std.proofs.lemmas.Bool.{cases_Bool, cases_lt, cond-true, cond-false, lt-ltb, le-ltb, and_parts, and_from}
 use Rattle.std.proofs.lemmas.Bool.Decides.{nat_tests}
-use Rattle.uri_pct.specs.Sets.{TableSet, IsSubset, is_one_of, is_scheme_char, is_segment_nz_nc_char, is_path_char, is_query_char, is_pchar, is_reg_name_char, is_unreserved, is_sub_delim, scheme_set, segment_nz_nc_set, path_set, userinfo_set, reg_name_set, query_set, fragment_set, allows_past_ascii}
+use Rattle.uri_pct.specs.Sets.{TableSet, IsSubset, is_one_of, is_scheme_char, is_segment_nz_nc_char, is_path_char, is_query_char, is_pchar, is_reg_name_char, is_unreserved, is_sub_delim, scheme_set, segment_nz_nc_set, isegment_nz_nc_set, path_set, userinfo_set, reg_name_set, query_set, fragment_set, allows_past_ascii}
 use Rattle.uri_pct.specs.Fronts.{allows_first, first_char}
-use Rattle.uri_parts.specs.Grammar.{Kind, uri, uri_ref, IsOfKind}
+use Rattle.uri_parts.specs.Grammar.{Kind, uri, uri_ref, iri, iri_ref, IsOfKind}
 use Rattle.uri_parts.specs.Components.{components}
 use Rattle.uri_parts.proofs.Separations.{Separates}
 
@@ -21,16 +21,33 @@ path_in_segment : (c : ℕ) → is_one_of (codes ":/") c ≡ false → is_segmen
 unfolding is_segment_nz_nc_char is_path_char is_pchar
 path_in_segment c m e = grind (arith, nat_tests)
 
-first_rest : (b : ℕ) (bs : List ℕ) → is_one_of (codes ":/") b ≡ false → allows_first segment_nz_nc_set b bs ≡ false → allows_first path_set b bs ≡ false
+-- the sets of the four kinds differ in flags alone
+abbrev international : Bool → TableSet → TableSet
+international ucschar set = record set { ucschar = ucschar }
+
+abbrev segment_with : Bool → TableSet
+segment_with ucschar = international ucschar segment_nz_nc_set
+
+abbrev kind_with : (ucschar iprivate needs_scheme : Bool) → Kind
+kind_with ucschar iprivate needs_scheme = record {
+  userinfo = international ucschar userinfo_set;
+  reg_name = international ucschar reg_name_set;
+  path = international ucschar path_set;
+  query = record query_set { ucschar = ucschar; iprivate = iprivate };
+  fragment = international ucschar fragment_set;
+  needs_scheme = needs_scheme;
+}
+
+first_rest : (ucschar : Bool) (b : ℕ) (bs : List ℕ) → is_one_of (codes ":/") b ≡ false → allows_first (segment_with ucschar) b bs ≡ false → allows_first (international ucschar path_set) b bs ≡ false
 unfolding allows_first allows_past_ascii
-first_rest b bs m e = ⊎_elim
+first_rest ucschar b bs m e = ⊎_elim
     (λ h. let l = lt-ltb b 128 h in cond-true _ _ _ l ∙ path_in_segment b m (sym (cond-true _ _ _ l) ∙ e))
-    (λ h. let l = le-ltb b 128 h in cond-false _ _ _ l)
+    (λ h. let l = le-ltb b 128 h in cond-false _ _ _ l ∙ (sym (cond-false _ _ _ l) ∙ e))
     (cases_lt b 128)
 
-pub uri_ref_separates : Separates segment_nz_nc_set uri_ref
+separates : (ucschar iprivate needs_scheme : Bool) → Separates (segment_with ucschar) (kind_with ucschar iprivate needs_scheme)
 unfolding is_scheme_char is_segment_nz_nc_char is_path_char is_query_char is_pchar is_reg_name_char is_unreserved is_sub_delim
-uri_ref_separates = record {
+separates ucschar iprivate needs_scheme = record {
   reg_name_lacks = refl;
   path_lacks = refl;
   query_lacks = refl;
@@ -40,32 +57,23 @@ uri_ref_separates = record {
   path_marks = refl;
   query_marks = refl;
   segment_marks = refl;
-  scheme_within = record { ascii = scheme_in_segment; pct_encoded = λ e. refl; ucschar = λ e. e; iprivate = λ e. e };
+  scheme_within = record { ascii = scheme_in_segment; pct_encoded = λ e. refl; ucschar = λ e. absurd (cc e); iprivate = λ e. e };
   within = record { ascii = segment_in_path; pct_encoded = λ e. e; ucschar = λ e. e; iprivate = λ e. e };
   octets = refl;
-  rest = first_rest;
-}
-
--- whether a scheme is needed is no matter of its sets
-pub same_sets_separate : (segment : TableSet) (kind : Kind) (needs_scheme : Bool) → Separates segment kind → Separates segment (record kind { needs_scheme = needs_scheme })
-same_sets_separate segment kind needs_scheme w = record {
-  reg_name_lacks = w.reg_name_lacks;
-  path_lacks = w.path_lacks;
-  query_lacks = w.query_lacks;
-  fragment_lacks = w.fragment_lacks;
-  segment_lacks = w.segment_lacks;
-  reg_name_marks = w.reg_name_marks;
-  path_marks = w.path_marks;
-  query_marks = w.query_marks;
-  segment_marks = w.segment_marks;
-  scheme_within = w.scheme_within;
-  within = w.within;
-  octets = w.octets;
-  rest = w.rest;
+  rest = first_rest ucschar;
 }
 
 pub uri_separates : Separates segment_nz_nc_set uri
-uri_separates = same_sets_separate segment_nz_nc_set uri_ref true uri_ref_separates
+uri_separates = separates false false true
+
+pub uri_ref_separates : Separates segment_nz_nc_set uri_ref
+uri_ref_separates = separates false false false
+
+pub iri_separates : Separates isegment_nz_nc_set iri
+iri_separates = separates true true true
+
+pub iri_ref_separates : Separates isegment_nz_nc_set iri_ref
+iri_ref_separates = separates true true false
 
 -- where a scheme is needed it is there, and a text that has one is a reference too
 with_scheme : (needed present other : Bool) → needed ≡ true → (present || (not needed && other)) ≡ true → present ≡ true
@@ -89,3 +97,9 @@ uri_has_scheme text h = scheme_there uri text refl h
 
 pub uri_is_uri_ref : (text : List ℕ) → IsOfKind uri text → IsOfKind uri_ref text
 uri_is_uri_ref text h = is_reference uri text h
+
+pub iri_has_scheme : (text : List ℕ) → IsOfKind iri text → is_some (components text).scheme ≡ true
+iri_has_scheme text h = scheme_there iri text refl h
+
+pub iri_is_iri_ref : (text : List ℕ) → IsOfKind iri text → IsOfKind iri_ref text
+iri_is_iri_ref text h = is_reference iri text h

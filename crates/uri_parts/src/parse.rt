@@ -2,14 +2,14 @@
 ghost use Rattle.std.specs.Prelude.{◌≡◌, ◌↔◌, ◌+◌, IfErr, IfOk, IsOk, OnOk, is_ok, Some, None};
 ghost use Rattle.uri_pct.specs.Tables.{set_of};
 ghost use Rattle.uri_parts.specs.Errors.{IsErrorIn};
-ghost use Rattle.uri_parts.specs.Grammar.{IsOfKind, uri, uri_ref};
+ghost use Rattle.uri_parts.specs.Grammar.{IsOfKind, uri, uri_ref, iri, iri_ref};
 ghost use Rattle.uri_parts.specs.Grammars.{kind_of};
 ghost use Rattle.uri_parts.specs.Positions.{AreAt};
 ghost use Rattle.uri_parts.specs.Readers.{rest_of, text_of, place_of};
 ghost use Rattle.uri_parts.specs.Reading.{reads_fragment, reads_end, reads_path, reads_rooted, reads_authority, reads_relative, reads_hier, reads_schemeless, reads, query_end_at, path_positions, authority_positions, relative_positions, hier_positions, schemeless_positions, read_positions};
 
 use crate::error::ParseError;
-use crate::grammar::{Grammar, uri_grammar};
+use crate::grammar::{Grammar, iri_grammar, uri_grammar};
 use crate::positions::{AuthorityPositions, Positions};
 use crate::reader::Reader;
 use uri_pct::table::SCHEME;
@@ -205,4 +205,24 @@ pub fn parse_uri_ref(text: &str) -> Result<Positions, ParseError>
     ensures err { IfErr result (IsErrorIn text.now) }
 {
     read_text(&uri_grammar(false), text)
+}
+
+/// Where the components of an IRI lie (RFC 3987, section 2.2), or why the text is none.
+#[tactic(auto, using(crate::proofs::Texts::reads_of_kind, crate::proofs::ReadPositions::positions_read, crate::proofs::KindLemmas::iri_separates))]
+pub fn parse_iri(text: &str) -> Result<Positions, ParseError>
+    ensures accepts { IsOk result ↔ IsOfKind iri text.now }
+    ensures positions { IfOk result (AreAt text.now) }
+    ensures err { IfErr result (IsErrorIn text.now) }
+{
+    read_text(&iri_grammar(true), text)
+}
+
+/// Where the components of an IRI reference lie (RFC 3987, section 2.2), or why the text is none.
+#[tactic(auto, using(crate::proofs::Texts::reads_of_kind, crate::proofs::ReadPositions::positions_read, crate::proofs::KindLemmas::iri_ref_separates))]
+pub fn parse_iri_ref(text: &str) -> Result<Positions, ParseError>
+    ensures accepts { IsOk result ↔ IsOfKind iri_ref text.now }
+    ensures positions { IfOk result (AreAt text.now) }
+    ensures err { IfErr result (IsErrorIn text.now) }
+{
+    read_text(&iri_grammar(false), text)
 }
