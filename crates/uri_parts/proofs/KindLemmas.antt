@@ -1,9 +1,11 @@
 -- The kinds keep apart what has to be apart, and their tables stand for their sets.
-use Rattle.std.proofs.Common.{◌≡◌, ℕ, Bool, true, false, eqb, refl, sym, ap, ◌∙◌, arith, ◌||◌, ◌&&◌, not, ⊎_elim, List}
+use Rattle.std.proofs.Common.{◌≡◌, ℕ, Bool, true, false, eqb, refl, sym, ap, ◌∙◌, arith, ◌||◌, ◌&&◌, not, ⊎_elim, List, []}
 use Rattle.std.specs.Prelude.{codes, is_some}
+use Rattle.std.specs.Str.{chars}
 use Rattle.std.proofs.lemmas.Bool.{cases_Bool, cases_lt, cond-true, cond-false, lt-ltb, le-ltb, and_parts, and_from}
 use Rattle.std.proofs.lemmas.Bool.Decides.{nat_tests}
 use Rattle.uri_pct.specs.Sets.{TableSet, IsSubset, is_one_of, is_scheme_char, is_segment_nz_nc_char, is_path_char, is_query_char, is_pchar, is_reg_name_char, is_unreserved, is_sub_delim, scheme_set, segment_nz_nc_set, isegment_nz_nc_set, path_set, userinfo_set, reg_name_set, query_set, fragment_set, allows_past_ascii}
+use Rattle.uri_pct.specs.Tokens.{is_valid_for, tokens_of}
 use Rattle.uri_pct.specs.Fronts.{allows_first, first_char}
 use Rattle.uri_parts.specs.Grammar.{Kind, uri, uri_ref, iri, iri_ref, IsOfKind}
 use Rattle.uri_parts.specs.Components.{components}
@@ -103,3 +105,14 @@ iri_has_scheme text h = scheme_there iri text refl h
 
 pub iri_is_iri_ref : (text : List ℕ) → IsOfKind iri text → IsOfKind iri_ref text
 iri_is_iri_ref text h = is_reference iri text h
+
+-- the empty text is a reference
+pub empty_is_reference : (kind : Kind) → kind.needs_scheme ≡ false → IsOfKind kind []
+unfolding is_valid_for tokens_of chars
+empty_is_reference kind n = ap (λ needed. not needed && true) n
+
+pub empty_is_uri_ref : IsOfKind uri_ref []
+empty_is_uri_ref = empty_is_reference uri_ref refl
+
+pub empty_is_iri_ref : IsOfKind iri_ref []
+empty_is_iri_ref = empty_is_reference iri_ref refl

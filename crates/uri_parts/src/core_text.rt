@@ -49,6 +49,20 @@ impl<'a, K: Encoders> CoreText<'a, K> {
         }
     }
 
+    /// The text.
+    pub fn as_str(self) -> &'a str
+        ensures { result.now ≡ core_text self.entry }
+    {
+        self.text
+    }
+
+    /// Where its components lie.
+    pub fn positions(self) -> Positions
+        ensures { AreAt (core_text self.entry) result }
+    {
+        self.positions
+    }
+
     /// Whether there is a scheme.
     pub fn has_scheme(self) -> bool
         ensures { result ≡ is_some (components (core_text self.entry)).scheme }
