@@ -3,4 +3,4 @@ use Rattle.uri_ascii.specs.declared.uri_ref.UriRef.{UriRef}
 
 -- the text of a value
 abbrev pub uri_ref_text : {T : _} {g : _} → UriRef T g → List ℕ
-uri_ref_text {g = g} r = g.text r.text
+uri_ref_text {g = g} value = g.text value.text

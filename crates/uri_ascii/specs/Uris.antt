@@ -3,4 +3,4 @@ use Rattle.uri_ascii.specs.declared.uri.Uri.{Uri}
 
 -- the text of a value
 abbrev pub uri_text : {T : _} {g : _} → Uri T g → List ℕ
-uri_text {g = g} r = g.text r.text
+uri_text {g = g} value = g.text value.text

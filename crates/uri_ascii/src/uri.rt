@@ -10,16 +10,17 @@ use std::cmp::Ordering;
 use std::convert::{AsStr, TryFrom};
 use std::fmt;
 use std::hash::{Hash, Hasher};
+use uri_ops::traits::{self, Ri, RiMaybeRef};
 use uri_parts::component::{Authority, Scheme};
 use uri_parts::core_text::CoreText;
 use uri_parts::error::ParseError;
 use uri_parts::parse;
 use uri_parts::positions::Positions;
 use uri_parts::rules::UriRefRules;
-use uri_pct::encoder::{Fragment, Path, Query};
+use uri_pct::encoder::{Fragment, Path, Query, RegName, Userinfo};
 use uri_pct::pct_enc::EStr;
 
-/// A URI (RFC 3986, section 3): a scheme, and what it gives a meaning to.
+/// A URI: a reference that has a scheme (RFC 3986, section 3).
 ///
 /// A value holds a text of that grammar, over `&str` or over `String`.
 ///
@@ -45,35 +46,86 @@ impl<T: AsStr + Copy> Clone for Uri<T> {
 impl<T: AsStr + Copy> Copy for Uri<T> {}
 
 #[tactic(auto, using(uri_parts::proofs::KindLemmas::uri_is_uri_ref))]
-impl<T: AsStr> Uri<T> {
-    ghost use Rattle.uri_parts.specs.CoreTexts.{core_text};
+impl<T: AsStr> RiMaybeRef for Uri<T> {
+    ghost use Rattle.std.specs.Prelude.{refl};
     ghost use Rattle.uri_ascii.specs.Uris.{uri_text};
 
-    fn parts(&self) -> CoreText<'_, UriRefRules>
-        ensures { core_text result ≡ uri_text self.now }
-    {
+    type Owned = Uri<String>;
+
+    type UserinfoE = Userinfo;
+
+    type RegNameE = RegName;
+
+    type PathE = Path;
+
+    type QueryE = Query;
+
+    type FragmentE = Fragment;
+
+    type Rules = UriRefRules;
+
+    ghost kind = { uri };
+
+    ghost text = { uri_text };
+
+    ghost owned_text = { uri_text };
+
+    fn as_str(&self) -> &str {
+        self.text.as_str()
+    }
+
+    fn core(&self) -> CoreText<'_, UriRefRules> {
         CoreText::new(self.text.as_str(), self.positions)
     }
+
+    fn make_owned(owned: String, positions: Positions) -> Uri<String> {
+        Uri {
+            text: owned,
+            positions,
+        }
+    }
+
+    ghost rules_of_kind = { refl };
+
+    ghost userinfo_set = { refl };
+
+    ghost reg_name_set = { refl };
+
+    ghost path_set = { refl };
+
+    ghost query_set = { refl };
+
+    ghost fragment_set = { refl };
+}
+
+impl<T: AsStr> Ri for Uri<T> {
+    ghost use Rattle.std.specs.Prelude.{refl};
+
+    ghost needs_scheme = { refl };
+}
+
+impl<T: AsStr> Uri<T> {
+    ghost use Rattle.uri_ascii.specs.Uris.{uri_text};
 
     /// Whether there is an authority.
     pub fn has_authority(&self) -> bool
         ensures { result ≡ is_some (components (uri_text self.now)).authority }
     {
-        self.parts().has_authority()
+        self.core().has_authority()
     }
 
     /// Whether there is a query.
     pub fn has_query(&self) -> bool
         ensures { result ≡ is_some (components (uri_text self.now)).query }
     {
-        self.parts().has_query()
+        self.core().has_query()
     }
 
     /// Whether there is a fragment.
     pub fn has_fragment(&self) -> bool
         ensures { result ≡ is_some (components (uri_text self.now)).fragment }
     {
-        self.parts().has_fragment()
+        self.core().has_fragment()
     }
 }
 
@@ -93,14 +145,14 @@ impl<'a> Uri<&'a str> {
     /// wrong, and where, as a byte offset on a character boundary.
     pub fn parse(text: &'a str) -> Result<Uri<&'a str>, ParseError>
         ensures accepts { IsOk result ↔ IsOfKind uri text.now }
-        ensures text { IfOk result (λ u. uri_text u ≡ text.now) }
+        ensures text { IfOk result (λ value. uri_text value ≡ text.now) }
         ensures err { IfErr result (IsErrorIn text.now) }
     {
         let positions = parse::parse_uri(text)?;
         Ok(Uri { text, positions })
     }
 
-    fn core(self) -> CoreText<'a, UriRefRules>
+    fn parts(self) -> CoreText<'a, UriRefRules>
         ensures { core_text result ≡ uri_text self.entry }
     {
         CoreText::new(self.text, self.positions)
@@ -117,53 +169,49 @@ impl<'a> Uri<&'a str> {
     pub fn scheme(self) -> Scheme<'a>
         ensures { Some (scheme_text result) ≡ (components (uri_text self.entry)).scheme }
     {
-        self.core().needed_scheme()
+        self.parts().needed_scheme()
     }
 
     /// The authority without its `//`, if there is one (RFC 3986, section 3.2).
     pub fn authority(self) -> Option<Authority<'a>>
         ensures { option_map authority_text result ≡ (components (uri_text self.entry)).authority }
     {
-        self.core().authority()
+        self.parts().authority()
     }
 
     /// The path, which may be empty (RFC 3986, section 3.3).
     pub fn path(self) -> EStr<'a, Path>
         ensures { text_of result ≡ (components (uri_text self.entry)).path }
     {
-        self.core().path()
+        self.parts().path()
     }
 
     /// The query without its `?`, if there is one (RFC 3986, section 3.4).
     pub fn query(self) -> Option<EStr<'a, Query>>
         ensures { option_map text_of result ≡ (components (uri_text self.entry)).query }
     {
-        self.core().query()
+        self.parts().query()
     }
 
     /// The fragment without its `#`, if there is one (RFC 3986, section 3.5).
     pub fn fragment(self) -> Option<EStr<'a, Fragment>>
         ensures { option_map text_of result ≡ (components (uri_text self.entry)).fragment }
     {
-        self.core().fragment()
+        self.parts().fragment()
     }
 
-    /// A copy of the text in memory of its own, as the same URI.
+    /// The same URI over a copy of the text.
     ///
     /// # Errors
     ///
     /// Only if memory is refused.
     pub fn to_owned(self, alloc: Global) -> Result<Uri<String>, AllocError>
-        ensures { IfOk result (λ u. uri_text u ≡ uri_text self.entry) }
+        ensures { IfOk result (λ owned. uri_text owned ≡ uri_text self.entry) }
     {
-        Ok(Uri {
-            text: String::from_str(alloc, self.text)?,
-            positions: self.positions,
-        })
+        traits::copied(alloc, &self)
     }
 }
 
-#[tactic(auto, using(uri_parts::proofs::KindLemmas::uri_has_scheme))]
 impl Uri<String> {
     ghost use Rattle.uri_pct.specs.EStrs.{text_of};
     ghost use Rattle.uri_parts.specs.AuthorityTexts.{authority_text};
@@ -178,9 +226,9 @@ impl Uri<String> {
     /// wrong, and where, as a byte offset on a character boundary; the text comes back beside it.
     pub fn parse(text: String) -> Result<Uri<String>, (ParseError, String)>
         ensures accepts { IsOk result ↔ IsOfKind uri (string_bytes text) }
-        ensures text { IfOk result (λ u. uri_text u ≡ string_bytes text) }
-        ensures err { IfErr result (λ e. IsErrorIn (string_bytes text) e.0) }
-        ensures back { IfErr result (λ e. string_bytes e.1 ≡ string_bytes text) }
+        ensures text { IfOk result (λ value. uri_text value ≡ string_bytes text) }
+        ensures err { IfErr result (λ refused. IsErrorIn (string_bytes text) refused.0) }
+        ensures back { IfErr result (λ refused. string_bytes refused.1 ≡ string_bytes text) }
     {
         match parse::parse_uri(text.as_str()) {
             Ok(positions) => Ok(Uri { text, positions }),
@@ -188,7 +236,7 @@ impl Uri<String> {
         }
     }
 
-    /// The same URI over the text that is borrowed.
+    /// The same URI over the text, which is borrowed.
     pub fn borrow(&self) -> Uri<&str>
         ensures { uri_text result ≡ uri_text self.now }
     {
@@ -209,7 +257,7 @@ impl Uri<String> {
     pub fn as_str(&self) -> &str
         ensures { result.now ≡ uri_text self.now }
     {
-        self.text.as_str()
+        self.borrow().as_str()
     }
 
     /// The scheme without its `:` (RFC 3986, section 3.1).
@@ -281,9 +329,9 @@ impl From<Uri<String>> for String {
 
     ghost from_gives = { λ value text. string_bytes text ≡ uri_text value };
 
-    /// The text as it stands, with its memory.
+    /// The same as `into_string`.
     fn from(value: Uri<String>) -> String {
-        value.text
+        value.into_string()
     }
 }
 
