@@ -72,7 +72,7 @@ impl<T: AsStr> RiMaybeRef for Iri<T> {
     ghost owned_text = { iri_text };
 
     fn as_str(&self) -> &str {
-        self.text.as_str()
+        self.core().as_str()
     }
 
     fn core(&self) -> CoreText<'_, IriRefRules> {
@@ -163,7 +163,7 @@ impl<'a> Iri<&'a str> {
     pub fn as_str(self) -> &'a str
         ensures { result.now ≡ iri_text self.entry }
     {
-        self.text
+        self.parts().as_str()
     }
 
     /// The scheme without its `:` (RFC 3986, section 3.1).
@@ -251,7 +251,7 @@ impl Iri<String> {
     pub fn into_string(self) -> String
         ensures { string_bytes result ≡ iri_text self }
     {
-        self.text
+        self.into()
     }
 
     /// The text as it stands.
@@ -332,7 +332,7 @@ impl From<Iri<String>> for String {
 
     /// The same as `into_string`.
     fn from(value: Iri<String>) -> String {
-        value.into_string()
+        value.text
     }
 }
 

@@ -71,7 +71,7 @@ impl<T: AsStr> RiMaybeRef for IriRef<T> {
     ghost owned_text = { iri_ref_text };
 
     fn as_str(&self) -> &str {
-        self.text.as_str()
+        self.core().as_str()
     }
 
     fn core(&self) -> CoreText<'_, IriRefRules> {
@@ -168,7 +168,7 @@ impl<'a> IriRef<&'a str> {
     pub fn as_str(self) -> &'a str
         ensures { result.now ≡ iri_ref_text self.entry }
     {
-        self.text
+        self.parts().as_str()
     }
 
     /// The scheme without its `:`, if there is one (RFC 3986, section 3.1).
@@ -256,7 +256,7 @@ impl IriRef<String> {
     pub fn into_string(self) -> String
         ensures { string_bytes result ≡ iri_ref_text self }
     {
-        self.text
+        self.into()
     }
 
     /// The text as it stands.
@@ -337,7 +337,7 @@ impl From<IriRef<String>> for String {
 
     /// The same as `into_string`.
     fn from(value: IriRef<String>) -> String {
-        value.into_string()
+        value.text
     }
 }
 

@@ -71,7 +71,7 @@ impl<T: AsStr> RiMaybeRef for Uri<T> {
     ghost owned_text = { uri_text };
 
     fn as_str(&self) -> &str {
-        self.text.as_str()
+        self.core().as_str()
     }
 
     fn core(&self) -> CoreText<'_, UriRefRules> {
@@ -162,7 +162,7 @@ impl<'a> Uri<&'a str> {
     pub fn as_str(self) -> &'a str
         ensures { result.now ≡ uri_text self.entry }
     {
-        self.text
+        self.parts().as_str()
     }
 
     /// The scheme without its `:` (RFC 3986, section 3.1).
@@ -250,7 +250,7 @@ impl Uri<String> {
     pub fn into_string(self) -> String
         ensures { string_bytes result ≡ uri_text self }
     {
-        self.text
+        self.into()
     }
 
     /// The text as it stands.
@@ -331,7 +331,7 @@ impl From<Uri<String>> for String {
 
     /// The same as `into_string`.
     fn from(value: Uri<String>) -> String {
-        value.into_string()
+        value.text
     }
 }
 
