@@ -5,3 +5,7 @@ pub mod Targets
 pub mod Segments
 pub mod Slashed
 pub mod DotLaws
+pub mod Parts
+pub mod DotBytes
+pub mod Lacking
+pub mod SegmentMaps
