@@ -100,6 +100,12 @@ has_lacks m (c ∷ text) e =
     let p = and_parts (not (is_one_of (m ∷ []) c)) (lacks_any (m ∷ []) text) e in
     or_from _ _ (sym (one_mark c m) ∙ not-true _ p.0) (has_lacks m text p.1)
 
+pub lacks_has : (m : ℕ) (text : List ℕ) → list_any (λ c. eqb c m) text ≡ false → lacks_any (m ∷ []) text ≡ true
+lacks_has m [] e = refl
+lacks_has m (c ∷ text) e =
+    let p = or_parts (eqb c m) (list_any (λ c. eqb c m) text) e in
+    and_from _ _ (not_from_false _ (one_mark c m ∙ p.0)) (lacks_has m text p.1)
+
 module _ (m : ℕ) (set : TableSet) (lacks : LacksPercent set) (wide : IsSubset unreserved_set set) (reserved : is_unreserved m ≡ false) (outside : excludes (without m set) (m ∷ []) ≡ true) where
   -- a character that is not unreserved is not printed of the reading of a text that lacks it
   pub reprinted_lacks : (text : List ℕ) → is_part set text ≡ true → list_any (λ c. eqb c m) text ≡ false → list_any (λ c. eqb c m) (reprinted set text) ≡ false

@@ -9,3 +9,5 @@ pub mod Parts
 pub mod DotBytes
 pub mod Lacking
 pub mod SegmentMaps
+pub mod ReadPaths
+pub mod ReadStarts
