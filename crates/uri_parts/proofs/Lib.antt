@@ -10,3 +10,5 @@ pub mod Relative
 pub mod Texts
 pub mod Places
 mod Rows
+pub mod Addresses
+mod AuthorityRows

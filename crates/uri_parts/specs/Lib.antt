@@ -1,7 +1,11 @@
+pub mod Addresses
+pub mod Authority
+pub mod Authorities
 pub mod Components
 pub mod Errors
 pub mod Grammar
 pub mod Grammars
+pub mod Hosts
 pub mod Positions
 pub mod Readers
 pub mod Reading

@@ -1,6 +1,15 @@
 //! Laws of the definitions that contracts cite, each the contract of a function that does nothing.
 ghost use Rattle.std.specs.Prelude.{◌≡◌, ℕ, List};
+ghost use Rattle.std.specs.Cmp.Lexicographic.{slice_cmp};
+ghost use Rattle.std.specs.Ordering.{nat_cmp};
+ghost use Rattle.std.specs.declared.cmp.Ordering.TheVariants.{Less};
+ghost use Rattle.std.specs.Net.Text.{ipv4_text, ipv6_text};
+ghost use Rattle.uri_parts.specs.Addresses.{ipv4_octets, ipv6_segments};
 ghost use Rattle.uri_parts.specs.Components.{Components, IsSplitOf, components, recompose};
+ghost use Rattle.uri_parts.specs.Hosts.{IsIpv4Text, IsIpv6Text};
+
+use crate::net::{IpAddr, Ipv4Addr, Ipv6Addr};
+use std::cmp::Ordering;
 
 /// The components of a text are a split of it by RFC 3986, appendix B.
 #[doc(hidden)]
@@ -19,3 +28,43 @@ pub fn components_are_the_only_split()
 pub fn components_recompose()
     ensures { (text : List ℕ) → recompose (components text) ≡ text }
 {}
+
+/// The grammar reads the text of an IPv4 address back as the same four octets.
+#[doc(hidden)]
+pub fn ipv4_text_is_read_back(address: &Ipv4Addr)
+    ensures { IsIpv4Text (ipv4_text (ipv4_octets address.now)) (ipv4_octets address.now) }
+{
+    let _octets = address.octets();
+}
+
+/// The grammar reads the text of an IPv6 address back as the same eight segments.
+#[doc(hidden)]
+pub fn ipv6_text_is_read_back(address: &Ipv6Addr)
+    ensures { IsIpv6Text (ipv6_text (ipv6_segments address.now)) (ipv6_segments address.now) }
+{
+    let _segments = address.segments();
+}
+
+/// IPv4 addresses are compared by their octets, first to last.
+#[doc(hidden)]
+pub fn ipv4_addresses_compare_by_octets(a: &Ipv4Addr, b: &Ipv4Addr) -> Ordering
+    ensures { result ≡ slice_cmp nat_cmp (ipv4_octets a.now) (ipv4_octets b.now) }
+{
+    a.cmp(b)
+}
+
+/// IPv6 addresses are compared by their segments, first to last.
+#[doc(hidden)]
+pub fn ipv6_addresses_compare_by_segments(a: &Ipv6Addr, b: &Ipv6Addr) -> Ordering
+    ensures { result ≡ slice_cmp nat_cmp (ipv6_segments a.now) (ipv6_segments b.now) }
+{
+    a.cmp(b)
+}
+
+/// An IPv4 address is less than an IPv6 address.
+#[doc(hidden)]
+pub fn ipv4_is_less_than_ipv6(a: Ipv4Addr, b: Ipv6Addr) -> Ordering
+    ensures { result ≡ Less }
+{
+    IpAddr::V4(a).cmp(&IpAddr::V6(b))
+}

@@ -4,6 +4,7 @@
 pub mod error;
 pub mod grammar;
 pub mod laws;
+pub mod net;
 pub mod parse;
 pub mod positions;
 pub mod reader;

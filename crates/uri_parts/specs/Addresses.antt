@@ -1,0 +1,21 @@
+-- The numbers of an address, and its text: RFC 3986, section 3.2.2, and RFC 5952.
+use Rattle.std.specs.Prelude.{ℕ, List}
+use Rattle.std.specs.Net.Addr as Addr
+use Rattle.std.specs.Net.Text.{ipv4_text, ipv6_text}
+use Rattle.uri_parts.specs.declared.net.Ipv4Addr.{Ipv4Addr}
+use Rattle.uri_parts.specs.declared.net.Ipv6Addr.{Ipv6Addr}
+use Rattle.uri_parts.specs.declared.net.IpAddr.{IpAddr}
+use Rattle.uri_parts.specs.declared.net.IpAddr.TheVariants.{V4, V6}
+
+-- the four octets of an IPv4 address
+abbrev pub ipv4_octets : Ipv4Addr → List ℕ
+ipv4_octets a = Addr.ipv4_octets a.0
+
+-- the eight segments of an IPv6 address
+abbrev pub ipv6_segments : Ipv6Addr → List ℕ
+ipv6_segments a = Addr.ipv6_segments a.0
+
+-- the text of either
+abbrev pub ip_text : IpAddr → List ℕ
+ip_text (V4 a) = ipv4_text (ipv4_octets a)
+ip_text (V6 a) = ipv6_text (ipv6_segments a)
