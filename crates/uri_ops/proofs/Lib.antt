@@ -11,3 +11,5 @@ pub mod Lacking
 pub mod SegmentMaps
 pub mod ReadPaths
 pub mod ReadStarts
+pub mod FourKinds
+mod MeaningRows
