@@ -13,3 +13,4 @@ pub mod ReadPaths
 pub mod ReadStarts
 pub mod FourKinds
 mod MeaningRows
+pub mod PortMeanings

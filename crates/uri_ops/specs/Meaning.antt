@@ -10,7 +10,7 @@ use Rattle.uri_parts.specs.Hosts.{HostKind, Ipv4, Ipv6, IpvFuture, RegName, host
 use Rattle.uri_parts.specs.Authority.{authority_parts}
 use Rattle.uri_parts.specs.Grammar.{Kind}
 use Rattle.uri_ops.specs.Dots.{is_empty, remove_dot_segments}
-use Rattle.uri_ops.specs.Ports.{PortFunction, is_default}
+use Rattle.uri_ops.specs.Ports.{PortFunction, no_defaults, is_default}
 
 -- a host is the numbers of an IPv6 address, an address of a later version in brackets, or the characters and octets of a name
 pub data HostMeaning : Type 0 where
@@ -73,7 +73,7 @@ meaning_of kind ports text = components_meaning kind ports (components text)
 
 -- the same where no scheme has a default port: every port that is not empty is part of it
 abbrev pub bare_meaning_of : Kind → List ℕ → Meaning
-bare_meaning_of kind text = meaning_of kind (λ _. None) text
+bare_meaning_of kind text = meaning_of kind no_defaults text
 
 -- what a port function leaves of a bare meaning
 abbrev pub under : PortFunction → Meaning → Meaning

@@ -6,6 +6,10 @@ use Rattle.std.specs.Str.Parse.{digits_value}
 abbrev pub PortFunction : Type 0
 PortFunction = List ℕ → Option ℕ
 
+-- no scheme has one
+abbrev pub no_defaults : PortFunction
+no_defaults scheme = None
+
 -- the number that a port's digits write: leading zeros make no difference
 abbrev pub port_value : List ℕ → ℕ
 port_value digits = digits_value 10 digits
