@@ -11,4 +11,5 @@ pub mod Texts
 pub mod Places
 mod Rows
 pub mod Addresses
+pub mod Spelt
 mod AuthorityRows
