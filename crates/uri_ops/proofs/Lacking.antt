@@ -1,18 +1,18 @@
 -- Which characters a part lacks, and that what is printed of its reading lacks them too.
-use Rattle.std.proofs.Common.{◌≡◌, ℕ, zero, suc, ◌≤◌, Bool, true, false, cond, eqb, not, List, [], ◌∷◌, ◌++◌, length, refl, sym, ap, ◌∙◌, arith, ◌&&◌, ⊎_elim}
+use Rattle.std.proofs.Common.{◌≡◌, ℕ, zero, suc, Bool, true, false, cond, eqb, not, List, [], ◌∷◌, ◌++◌, refl, sym, ap, ◌∙◌, arith, ◌&&◌, ⊎_elim}
 use Rattle.std.specs.List.{list_all, list_any, flat_map}
 use Rattle.std.specs.Str.{continuation_len}
-use Rattle.std.proofs.lemmas.List.Sums.{prefix_len_passes, list_all-from_AllPass}
-use Rattle.std.proofs.lemmas.List.Elements.{All-from_get_or}
 use Rattle.std.proofs.lemmas.Bool.{cases_Bool, cases_lt, and_parts, and_from, or_parts, or_from, eqb-true, lt-ltb, le-ltb, cond-true, cond-false, not-true, not_from_false, false_from_ne_true, both_ways}
 use Rattle.std.proofs.lemmas.Bool.Decides.{nat_tests}
 use Rattle.uri_pct.specs.Sets.{TableSet, LacksPercent, IsSubset, unreserved_set, is_unreserved, is_one_of, allows_past_ascii}
 use Rattle.uri_pct.specs.Tokens.{Token, Char, Octet, tokens, print}
 use Rattle.uri_pct.specs.Pieces.{Piece, WellFormed, IllFormed, utf8_pieces}
 use Rattle.uri_pct.specs.Reading.{is_readable, read_piece, read_run, read_from}
-use Rattle.uri_pct.specs.Fronts.{begins_hex, allows_first, front}
-use Rattle.uri_pct.proofs.Cuts.{excludes, to_mark, front_le_mark, valid_where_read}
+use Rattle.uri_pct.specs.Fronts.{begins_hex, allows_first}
+use Rattle.uri_pct.proofs.Cuts.{excludes}
 use Rattle.uri_pct.proofs.Validity.{valid_from, is_valid_for-bytes}
+use Rattle.uri_parts.proofs.Spelt.{valid_lacks}
+use Rattle.uri_ops.proofs.Characters.{lacks_test}
 use Rattle.uri_ops.proofs.Parts.{is_part, part_from, part_utf8, part_valid, reprinted, part_reprinted}
 
 -- the text has none of the marks
@@ -22,11 +22,7 @@ lacks_any marks text = list_all (λ c. not (is_one_of marks c)) text
 -- what a set allows has no character that the set excludes
 pub part_lacks : (marks : List ℕ) (set : TableSet) → LacksPercent set → excludes set marks ≡ true → (text : List ℕ) → is_part set text ≡ true → lacks_any marks text ≡ true
 part_lacks marks set lacks outside text e =
-    let u = part_utf8 set text e in
-    let whole : front set text ≡ length text = eqb-true _ _ (sym (valid_where_read set text lacks u) ∙ part_valid set text e) in
-    let far : length text ≤ to_mark marks text = omega (arith, front_le_mark marks set lacks outside text u) in
-    list_all-from_AllPass (λ c. not (is_one_of marks c)) text
-    (All-from_get_or (λ c. not (is_one_of marks c) ≡ true) text 0 (λ i h. prefix_len_passes (λ c. not (is_one_of marks c)) text i 0 (omega arith)))
+    lacks_test marks text (valid_lacks set marks lacks outside text (part_utf8 set text e) (part_valid set text e))
 
 -- the set without one of its characters
 abbrev pub without : ℕ → TableSet → TableSet

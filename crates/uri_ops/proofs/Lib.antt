@@ -14,3 +14,5 @@ pub mod ReadStarts
 pub mod FourKinds
 mod MeaningRows
 pub mod PortMeanings
+pub mod PlainTexts
+pub mod TextParts

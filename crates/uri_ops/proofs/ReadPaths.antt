@@ -1,16 +1,17 @@
 -- What is printed of the reading of a path: its segments, and its dot segments, which may be removed before or after.
-use Rattle.std.proofs.Common.{◌≡◌, ℕ, ◌+◌, ◌<◌, Bool, true, false, List, [], ◌∷◌, ◌++◌, length, get_or, drop, map, refl, sym, ap, subst, ◌∙◌, arith, lit<, rules}
+use Rattle.std.proofs.Common.{◌≡◌, ℕ, Bool, true, false, List, [], ◌∷◌, ◌++◌, map, refl, sym, ap, subst, ◌∙◌, arith, lit<, rules}
 use Rattle.std.specs.Prelude.{IsTrue}
 use Rattle.std.specs.List.{list_all}
 use Rattle.std.specs.Str.{IsUtf8}
-use Rattle.std.proofs.lemmas.Str.{IsUtf8-append, IsUtf8-nil, IsUtf8-take, IsUtf8-drop, IsUtf8-encode, IsCharBoundary-before_ascii, IsCharBoundary-after_ascii, encode_ascii}
+use Rattle.std.proofs.lemmas.Str.{IsUtf8-append, IsUtf8-nil, IsUtf8-encode, encode_ascii}
 use Rattle.std.proofs.Math.Utf8.{low_scalar}
-use Rattle.std.proofs.lemmas.List.{append-nil, map-append, length-append, take_at, drop_at, get_or_at}
+use Rattle.std.proofs.lemmas.List.{append-nil, map-append}
 use Rattle.std.proofs.lemmas.Bool.{and_parts, and_from, not_from_false}
 use Rattle.uri_pct.specs.Sets.{TableSet, LacksPercent, IsSubset, unreserved_set, is_unreserved, allows}
 use Rattle.uri_pct.specs.Tokens.{is_valid_for}
 use Rattle.uri_pct.proofs.Validity.{allows-ascii}
 use Rattle.uri_parts.specs.Components.{IsRooted}
+use Rattle.uri_parts.proofs.Spelt.{utf8_apart}
 use Rattle.uri_ops.specs.Dots.{has_slash, remove_dot_segments, underflows, directory, IsAbsolute}
 use Rattle.uri_ops.proofs.Segments.{cleaned, parent, Passes, append_passes, cleaned_passes}
 use Rattle.uri_ops.proofs.Slashed.{slashed, NoSlashes, first_lacks, remove_slashed, underflows_slashed, directory_slashed, parent_passes}
@@ -20,40 +21,16 @@ use Rattle.uri_ops.proofs.DotBytes.{same_single_dot, same_double_dot}
 use Rattle.uri_ops.proofs.Lacking.{reprinted_lacks}
 use Rattle.uri_ops.proofs.SegmentMaps.{KeepsDots, cleaned_map, parent_map, sinks_map}
 
--- a text in UTF-8 is cut at a `/` into texts in UTF-8
-slash_inside : (x y : List ℕ) → length x < length (x ++ 47 ∷ y)
-slash_inside x y = omega (arith, length-append x (47 ∷ y))
-
-slash_there : (x y : List ℕ) → get_or (x ++ 47 ∷ y) (length x) 0 ≡ 47
-slash_there x y = get_or_at x 47 y 0 (length x) refl
-
-pub utf8_before : (x y : List ℕ) → IsUtf8 (x ++ 47 ∷ y) → IsUtf8 x
-utf8_before x y u =
-    let at = slash_there x y in
-    subst IsUtf8 (take_at x (47 ∷ y) (length x) refl) (IsUtf8-take (x ++ 47 ∷ y) (length x) u (IsCharBoundary-before_ascii (x ++ 47 ∷ y) (length x) (slash_inside x y) (omega arith)))
-
-pub utf8_behind : (x y : List ℕ) → IsUtf8 (x ++ 47 ∷ y) → IsUtf8 y
-utf8_behind x y u =
-    let at = slash_there x y in
-    subst IsUtf8 (rest x) (IsUtf8-drop (x ++ 47 ∷ y) (length x + 1) u (IsCharBoundary-after_ascii (x ++ 47 ∷ y) (length x) u (slash_inside x y) (omega arith)))
-  where
-    rest : (x : List ℕ) → drop (length x + 1) (x ++ 47 ∷ y) ≡ y
-    rest x = ap (λ t. drop (length x + 1) t) (sym (regroup x)) ∙ drop_at (x ++ 47 ∷ []) y (length x + 1) (length-append x (47 ∷ []))
-      where
-        regroup : (x : List ℕ) → (x ++ 47 ∷ []) ++ y ≡ x ++ 47 ∷ y
-        regroup [] = refl
-        regroup (c ∷ x) = ap (λ t. c ∷ t) (regroup x)
-
 utf8_join : (x y : List ℕ) → IsUtf8 x → IsUtf8 y → IsUtf8 (x ++ 47 ∷ y)
 utf8_join x y u v = IsUtf8-append x (47 ∷ y) u (subst IsUtf8 (ap (λ t. t ++ y) (encode_ascii 47 (lit< tt))) (IsUtf8-append _ y (IsUtf8-encode 47 (low_scalar 47 (omega arith))) v))
 
--- so is a part
+-- a part is cut at a `/` into parts
 pub part_cut : (set : TableSet) (x y : List ℕ) → is_part set (x ++ 47 ∷ y) ≡ true → (is_part set x ≡ true) × (is_part set y ≡ true)
 part_cut set x y e =
     let u = part_utf8 set (x ++ 47 ∷ y) e in
-    let v = utf8_before x y u in
-    let p = and_parts (is_valid_for set x) _ (sym (valid-cut set x y v) ∙ part_valid set (x ++ 47 ∷ y) e) in
-    (part_from set x v p.0, part_from set y (utf8_behind x y u) (and_parts (allows set 47) (is_valid_for set y) p.1).1)
+    let v = utf8_apart x 47 y (lit< tt) u in
+    let p = and_parts (is_valid_for set x) _ (sym (valid-cut set x y v.0) ∙ part_valid set (x ++ 47 ∷ y) e) in
+    (part_from set x v.0 p.0, part_from set y v.1 (and_parts (allows set 47) (is_valid_for set y) p.1).1)
 
 pub part_join : (set : TableSet) → set.ascii 47 ≡ true → (x y : List ℕ) → is_part set x ≡ true → is_part set y ≡ true → is_part set (x ++ 47 ∷ y) ≡ true
 part_join set slash x y e f =
