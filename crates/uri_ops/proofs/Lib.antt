@@ -16,3 +16,6 @@ mod MeaningRows
 pub mod PortMeanings
 pub mod PlainTexts
 pub mod TextParts
+pub mod PathMeanings
+pub mod Ends
+pub mod NormalComponents
