@@ -8,8 +8,14 @@ pub mod Stops
 pub mod Accepts
 pub mod Relative
 pub mod Texts
+pub mod ReadPositions
+pub mod KindLemmas
 pub mod Places
 mod Rows
+pub mod Parts
 pub mod Addresses
 pub mod Spelt
+pub mod Futures
+pub mod Hosts
+pub mod Authority
 mod AuthorityRows

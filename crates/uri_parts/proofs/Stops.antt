@@ -21,6 +21,10 @@ utf8_from marks bs ascii u = IsUtf8-drop bs _ u (mark_boundary marks ascii bs)
 pub utf8_tail : (b : ℕ) (rest : List ℕ) → b < 128 → IsUtf8 (b ∷ rest) → IsUtf8 rest
 utf8_tail b rest h u = IsUtf8-drop (b ∷ rest) 1 u (IsCharBoundary-after_ascii (b ∷ rest) 0 u (omega arith) h)
 
+pub utf8_past : (mark : ℕ) → mark < 128 → (bs : List ℕ) → starts mark bs ≡ true → IsUtf8 bs → IsUtf8 (drop 1 bs)
+utf8_past mark h [] e u = u
+utf8_past mark h (b ∷ rest) e u = utf8_tail b rest (let d = eqb-true b mark e in omega arith) u
+
 pub utf8_slashes : (rest : List ℕ) → has_authority rest ≡ true → IsUtf8 rest → IsUtf8 (drop 2 rest)
 utf8_slashes [] e u = u
 utf8_slashes (a ∷ []) e u = absurd (false≢true (sym (and_right _ _ refl) ∙ e))

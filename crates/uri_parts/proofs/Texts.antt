@@ -1,5 +1,5 @@
 -- A whole text is read where it is of its kind.
-use Rattle.std.proofs.Common.{◌≡◌, ℕ, suc, ◌+◌, ◌<◌, ◌≤◌, Bool, true, false, cond, eqb, not, List, [], ◌∷◌, length, get_or, drop, refl, sym, ap, ◌∙◌, arith, ◌||◌, ◌&&◌, ⊎_elim}
+use Rattle.std.proofs.Common.{◌≡◌, ℕ, suc, ◌+◌, ◌<◌, ◌≤◌, Bool, true, false, cond, eqb, not, List, [], ◌∷◌, length, get_or, drop, refl, sym, ap, ◌∙◌, arith, ◌||◌, ◌&&◌, ⊎_elim, lit<}
 use Rattle.std.specs.Prelude.{codes, is_some}
 use Rattle.std.specs.Char.{is_ascii_alphabetic}
 use Rattle.std.specs.Str.{IsUtf8}
@@ -11,7 +11,7 @@ use Rattle.uri_pct.proofs.Cuts.{ascii_marks, to_mark, excludes, cut, front_zero_
 use Rattle.uri_parts.specs.Components.{before_any, from_any, starts, has_authority, has_scheme, after_scheme, after_authority, components, when}
 use Rattle.uri_parts.specs.Grammar.{Kind, if_some, is_scheme, is_authority, has_colon_first, is_of_kind}
 use Rattle.uri_parts.specs.Reading.{reads_path, reads_authority, reads_relative, reads_hier, reads_schemeless, reads}
-use Rattle.uri_parts.proofs.Stops.{utf8_from, utf8_tail, utf8_slashes}
+use Rattle.uri_parts.proofs.Stops.{utf8_from, utf8_past, utf8_slashes}
 use Rattle.uri_parts.proofs.Separations.{Separates}
 use Rattle.uri_parts.proofs.Accepts.{fragment_ok, end_ok, path_lemma, rest_ok, hier_lemma, slashes_lemma}
 use Rattle.uri_parts.proofs.Relative.{scheme_lacks, scheme_marks, stops_at_colon, at_mark, before_other, colon_first, relative_lemma, relative_false, relative_within}
@@ -91,13 +91,9 @@ scheme_head (b ∷ rest) e = ⊎_elim
 cut_scheme : (text : List ℕ) → IsUtf8 text → is_valid_for scheme_set (before_any (codes ":/?#") text) ≡ eqb (front scheme_set text) (to_mark (codes ":/?#") text)
 cut_scheme text u = cut (codes ":/?#") scheme_set scheme_lacks scheme_marks text u
 
-past_colon : (bs : List ℕ) → starts 58 bs ≡ true → IsUtf8 bs → IsUtf8 (drop 1 bs)
-past_colon [] e u = u
-past_colon (b ∷ rest) e u = utf8_tail b rest (let d = eqb-true b 58 e in omega arith) u
-
 utf8_scheme : (text : List ℕ) → IsUtf8 text → IsUtf8 (after_scheme text)
 utf8_scheme text u = ⊎_elim
-    (λ e. rw e (past_colon (from_any (codes ":/?#") text) (and_parts _ _ e).0 (utf8_from (codes ":/?#") text (ascii_marks (codes ":/?#") refl) u)))
+    (λ e. rw e (utf8_past 58 (lit< tt) (from_any (codes ":/?#") text) (and_parts _ _ e).0 (utf8_from (codes ":/?#") text (ascii_marks (codes ":/?#") refl) u)))
     (λ e. rw e u) (cases_Bool (has_scheme text))
 
 utf8_authority : (rest : List ℕ) → IsUtf8 rest → IsUtf8 (after_authority rest)

@@ -1,7 +1,9 @@
 pub mod Addresses
 pub mod Authority
 pub mod Authorities
+pub mod AuthorityTexts
 pub mod Components
+pub mod CoreTexts
 pub mod Errors
 pub mod Grammar
 pub mod Grammars
@@ -9,3 +11,4 @@ pub mod Hosts
 pub mod Positions
 pub mod Readers
 pub mod Reading
+pub mod Schemes

@@ -1,5 +1,12 @@
 //! The tables of a kind.
-use uri_pct::table::Table;
+ghost use Rattle.std.specs.Prelude.{◌≡◌};
+ghost use Rattle.uri_pct.specs.Sets.{segment_nz_nc_set};
+ghost use Rattle.uri_pct.specs.Tables.{set_of};
+ghost use Rattle.uri_parts.specs.Grammar.{uri_ref};
+ghost use Rattle.uri_parts.specs.Grammars.{kind_of};
+
+use uri_pct::encoder::{Encoder, Fragment, Path, Query, RegName, Userinfo};
+use uri_pct::table::{SEGMENT_NZ_NC, Table};
 
 /// The tables that tell the kinds apart, and whether a scheme is needed.
 #[doc(hidden)]
@@ -13,4 +20,22 @@ pub struct Grammar {
     pub query: Table,
     pub fragment: Table,
     pub needs_scheme: bool,
+}
+
+/// The tables of URI references (RFC 3986, section 4.1).
+#[tactic(auto, using(uri_pct::proofs::Constants::segment_nz_nc_table))]
+#[doc(hidden)]
+pub fn uri_ref_grammar() -> Grammar
+    ensures kind { kind_of result ≡ uri_ref }
+    ensures segment { set_of result.segment_nz_nc ≡ segment_nz_nc_set }
+{
+    Grammar {
+        userinfo: Userinfo::table(),
+        reg_name: RegName::table(),
+        path: Path::table(),
+        segment_nz_nc: SEGMENT_NZ_NC,
+        query: Query::table(),
+        fragment: Fragment::table(),
+        needs_scheme: false,
+    }
 }

@@ -1,10 +1,20 @@
-//! The parts of a reference.
+//! The parts of a reference: its components, and the grammar of each kind.
 #![tactic(auto)]
 
+pub mod component;
+#[doc(hidden)]
+pub mod core_text;
 pub mod error;
+#[doc(hidden)]
 pub mod grammar;
+#[doc(hidden)]
 pub mod laws;
 pub mod net;
+#[doc(hidden)]
 pub mod parse;
+#[doc(hidden)]
 pub mod positions;
+#[doc(hidden)]
 pub mod reader;
+#[doc(hidden)]
+pub mod rules;

@@ -2,14 +2,17 @@
 ghost use Rattle.std.specs.Prelude.{◌≡◌, ◌↔◌, ◌+◌, IfErr, IfOk, IsOk, OnOk, is_ok, Some, None};
 ghost use Rattle.uri_pct.specs.Tables.{set_of};
 ghost use Rattle.uri_parts.specs.Errors.{IsErrorIn};
+ghost use Rattle.uri_parts.specs.Grammar.{IsOfKind, uri_ref};
 ghost use Rattle.uri_parts.specs.Grammars.{kind_of};
+ghost use Rattle.uri_parts.specs.Positions.{AreAt};
 ghost use Rattle.uri_parts.specs.Readers.{rest_of, text_of, place_of};
 ghost use Rattle.uri_parts.specs.Reading.{reads_fragment, reads_end, reads_path, reads_rooted, reads_authority, reads_relative, reads_hier, reads_schemeless, reads, query_end_at, path_positions, authority_positions, relative_positions, hier_positions, schemeless_positions, read_positions};
 
 use crate::error::ParseError;
-use crate::grammar::Grammar;
+use crate::grammar::{Grammar, uri_ref_grammar};
 use crate::positions::{AuthorityPositions, Positions};
 use crate::reader::Reader;
+use uri_pct::table::SCHEME;
 
 /// A fragment if there is one, and then the end.
 #[tactic(auto, unfolding(crate::specs::Reading::reads_fragment))]
@@ -161,3 +164,35 @@ fn read_schemeless(reader: &mut Reader<'_>, grammar: &Grammar) -> Result<Positio
     }
 }
 
+/// Reads a whole text.
+#[tactic(auto, using(uri_pct::proofs::Constants::scheme_table), unfolding(crate::specs::Reading::reads, crate::specs::Reading::read_positions))]
+fn read_text(grammar: &Grammar, text: &str) -> Result<Positions, ParseError>
+    ensures accepts { is_ok result ≡ reads (set_of grammar.now.segment_nz_nc) (kind_of grammar.now) text.now }
+    ensures places { IfOk result (λ p. p ≡ read_positions (set_of grammar.now.segment_nz_nc) (kind_of grammar.now) text.now) }
+    ensures err { IfErr result (IsErrorIn text.now) }
+{
+    let mut reader = Reader::new(text);
+    let not_a_letter = reader.unexpected();
+    reader.pass(&SCHEME)?;
+    let scheme_end = reader.position();
+    if reader.skip(b':') {
+        if !text.as_bytes()[0].is_ascii_alphabetic() {
+            return Err(not_a_letter);
+        }
+        return read_hier(&mut reader, grammar, scheme_end);
+    }
+    if grammar.needs_scheme {
+        return Err(reader.unexpected());
+    }
+    read_schemeless(&mut reader, grammar)
+}
+
+/// Where the components of a URI reference lie (RFC 3986, section 4.1), or why the text is none.
+#[tactic(auto, using(crate::proofs::KindLemmas::uri_ref_reads, crate::proofs::KindLemmas::uri_ref_positions))]
+pub fn parse_uri_ref(text: &str) -> Result<Positions, ParseError>
+    ensures accepts { IsOk result ↔ IsOfKind uri_ref text.now }
+    ensures positions { IfOk result (AreAt text.now) }
+    ensures err { IfErr result (IsErrorIn text.now) }
+{
+    read_text(&uri_ref_grammar(), text)
+}

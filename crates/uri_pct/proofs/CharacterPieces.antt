@@ -52,35 +52,35 @@ pub row_1 : (b : ℕ) → b < 0x80 → following b ≡ Some []
 unfolding following
 row_1 b high = grind (arith, nat_tests)
 
-row_2 : (b : ℕ) → 0xC2 ≤ b → b ≤ 0xDF → following b ≡ Some (continuation ∷ [])
+pub row_2 : (b : ℕ) → 0xC2 ≤ b → b ≤ 0xDF → following b ≡ Some (continuation ∷ [])
 unfolding following
 row_2 b low high = grind (arith, nat_tests)
 
-row_3 : (b : ℕ) → b ≡ 0xE0 → following b ≡ Some ((0xA0, 0xBF) ∷ continuation ∷ [])
+pub row_3 : (b : ℕ) → b ≡ 0xE0 → following b ≡ Some ((0xA0, 0xBF) ∷ continuation ∷ [])
 unfolding following
 row_3 b e = ap following e
 
-row_4 : (b : ℕ) → 0xE1 ≤ b → b ≤ 0xEC → following b ≡ Some (continuation ∷ continuation ∷ [])
+pub row_4 : (b : ℕ) → 0xE1 ≤ b → b ≤ 0xEC → following b ≡ Some (continuation ∷ continuation ∷ [])
 unfolding following
 row_4 b low high = grind (arith, nat_tests)
 
-row_5 : (b : ℕ) → b ≡ 0xED → following b ≡ Some ((0x80, 0x9F) ∷ continuation ∷ [])
+pub row_5 : (b : ℕ) → b ≡ 0xED → following b ≡ Some ((0x80, 0x9F) ∷ continuation ∷ [])
 unfolding following
 row_5 b e = ap following e
 
-row_6 : (b : ℕ) → 0xEE ≤ b → b ≤ 0xEF → following b ≡ Some (continuation ∷ continuation ∷ [])
+pub row_6 : (b : ℕ) → 0xEE ≤ b → b ≤ 0xEF → following b ≡ Some (continuation ∷ continuation ∷ [])
 unfolding following
 row_6 b low high = grind (arith, nat_tests)
 
-row_7 : (b : ℕ) → b ≡ 0xF0 → following b ≡ Some ((0x90, 0xBF) ∷ continuation ∷ continuation ∷ [])
+pub row_7 : (b : ℕ) → b ≡ 0xF0 → following b ≡ Some ((0x90, 0xBF) ∷ continuation ∷ continuation ∷ [])
 unfolding following
 row_7 b e = ap following e
 
-row_8 : (b : ℕ) → 0xF1 ≤ b → b ≤ 0xF3 → following b ≡ Some (continuation ∷ continuation ∷ continuation ∷ [])
+pub row_8 : (b : ℕ) → 0xF1 ≤ b → b ≤ 0xF3 → following b ≡ Some (continuation ∷ continuation ∷ continuation ∷ [])
 unfolding following
 row_8 b low high = grind (arith, nat_tests)
 
-row_9 : (b : ℕ) → b ≡ 0xF4 → following b ≡ Some ((0x80, 0x8F) ∷ continuation ∷ continuation ∷ [])
+pub row_9 : (b : ℕ) → b ≡ 0xF4 → following b ≡ Some ((0x80, 0x8F) ∷ continuation ∷ continuation ∷ [])
 unfolding following
 row_9 b e = ap following e
 

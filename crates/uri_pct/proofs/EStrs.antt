@@ -1,4 +1,4 @@
-use Rattle.std.proofs.Common.{◌≡◌, List, [], true, refl}
+use Rattle.std.proofs.Common.{◌≡◌, [], true, refl}
 use Rattle.std.specs.Str.{chars}
 use Rattle.uri_pct.specs.Sets.{TableSet}
 use Rattle.uri_pct.specs.Tokens.{is_valid_for, tokens_of}

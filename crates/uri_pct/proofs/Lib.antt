@@ -17,3 +17,4 @@ pub mod Rereading
 pub mod Octets
 pub mod ReadingLaws
 mod ReadingRows
+pub mod Lossy

@@ -13,7 +13,7 @@ fitting_le (range ∷ ranges) (b ∷ rest) =
     let h = fitting_le ranges rest in
     ⊎_elim (λ e. rw e (omega arith)) (λ e. rw e (omega arith)) (cases_Bool (is_within range b))
 
-taken_le : (row : Option (List ByteRange)) (rest : List ℕ) → taken row rest ≤ length rest
+pub taken_le : (row : Option (List ByteRange)) (rest : List ℕ) → taken row rest ≤ length rest
 taken_le None rest = omega arith
 taken_le (Some ranges) rest = fitting_le ranges rest
 
@@ -138,7 +138,7 @@ take-nil : (n : ℕ) → take {A = ℕ} n [] ≡ []
 take-nil zero = refl
 take-nil (suc n) = refl
 
-take_two : (n m : ℕ) (text : List ℕ) → take n text ++ take m (drop n text) ≡ take (n + m) text
+pub take_two : (n m : ℕ) (text : List ℕ) → take n text ++ take m (drop n text) ≡ take (n + m) text
 take_two zero m text = ap (λ k. take k text) (sym (zero-add m))
 take_two (suc n) m [] = take-nil m ∙ sym (take-nil (suc n + m))
 take_two (suc n) m (b ∷ rest) = let e : suc n + m ≡ suc (n + m) = omega arith in rw e (ap (λ t. b ∷ t) (take_two n m rest))

@@ -1,18 +1,18 @@
 -- What reading keeps: the bytes, what the set allows, and what stands on either side of a character.
-use Rattle.std.proofs.Common.{◌≡◌, ℕ, Bool, true, List, [], ◌∷◌, ◌++◌, map, refl, sym, ap, ◌∙◌, ⊎_elim, append_assoc}
-use Rattle.std.specs.Char.{encode_utf8}
+use Rattle.std.proofs.Common.{◌≡◌, ℕ, Bool, true, cond, List, [], ◌∷◌, ◌++◌, map, refl, sym, ap, ◌∙◌, ⊎_elim, append_assoc}
+use Rattle.std.specs.Char.{encode_utf8, IsScalar}
 use Rattle.std.specs.List.{list_all, flat_map, All}
 use Rattle.std.proofs.lemmas.List.{append-nil, map-append}
 use Rattle.std.proofs.lemmas.List.Concat.{flat_map-append}
 use Rattle.std.proofs.lemmas.List.Folds.{list_all-append}
 use Rattle.std.proofs.lemmas.List.Elements.{All-head, All-tail}
-use Rattle.std.proofs.lemmas.Bool.{cases_Bool, and_parts, and_from}
+use Rattle.std.proofs.lemmas.Bool.{cases_Bool, cond-true, and_parts, and_from}
 use Rattle.uri_pct.specs.Sets.{TableSet, LacksPercent, IsSubset, unreserved_set}
 use Rattle.uri_pct.specs.Tokens.{Token, Char, Octet, tokens, token_bytes, bytes_of_token, print, allows_token, is_valid_for, IsValidFor}
 use Rattle.uri_pct.specs.Pieces.{Piece, WellFormed, IllFormed, char_of, piece_bytes, bytes_of_pieces, utf8_pieces, IsOfCharacter}
 use Rattle.uri_pct.specs.Reading.{is_printable, is_readable, read_piece, read_run, read_from, read_tokens, read}
 use Rattle.uri_pct.proofs.Pieces.{bytes_of_pieces-utf8_pieces}
-use Rattle.uri_pct.proofs.CharacterPieces.{utf8_pieces-are}
+use Rattle.uri_pct.proofs.CharacterPieces.{utf8_pieces-are, utf8_pieces-around_char, char_of-encode}
 use Rattle.uri_pct.proofs.Printing.{is_valid_for-print}
 use Rattle.uri_pct.proofs.Allowed.{printable_readable, allows_readable, printable_valid}
 
@@ -114,3 +114,43 @@ from_parted set run (Char d ∷ ts) c us =
 
 pub read_tokens-around_char : (set : TableSet) (ts : List Token) (c : ℕ) (us : List Token) → read_tokens set (ts ++ Char c ∷ us) ≡ read_tokens set ts ++ Char c ∷ read_tokens set us
 read_tokens-around_char set ts c us = from_parted set [] ts c us
+
+-- the octets of a readable character part a run as the character does
+run_parted : (set : TableSet) (run : List ℕ) (c : ℕ) (more : List ℕ) → IsScalar c → is_readable set c ≡ true → read_run set (run ++ (encode_utf8 c ++ more)) ≡ read_run set run ++ Char c ∷ read_run set more
+unfolding read_run
+run_parted set run c more scalar readable =
+    let same = char_of-encode c scalar in
+    ap (flat_map (read_piece set)) (utf8_pieces-around_char run c more scalar)
+    ∙ flat_map-append (read_piece set) (utf8_pieces run) (WellFormed (encode_utf8 c) ∷ utf8_pieces more)
+    ∙ ap (λ x. flat_map (read_piece set) (utf8_pieces run) ++ (x ++ flat_map (read_piece set) (utf8_pieces more)))
+    (ap (λ d. cond (is_readable set d) (Char d ∷ []) (map Octet (encode_utf8 c))) same ∙ cond-true _ _ _ readable)
+
+octets_parted : (set : TableSet) (run : List ℕ) (c : ℕ) (more : List ℕ) (ts : List Token) → IsScalar c → is_readable set c ≡ true → read_from set (run ++ (encode_utf8 c ++ more)) ts ≡ read_run set run ++ Char c ∷ read_from set more ts
+unfolding read_from
+octets_parted set run c more [] scalar readable = run_parted set run c more scalar readable
+octets_parted set run c more (Octet value ∷ ts) scalar readable =
+    ap (λ r. read_from set r ts) (append_assoc run (encode_utf8 c ++ more) (value ∷ []) ∙ ap (λ x. run ++ x) (append_assoc (encode_utf8 c) more (value ∷ [])))
+    ∙ octets_parted set run c (more ++ value ∷ []) ts scalar readable
+octets_parted set run c more (Char d ∷ ts) scalar readable =
+    ap (λ x. x ++ Char d ∷ read_from set [] ts) (run_parted set run c more scalar readable)
+    ∙ append_assoc (read_run set run) (Char c ∷ read_run set more) (Char d ∷ read_from set [] ts)
+
+octets_join : (set : TableSet) (run more : List ℕ) (ts : List Token) → read_from set run (map Octet more ++ ts) ≡ read_from set (run ++ more) ts
+unfolding read_from
+octets_join set run [] ts = ap (λ r. read_from set r ts) (sym (append-nil run))
+octets_join set run (b ∷ more) ts = octets_join set (run ++ b ∷ []) more ts ∙ ap (λ r. read_from set r ts) (append_assoc run (b ∷ []) more)
+
+from_encoded : (set : TableSet) (run : List ℕ) (ts : List Token) (c : ℕ) (us : List Token) → IsScalar c → is_readable set c ≡ true
+    → read_from set run (ts ++ (map Octet (encode_utf8 c) ++ us)) ≡ read_from set run (ts ++ Char c ∷ us)
+unfolding read_from
+from_encoded set run [] c us scalar readable =
+    octets_join set run (encode_utf8 c) us
+    ∙ ap (λ x. read_from set (run ++ x) us) (sym (append-nil (encode_utf8 c)))
+    ∙ octets_parted set run c [] us scalar readable
+from_encoded set run (Octet value ∷ ts) c us scalar readable = from_encoded set (run ++ value ∷ []) ts c us scalar readable
+from_encoded set run (Char d ∷ ts) c us scalar readable = ap (λ x. read_run set run ++ Char d ∷ x) (from_encoded set [] ts c us scalar readable)
+
+-- the octets of a readable character are read as the character, wherever they stand
+pub read_tokens-encoded : (set : TableSet) (ts : List Token) (c : ℕ) (us : List Token) → IsScalar c → is_readable set c ≡ true
+    → read_tokens set (ts ++ (map Octet (encode_utf8 c) ++ us)) ≡ read_tokens set (ts ++ Char c ∷ us)
+read_tokens-encoded set ts c us scalar readable = from_encoded set [] ts c us scalar readable

@@ -2,10 +2,13 @@
 use Rattle.std.proofs.Common.{◌≡◌, ℕ, ◌+◌, ◌^◌, ◌<◌, ◌≤◌, Bool, true, false, not, eqb, refl, sym, ap, ◌∙◌, arith, bit_or, ◌&&◌, ◌||◌, All, List, get_or}
 use Rattle.std.specs.Int.Bits.{bit_and, or_add_and}
 use Rattle.std.proofs.lemmas.Nat.{and_le_l, and_le_r}
-use Rattle.std.proofs.lemmas.Bool.{and_parts, or_parts, not-true, eqb-true, ne_eqb}
+use Rattle.std.proofs.lemmas.Bool.{and_parts, or_parts, not-true, eqb-true, eqb-false, ltb-true, ne_eqb}
 use Rattle.std.proofs.lemmas.List.Folds.{list_any_none}
+use Rattle.std.proofs.lemmas.List.Sums.{AllPass-from_list_all}
+use Rattle.std.proofs.Math.Dec.{ltb}
+use Rattle.std.specs.List.{list_all}
 use Rattle.uri_pct.specs.Sets.{TableSet, difference, IsSubset, is_one_of}
-use Rattle.uri_pct.specs.Masks.{has_bit}
+use Rattle.uri_pct.specs.Masks.{has_bit, is_plain_ascii}
 use Rattle.uri_pct.specs.Tables.{empty_set}
 use Rattle.uri_pct.proofs.Masks.{has_no_bits, low_is_zero, high_is_zero}
 
@@ -76,3 +79,9 @@ clear_if_empty low high pct_encoded ucschar iprivate fits fits' e =
 -- a byte that is in no place of a list
 pub not_one_of : (bytes : List ℕ) (c : ℕ) → All (λ b. b ≡ c → ⊥) bytes → is_one_of bytes c ≡ false
 not_one_of bytes c h = list_any_none (λ x. eqb x c) bytes (λ k d within. ne_eqb (get_or bytes k d) c (h k d within))
+
+pub plain_bytes : (bytes : List ℕ) → list_all is_plain_ascii bytes ≡ true → All (λ b. (b < 128) × (b ≡ 37 → ⊥)) bytes
+plain_bytes bytes h = λ k d within.
+    let b = get_or bytes k d in
+    let parts = and_parts (ltb b 128) (not (eqb b 37)) (AllPass-from_list_all is_plain_ascii bytes h k d within) in
+    (ltb-true b 128 parts.0, eqb-false b 37 (not-true (eqb b 37) parts.1))

@@ -1,7 +1,11 @@
 -- Two words as a set of ASCII characters.
-use Rattle.std.specs.Prelude.{ℕ, ◌-◌, Bool, ◌&&◌, ◌==◌, nat_lt, if◌then◌else◌}
+use Rattle.std.specs.Prelude.{ℕ, ◌-◌, Bool, not, ◌&&◌, ◌==◌, nat_lt, if◌then◌else◌}
 use Rattle.std.specs.Int.{bit_at}
 
 -- bit n of `low` is character n, and bit n of `high` is character 64 + n
 unfoldable pub has_bit : ℕ → ℕ → ℕ → Bool
 has_bit low high c = if nat_lt c 64 then bit_at low c == 1 else (nat_lt c 128 && bit_at high (c - 64) == 1)
+
+-- an ASCII character other than `%`
+abbrev pub is_plain_ascii : ℕ → Bool
+is_plain_ascii c = nat_lt c 128 && not (c == 37)

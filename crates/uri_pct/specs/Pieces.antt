@@ -1,5 +1,5 @@
 -- The characters and the ill-formed parts of bytes: Unicode, section 3.9, table 3-7.
-use Rattle.std.specs.Prelude.{◌≡◌, ℕ, zero, suc, Bool, false, ◌==◌, List, [], ◌∷◌, length, take, Option, Some, None, option_map, slice_index, if◌then◌else◌}
+use Rattle.std.specs.Prelude.{◌≡◌, ℕ, zero, suc, Bool, true, false, ◌==◌, List, [], ◌∷◌, length, take, Option, Some, None, option_map, slice_index, if◌then◌else◌}
 use Rattle.std.specs.Char.{encode_utf8, IsScalar}
 use Rattle.std.specs.Int.{is_in_range}
 use Rattle.std.specs.List.{find, flat_map}
@@ -14,6 +14,10 @@ pub data Piece : Type 0 where
 abbrev pub piece_bytes : Piece → List ℕ
 piece_bytes (WellFormed bytes) = bytes
 piece_bytes (IllFormed bytes) = bytes
+
+abbrev pub is_well_formed : Piece → Bool
+is_well_formed (WellFormed bytes) = true
+is_well_formed (IllFormed bytes) = false
 
 -- the least and the greatest of some bytes
 abbrev pub ByteRange : Type 0

@@ -7,8 +7,8 @@ use Rattle.uri_pct.specs.Sets.{TableSet, is_unreserved, allows_past_ascii}
 use Rattle.uri_pct.specs.Tokens.{Token, Char, Octet, tokens}
 use Rattle.uri_pct.specs.Pieces.{Piece, WellFormed, IllFormed, char_of, utf8_pieces}
 
--- the character may stand for itself wherever the set does, and means the same there as its octets: one that is
--- unreserved, and in an IRI one of `ucschar`, and in its query one of `iprivate`
+-- a character that stands for its octets: one that is unreserved, and in an IRI one of `ucschar`, in its query also one
+-- of `iprivate`. The formatting characters of bidirectional text are read like any other.
 unfoldable pub is_readable : TableSet → ℕ → Bool
 is_readable set c = is_unreserved c || allows_past_ascii set c
 

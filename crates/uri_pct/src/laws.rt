@@ -1,13 +1,15 @@
 //! Laws of the definitions: each is the contract of a function that does nothing.
 #![tactic(auto, using(crate::proofs::ReadingLaws::reading_laws))]
 
-ghost use Rattle.std.specs.Prelude.{◌≡◌, ℕ, true, false, List, ◌∷◌, ◌++◌, map, All};
+ghost use Rattle.std.specs.Prelude.{◌≡◌, ◌↔◌, ℕ, true, false, List, ◌∷◌, ◌++◌, map, All};
 ghost use Rattle.std.specs.Char.{IsScalar, encode_utf8};
 ghost use Rattle.std.specs.List.{list_all};
+ghost use Rattle.std.specs.Str.{IsUtf8};
+ghost use Rattle.std.specs.Str.Lossy.{utf8_lossy};
 ghost use Rattle.uri_pct.specs.Sets.{TableSet, LacksPercent, IsSubset, unreserved_set};
-ghost use Rattle.uri_pct.specs.Tokens.{Token, Char, tokens, token_bytes, print, allows_token, IsValidFor};
-ghost use Rattle.uri_pct.specs.Pieces.{WellFormed, IsOfCharacter, begins_within, bytes_of_pieces, utf8_pieces};
-ghost use Rattle.uri_pct.specs.Reading.{LacksPastAscii, is_printable, lower_token, read_alone, read_tokens, read};
+ghost use Rattle.uri_pct.specs.Tokens.{Token, Char, Octet, tokens, token_bytes, print, allows_token, IsValidFor};
+ghost use Rattle.uri_pct.specs.Pieces.{WellFormed, IsOfCharacter, is_well_formed, begins_within, bytes_of_pieces, utf8_pieces, lossy_text};
+ghost use Rattle.uri_pct.specs.Reading.{LacksPastAscii, is_printable, is_readable, lower_token, read_alone, read_tokens, read};
 
 /// What is printed is read back as the tokens that were printed, and the tokens of a text that is
 /// valid for a set may be printed (RFC 3986, sections 2.1 and 6.2.2.1).
@@ -28,8 +30,17 @@ pub fn pieces()
     ensures between { (before behind : List ℕ) → begins_within behind ≡ false → utf8_pieces (before ++ behind) ≡ utf8_pieces before ++ utf8_pieces behind }
 {}
 
-/// Reading changes no bytes, what is read of a text that is valid for a set is valid for it, and a
-/// character that stands for itself parts what is read before it from what is read behind it.
+/// Bytes are UTF-8 exactly where no piece is ill-formed, and the lossy text is that of std's
+/// `String::from_utf8_lossy`.
+#[doc(hidden)]
+pub fn lossy()
+    ensures whole { (bytes : List ℕ) → (list_all is_well_formed (utf8_pieces bytes) ≡ true) ↔ IsUtf8 bytes }
+    ensures text { (bytes : List ℕ) → lossy_text bytes ≡ utf8_lossy bytes }
+{}
+
+/// Reading changes no bytes, what is read of a text that is valid for a set is valid for it, a
+/// character that stands for itself parts what is read before it from what is read behind it, and the
+/// octets of a readable character are read as it is, wherever they stand.
 #[doc(hidden)]
 pub fn reading()
     ensures bytes { (set : TableSet) (text : List ℕ) → token_bytes (read set text) ≡ token_bytes (tokens text) }
@@ -37,6 +48,7 @@ pub fn reading()
     ensures valid { (set : TableSet) (text : List ℕ) → LacksPercent set → IsSubset unreserved_set set → IsValidFor set text → IsValidFor set (print (read set text)) }
     ensures printable { (set : TableSet) (ts : List Token) → list_all is_printable ts ≡ true → list_all is_printable (read_tokens set ts) ≡ true }
     ensures around_char { (set : TableSet) (before : List Token) (c : ℕ) (behind : List Token) → read_tokens set (before ++ Char c ∷ behind) ≡ read_tokens set before ++ Char c ∷ read_tokens set behind }
+    ensures encoded { (set : TableSet) (before : List Token) (c : ℕ) (behind : List Token) → IsScalar c → is_readable set c ≡ true → read_tokens set (before ++ (map Octet (encode_utf8 c) ++ behind)) ≡ read_tokens set (before ++ Char c ∷ behind) }
 {}
 
 /// In a URI each octet is read by itself (RFC 3986, section 6.2.2.2), which is the reading of an IRI

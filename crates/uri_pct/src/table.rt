@@ -1,7 +1,9 @@
 //! Sets of characters (RFC 3986, appendix A; RFC 3987, section 2.2).
-ghost use Rattle.std.specs.Prelude.{◌≡◌, ◌≢◌, ◌<◌, ◌↔◌, ◌==◌, IsTrue, All, true, false};
-ghost use Rattle.uri_pct.specs.Sets.{allows, allows_past_ascii, is_ucschar, is_iprivate, is_one_of, plain, union, difference, IsSubset};
+ghost use Rattle.std.specs.Prelude.{◌≡◌, ◌<◌, ◌↔◌, ◌==◌, IsTrue, true, false};
 ghost use Rattle.std.specs.Int.{bit_at};
+ghost use Rattle.std.specs.List.{list_all};
+ghost use Rattle.uri_pct.specs.Masks.{is_plain_ascii};
+ghost use Rattle.uri_pct.specs.Sets.{allows, allows_past_ascii, is_ucschar, is_iprivate, is_one_of, plain, union, difference, IsSubset};
 
 use std::alloc::AllocError;
 
@@ -31,7 +33,7 @@ impl Table {
     ///
     /// Each byte is ASCII and not `%`; the list may be empty.
     pub fn new(bytes: &[u8]) -> Table
-        requires { All (λ b. (b < 128) × (b ≢ 37)) bytes.now }
+        requires { IsTrue (list_all is_plain_ascii bytes.now) }
         ensures { set_of result ≡ plain (is_one_of bytes.now) }
     {
         let mut low: u64 = 0;

@@ -4,7 +4,7 @@ use Rattle.std.proofs.lemmas.List.Folds.{list_any_more}
 use Rattle.uri_pct.specs.Sets.{is_one_of}
 use Rattle.uri_pct.specs.Masks.{has_bit}
 use Rattle.uri_pct.proofs.Masks.{percent_bit, has_no_bits, has_bit_set_low, has_bit_set_high}
-use Rattle.uri_pct.proofs.Tables.{not_one_of}
+use Rattle.uri_pct.proofs.Tables.{not_one_of, plain_bytes}
 use Rattle.uri_pct.proofs.table.Table.new.Goals as goal
 use Rattle.uri_pct.proofs.table.Table.new.Goals.{then-byte-lt64, else-byte-lt64}
 
@@ -19,7 +19,7 @@ loop-byte-preserved c = λ code.
       | then-byte-lt64 w ↦ (λ i. has_bit (w.low-is i) (w.high-is i) code) ∙ has_bit_set_low c.loop-byte.low c.loop-byte.high here code w.if-byte-lt64.true
       | else-byte-lt64 w ↦
           (λ i. has_bit (w.low-is i) (w.high-is i) code)
-          ∙ has_bit_set_high c.loop-byte.low c.loop-byte.high here code w.if-byte-lt64.false (c.requires c.loop-byte.byte-index 0 c.loop-byte-test.true).0
+          ∙ has_bit_set_high c.loop-byte.low c.loop-byte.high here code w.if-byte-lt64.false (plain_bytes c.args.bytes.now c.requires c.loop-byte.byte-index 0 c.loop-byte-test.true).0
     ] in
     step ∙ ap (λ b. b || eqb here code) (c.loop-byte.invariant code)
     ∙ sym (list_any_more (λ x. eqb x code) c.args.bytes.now c.loop-byte.byte-index 0 c.loop-byte-test.true)
@@ -30,5 +30,5 @@ invariant_of-result c =
     record {
       lacks_percent =
           sym (percent_bit c.loop-byte.low c.loop-byte.high) ∙ c.loop-byte.invariant 37 ∙ ap (λ bs. is_one_of bs 37) all
-          ∙ not_one_of c.args.bytes.now 37 (λ k d within. (c.requires k d within).1);
+          ∙ not_one_of c.args.bytes.now 37 (λ k d within. (plain_bytes c.args.bytes.now c.requires k d within).1);
     }

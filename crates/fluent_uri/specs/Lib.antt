@@ -1,0 +1,12 @@
+pub use Rattle.uri_pct.specs.EStrs
+pub use Rattle.uri_pct.specs.Fronts
+pub use Rattle.uri_pct.specs.Masks
+pub use Rattle.uri_pct.specs.Sets
+pub use Rattle.uri_pct.specs.Tables
+pub use Rattle.uri_pct.specs.Tokens
+pub use Rattle.uri_parts.specs.AuthorityTexts
+pub use Rattle.uri_parts.specs.Components
+pub use Rattle.uri_parts.specs.Errors
+pub use Rattle.uri_parts.specs.Grammar
+pub use Rattle.uri_parts.specs.Schemes
+pub use Rattle.uri_ascii.specs.UriRefs

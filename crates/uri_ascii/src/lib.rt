@@ -1,0 +1,4 @@
+//! URI references.
+#![tactic(auto)]
+
+pub mod uri_ref;

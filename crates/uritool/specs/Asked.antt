@@ -1,0 +1,7 @@
+use Rattle.uritool.specs.Commands.{Command, Parse}
+use Rattle.uritool.specs.declared.command.Command.{Command as Words}
+use Rattle.uritool.specs.declared.command.Command.TheVariants as words
+
+-- a command of the program as one of the contracts
+abbrev pub asked : Words → Command
+asked (words.Parse name text) = Parse name text.now

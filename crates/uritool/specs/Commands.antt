@@ -1,0 +1,32 @@
+-- What the words of a command line ask for, and what is printed then.
+use Rattle.std.specs.Prelude.{◌≡◌, ℕ, List, [], ◌∷◌, codes, map, String, string_bytes, Option, Some, None, if◌then◌else◌}
+use Rattle.fluent_uri.specs.Components.{components}
+use Rattle.fluent_uri.specs.Grammar.{Kind, uri_ref, is_of_kind}
+use Rattle.uritool.specs.Lines.{component_lines}
+use Rattle.uritool.specs.declared.command.KindName.{KindName}
+use Rattle.uritool.specs.declared.command.KindName.TheVariants.{UriRef}
+
+abbrev pub kind_of : KindName → Kind
+kind_of UriRef = uri_ref
+
+abbrev pub word_of_kind : KindName → List ℕ
+word_of_kind UriRef = codes "uri-ref"
+
+-- `parse KIND TEXT`
+pub data Command : Type 0 where
+  Parse : KindName → List ℕ → Command
+
+-- the words that ask for it
+abbrev pub words_of : Command → List (List ℕ)
+words_of (Parse name text) = codes "parse" ∷ word_of_kind name ∷ text ∷ []
+
+-- what is printed for it, or that it is refused
+abbrev pub output_of : Command → Option (List ℕ)
+output_of (Parse name text) = if is_of_kind (kind_of name) text then Some (component_lines (components text)) else None
+
+-- the bytes of the words
+abbrev pub texts : {Z : Type 0} → List (String Z) → List (List ℕ)
+texts words = map string_bytes words
+
+abbrev pub IsCommand : List (List ℕ) → Type 0
+IsCommand words = (command : Command) × (words ≡ words_of command)

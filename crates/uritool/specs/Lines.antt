@@ -1,0 +1,18 @@
+-- What is printed for a reference.
+use Rattle.std.specs.Prelude.{ℕ, List, [], ◌++◌, codes, Option, Some, None}
+use Rattle.fluent_uri.specs.Components.{Components}
+
+-- the line of a component: its name, `=`, its text and a newline
+abbrev pub line : List ℕ → List ℕ → List ℕ
+line name text = name ++ codes "=" ++ text ++ codes "\n"
+
+-- its line where the component is present, and else nothing
+abbrev pub optional_line : List ℕ → Option (List ℕ) → List ℕ
+optional_line name None = []
+optional_line name (Some text) = line name text
+
+-- the lines of the components that are present, in the order in which they stand in a text
+abbrev pub component_lines : Components → List ℕ
+component_lines p =
+    optional_line (codes "scheme") p.scheme ++ optional_line (codes "authority") p.authority ++ line (codes "path") p.path
+    ++ optional_line (codes "query") p.query ++ optional_line (codes "fragment") p.fragment

@@ -1,0 +1,42 @@
+//! What the words of a command line ask for.
+ghost use Rattle.std.specs.Prelude.{◌≡◌, ◌≢◌, MatchOption};
+ghost use Rattle.uritool.specs.Commands.{IsCommand, word_of_kind, words_of, texts};
+ghost use Rattle.uritool.specs.Asked.{asked};
+
+/// A kind, by its name on the command line.
+#[derive(Clone, Copy)]
+pub enum KindName {
+    /// `uri-ref`
+    UriRef,
+}
+
+/// What is asked for.
+#[derive(Clone, Copy)]
+pub enum Command<'a> {
+    /// `parse KIND TEXT`
+    Parse(KindName, &'a str),
+}
+
+impl<'a> Command<'a> {
+    /// The command that the words ask for, if they ask for one that there is.
+    pub fn from_words(words: &'a [String]) -> Option<Command<'a>>
+        ensures { MatchOption result (¬ IsCommand (texts words.now))
+            (λ c. texts words.now ≡ words_of (asked c)) }
+    {
+        match words {
+            [command, kind, text] if command.as_str() == "parse" => {
+                Some(Command::Parse(kind_named(kind.as_str())?, text.as_str()))
+            }
+            _ => None,
+        }
+    }
+}
+
+fn kind_named(word: &str) -> Option<KindName>
+    ensures { MatchOption result ((k : _) → word.now ≢ word_of_kind k) (λ k. word.now ≡ word_of_kind k) }
+{
+    match word {
+        "uri-ref" => Some(KindName::UriRef),
+        _ => None,
+    }
+}

@@ -1,0 +1,70 @@
+//! The lines of a reference's components.
+ghost use Rattle.std.specs.Prelude.{◌≡◌, OnOk, option_map};
+ghost use Rattle.std.specs.Io.KnownBytes.{Appends};
+ghost use Rattle.uritool.specs.Lines.{line, optional_line, component_lines};
+ghost use Rattle.uritool.specs.Texts.{components_in};
+
+use fluent_uri::UriRef;
+use fluent_uri::component::{Authority, Scheme};
+use fluent_uri::pct_enc::EStr;
+use std::io::{self, Write};
+
+/// The texts of a reference's components.
+#[derive(Clone, Copy)]
+pub struct Texts<'a> {
+    scheme: Option<&'a str>,
+    authority: Option<&'a str>,
+    path: &'a str,
+    query: Option<&'a str>,
+    fragment: Option<&'a str>,
+}
+
+impl<'a> From<UriRef<&'a str>> for Texts<'a> {
+    ghost use Rattle.std.specs.Prelude.{◌≡◌};
+    ghost use Rattle.fluent_uri.specs.Components.{components};
+    ghost use Rattle.fluent_uri.specs.UriRefs.{text_of_uri_ref};
+    ghost use Rattle.uritool.specs.Texts.{components_in};
+
+    ghost from_gives = { λ reference texts. components_in texts ≡ components (text_of_uri_ref reference) };
+
+    fn from(reference: UriRef<&'a str>) -> Texts<'a> {
+        Texts {
+            scheme: reference.scheme().map(Scheme::as_str),
+            authority: reference.authority().map(Authority::as_str),
+            path: reference.path().as_str(),
+            query: reference.query().map(EStr::as_str),
+            fragment: reference.fragment().map(EStr::as_str),
+        }
+    }
+}
+
+impl Texts<'_> {
+    /// Writes a line for each component that is present.
+    pub fn write_lines<O: Write>(self, out: &mut O) -> io::Result<()>
+        ensures { OnOk result (Appends (O.contents out.old) (O.contents out.new)
+            (component_lines (components_in self.entry))) }
+    {
+        write_optional(out, "scheme", self.scheme)?;
+        write_optional(out, "authority", self.authority)?;
+        write_line(out, "path", self.path)?;
+        write_optional(out, "query", self.query)?;
+        write_optional(out, "fragment", self.fragment)?;
+        Ok(())
+    }
+}
+
+fn write_line<O: Write>(out: &mut O, name: &str, text: &str) -> io::Result<()>
+    ensures { OnOk result (Appends (O.contents out.old) (O.contents out.new) (line name.now text.now)) }
+{
+    writeln!(out, "{name}={text}")
+}
+
+fn write_optional<O: Write>(out: &mut O, name: &str, text: Option<&str>) -> io::Result<()>
+    ensures { OnOk result (Appends (O.contents out.old) (O.contents out.new)
+        (optional_line name.now (option_map (λ t. t.now) text.entry))) }
+{
+    match text {
+        Some(text) => write_line(out, name, text),
+        None => Ok(()),
+    }
+}

@@ -1,0 +1,143 @@
+use super::run;
+use std::alloc::{AllocError, Global};
+use std::io::{self, ErrorKind, Write};
+use std::process::Abort;
+use std::test::Fail;
+
+const USAGE: &str =
+    "usage: uritool parse KIND TEXT | normalize KIND TEXT | resolve uri|iri BASE REF\n";
+
+const WHOLE: [&str; 3] = [
+    "parse",
+    "uri-ref",
+    "foo://example.com/over/there?name=ferret#nose",
+];
+
+/// Takes so many writes, and refuses those after them.
+#[derive(Drop)]
+struct Takes(usize);
+
+impl Write for Takes {
+    fn write(&mut self, buf: &[u8]) -> io::Result<usize> {
+        if self.0 == 0 {
+            return Err(io::Error::from(ErrorKind::BrokenPipe));
+        }
+        self.0 -= 1;
+        Ok(buf.len())
+    }
+
+    fn flush(&mut self) -> io::Result<()> {
+        Ok(())
+    }
+}
+
+fn run_words<O: Write, E: Write>(
+    alloc: Global,
+    words: &[&str],
+    out: &mut O,
+    err: &mut E,
+) -> Result<u8, AllocError> {
+    let mut owned = Vec::new(alloc);
+    for word in words {
+        owned.push(String::from_str(alloc, word)?)?;
+    }
+    Ok(run(alloc, owned.as_slice(), out, err))
+}
+
+fn ends_with<R: Abort>(
+    rt: &R,
+    alloc: Global,
+    words: &[&str],
+    status: u8,
+    out: &str,
+    err: &str,
+) -> Result<(), AllocError> {
+    let (mut got_out, mut got_err) = (Vec::new(alloc), Vec::new(alloc));
+    let got = run_words(alloc, words, &mut got_out, &mut got_err)?;
+    assert_eq!(rt; got, status, "{words:?}");
+    assert_eq!(rt; got_out.as_slice(), out.as_bytes(), "{words:?}");
+    assert_eq!(rt; got_err.as_slice(), err.as_bytes(), "{words:?}");
+    Ok(())
+}
+
+#[test]
+fn prints_components(rt: HostRuntime) -> Result<(), Fail> {
+    for (text, lines) in [
+        ("", "path=\n"),
+        ("a/b", "path=a/b\n"),
+        ("//h", "authority=h\npath=\n"),
+        ("s://?#", "scheme=s\nauthority=\npath=\nquery=\nfragment=\n"),
+        (
+            WHOLE[2],
+            "scheme=foo\nauthority=example.com\npath=/over/there\nquery=name=ferret\nfragment=nose\n",
+        ),
+    ] {
+        ends_with(&rt, rt.alloc(), &["parse", "uri-ref", text], 0, lines, "")?;
+    }
+    Ok(())
+}
+
+#[test]
+fn refuses(rt: HostRuntime) -> Result<(), Fail> {
+    for (text, line) in [
+        (":hello", "error: unexpected character at index 0\n"),
+        (
+            "text%a",
+            "error: invalid percent-encoded octet at index 4\n",
+        ),
+    ] {
+        ends_with(&rt, rt.alloc(), &["parse", "uri-ref", text], 1, "", line)?;
+    }
+    Ok(())
+}
+
+#[test]
+fn shows_usage(rt: HostRuntime) -> Result<(), Fail> {
+    let others: [&[&str]; 6] = [
+        &[],
+        &["parse", "uri-ref"],
+        &["parse", "url", "foo"],
+        &["Parse", "uri-ref", "foo"],
+        &["parse", "uri-ref", "foo", "bar"],
+        &["normalize", "uri-ref", "foo"],
+    ];
+    for words in others {
+        ends_with(&rt, rt.alloc(), words, 2, "", USAGE)?;
+    }
+    Ok(())
+}
+
+#[test]
+fn says_that_the_output_failed(rt: HostRuntime) -> Result<(), Fail> {
+    let alloc = rt.alloc();
+    for writes in 0..5 {
+        let mut err = Vec::new(alloc);
+        let status = run_words(alloc, &WHOLE, &mut Takes(writes), &mut err)?;
+        assert_eq!(rt; status, 1, "after {writes} writes");
+        assert_eq!(rt;
+            err.as_slice(),
+            b"error: output failed\n".as_slice(),
+            "after {writes} writes"
+        );
+    }
+    assert_eq!(rt;
+        run_words(alloc, &WHOLE, &mut Takes(100), &mut Vec::new(alloc))?,
+        0
+    );
+    Ok(())
+}
+
+#[test]
+fn ends_alike_without_errors_shown(rt: HostRuntime) -> Result<(), Fail> {
+    let alloc = rt.alloc();
+    for (words, status) in [
+        (["parse", "uri-ref", "a"], 0),
+        (["parse", "uri-ref", "%"], 1),
+        (["parse", "url", "a"], 2),
+    ] {
+        let got = run_words(alloc, &words, &mut Vec::new(alloc), &mut Takes(0))?;
+        assert_eq!(rt; got, status, "{words:?}");
+    }
+    assert_eq!(rt; run_words(alloc, &WHOLE, &mut Takes(0), &mut Takes(0))?, 1);
+    Ok(())
+}
