@@ -19,3 +19,5 @@ pub mod TextParts
 pub mod PathMeanings
 pub mod Ends
 pub mod NormalComponents
+pub mod AddressNumbers
+pub mod HostMeanings

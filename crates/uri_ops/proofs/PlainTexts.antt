@@ -1,17 +1,18 @@
 -- Texts without octets and without characters past ASCII, such as schemes, and the same in lower case.
-use Rattle.std.proofs.Common.{◌≡◌, ℕ, zero, suc, Bool, true, false, ltb, List, [], ◌∷◌, refl, sym, ap, ◌∙◌, arith, ◌&&◌, ⊎_elim}
+use Rattle.std.proofs.Common.{◌≡◌, ℕ, zero, suc, Bool, true, false, eqb, ltb, List, [], ◌∷◌, refl, sym, ap, ◌∙◌, arith, ◌&&◌, ⊎_elim}
 use Rattle.std.specs.Prelude.{slice_index}
 use Rattle.std.specs.Char.{is_ascii_alphabetic, to_ascii_lowercase}
 use Rattle.std.specs.List.{list_all}
 use Rattle.std.specs.Str.{IsUtf8, IsAscii, continuation_len, str_to_ascii_lowercase}
 use Rattle.std.proofs.lemmas.Str.{IsUtf8-from_ascii}
 use Rattle.std.proofs.lemmas.Str.Ascii.{lowercase_ascii, lowercase-lowercase}
-use Rattle.std.proofs.lemmas.Bool.{cases_lt, and_left, and_from, and_parts, cond-true, lt-ltb, le-ltb, ltb-true}
+use Rattle.std.proofs.lemmas.Bool.{cases_lt, and_left, and_right, and_from, cond-false, eqb-true, both_ways, false_from_ne_true, and_parts, cond-true, lt-ltb, le-ltb, ltb-true}
 use Rattle.std.proofs.lemmas.Bool.Decides.{nat_tests}
-use Rattle.uri_pct.specs.Sets.{plain, is_scheme_char, allows_past_ascii}
+use Rattle.uri_pct.specs.Sets.{TableSet, LacksPercent, plain, is_scheme_char, allows_past_ascii}
 use Rattle.uri_pct.specs.Tokens.{is_valid_for}
 use Rattle.uri_pct.proofs.Validity.{valid_from, valid_cons, is_valid_for-bytes, allows_first-ascii, allows_first-past}
 use Rattle.uri_parts.specs.Grammar.{is_scheme}
+use Rattle.uri_ops.proofs.Parts.{is_part, part_from}
 
 -- an ASCII character that passes the test
 abbrev pub is_plain_char : (ℕ → Bool) → ℕ → Bool
@@ -44,6 +45,32 @@ ascii_plain test (b ∷ bs) e (suc i) = ascii_plain test bs (and_parts (is_plain
 
 pub utf8_plain : (test : ℕ → Bool) (text : List ℕ) → list_all (is_plain_char test) text ≡ true → IsUtf8 text
 utf8_plain test text e = IsUtf8-from_ascii text (ascii_plain test text e)
+
+-- such a text is allowed by each set that has its characters
+plain_within : (set : TableSet) (test : ℕ → Bool) → test 37 ≡ false → ((c : ℕ) → test c ≡ true → set.ascii c ≡ true) → (bs : List ℕ) → list_all (is_plain_char test) bs ≡ true → valid_from set 0 bs ≡ true
+unfolding valid_from
+plain_within set test lacks within [] e = refl
+plain_within set test lacks within (b ∷ bs) e =
+    let p = and_parts (is_plain_char test b) (list_all (is_plain_char test) bs) e in
+    let q = and_parts (ltb b 128) (test b) p.0 in
+    let low = ltb-true b 128 q.0 in
+    let other : eqb b 37 ≡ false = false_from_ne_true _ (λ h. both_ways _ lacks (ap test (sym (eqb-true b 37 h)) ∙ q.1)) in
+    valid_cons set b bs ∙ cond-false _ _ _ (and_left _ _ (and_right _ _ other))
+    ∙ and_from _ _ (allows_first-ascii set b bs low ∙ within b q.1)
+    (ap (λ n. valid_from set n bs) (cond-true _ _ _ (lt-ltb b 128 low)) ∙ plain_within set test lacks within bs p.1)
+
+pub part_plain : (set : TableSet) (test : ℕ → Bool) → LacksPercent set → test 37 ≡ false → ((c : ℕ) → test c ≡ true → set.ascii c ≡ true) → (text : List ℕ) → list_all (is_plain_char test) text ≡ true → is_part set text ≡ true
+part_plain set test percent lacks within text e =
+    let u = utf8_plain test text e in
+    part_from set text u (is_valid_for-bytes set percent text u ∙ plain_within set test lacks within text e)
+
+-- characters that pass one test pass a wider one
+pub plain_wider : (test wide : ℕ → Bool) → ((c : ℕ) → test c ≡ true → wide c ≡ true) → (text : List ℕ) → list_all (is_plain_char test) text ≡ true → list_all (is_plain_char wide) text ≡ true
+plain_wider test wide within [] e = refl
+plain_wider test wide within (c ∷ text) e =
+    let p = and_parts (is_plain_char test c) (list_all (is_plain_char test) text) e in
+    let q = and_parts (ltb c 128) (test c) p.0 in
+    and_from _ _ (and_from _ _ q.0 (within c q.1)) (plain_wider test wide within text p.1)
 
 -- in lower case
 pub plain_lower : (test : ℕ → Bool) → ((c : ℕ) → test c ≡ true → test (to_ascii_lowercase c) ≡ true) → (text : List ℕ) → list_all (is_plain_char test) text ≡ true → list_all (is_plain_char test) (str_to_ascii_lowercase text) ≡ true
