@@ -21,3 +21,4 @@ pub mod Ends
 pub mod NormalComponents
 pub mod AddressNumbers
 pub mod HostMeanings
+pub mod AuthorityMeanings

@@ -69,17 +69,17 @@ lowered_twice (Some s) = ap Some (lower_twice s)
 
 -- what is printed of the reading of a component that may be absent
 module _ (set : TableSet) (marks : List ℕ) (w : IsComponentSet marks set) where
-  printed_part : (o : Option (List ℕ)) → IfSome o (λ x. is_part set x ≡ true) → IfSome (option_map print (option_map (read set) o)) (λ x. is_part set x ≡ true)
+  pub printed_part : (o : Option (List ℕ)) → IfSome o (λ x. is_part set x ≡ true) → IfSome (option_map print (option_map (read set) o)) (λ x. is_part set x ≡ true)
   unfolding reprinted
   printed_part None h = tt
   printed_part (Some x) h = part_reprinted set w.percent w.unreserved x h
 
-  printed_read : (o : Option (List ℕ)) → IfSome o (λ x. is_part set x ≡ true) → option_map (read set) (option_map print (option_map (read set) o)) ≡ option_map (read set) o
+  pub printed_read : (o : Option (List ℕ)) → IfSome o (λ x. is_part set x ≡ true) → option_map (read set) (option_map print (option_map (read set) o)) ≡ option_map (read set) o
   unfolding reprinted
   printed_read None h = refl
   printed_read (Some x) h = ap Some (read-reprinted set w.percent x h)
 
-  part_cut_at : (some : List ℕ) → excludes set some ≡ true → (o : Option (List ℕ)) → IfSome o (λ x. is_part set x ≡ true) → IfSome o (λ x. Lacks some x)
+  pub part_cut_at : (some : List ℕ) → excludes set some ≡ true → (o : Option (List ℕ)) → IfSome o (λ x. is_part set x ≡ true) → IfSome o (λ x. Lacks some x)
   part_cut_at some outside None h = tt
   part_cut_at some outside (Some x) h = valid_lacks set some w.percent outside x (part_utf8 set x h) (part_valid set x h)
 
