@@ -1,31 +1,12 @@
--- The four kinds: RFC 3986, sections 3 and 4.1, and RFC 3987, section 2.2.
+-- The sets of the four kinds.
 use Rattle.std.proofs.Common.{◌≡◌, ℕ, Bool, true, false, List, refl}
 use Rattle.std.specs.Prelude.{codes}
 use Rattle.std.specs.List.{list_any}
 use Rattle.std.proofs.lemmas.Bool.{or_left, false≢true}
-use Rattle.uri_pct.specs.Sets.{TableSet, is_unreserved, is_sub_delim, is_reg_name_char, is_userinfo_char, is_pchar, is_path_char, is_query_char, userinfo_set, reg_name_set, path_set, query_set, fragment_set}
+use Rattle.uri_pct.specs.Sets.{TableSet, is_unreserved, is_sub_delim, is_reg_name_char, is_userinfo_char, is_pchar, is_path_char, is_query_char}
 use Rattle.uri_parts.specs.Grammar.{Kind, uri_ref}
+use Rattle.uri_ops.specs.FourKinds.{uri, iri, iri_ref}
 use Rattle.uri_ops.specs.ComponentSets.{IsComponentSet, HasComponentSets}
-
-abbrev pub uri : Kind
-uri = record uri_ref { needs_scheme = true }
-
--- with the characters past ASCII that each component of an IRI may have
-abbrev pub with_ucschar : TableSet → TableSet
-with_ucschar set = record set { ucschar = true }
-
--- a query alone has those for private use too
-abbrev pub iri_ref : Kind
-iri_ref = record uri_ref {
-  userinfo = with_ucschar userinfo_set;
-  reg_name = with_ucschar reg_name_set;
-  path = with_ucschar path_set;
-  query = record (with_ucschar query_set) { iprivate = true };
-  fragment = with_ucschar fragment_set;
-}
-
-abbrev pub iri : Kind
-iri = record iri_ref { needs_scheme = true }
 
 in_reg_name : (c : ℕ) → is_unreserved c ≡ true → is_reg_name_char c ≡ true
 unfolding is_reg_name_char

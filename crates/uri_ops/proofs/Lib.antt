@@ -22,3 +22,4 @@ pub mod NormalComponents
 pub mod AddressNumbers
 pub mod HostMeanings
 pub mod AuthorityMeanings
+pub mod NormalTexts

@@ -18,7 +18,7 @@ use Rattle.uri_ops.specs.Target.{resolution_of}
 use Rattle.uri_ops.specs.Ports.{PortFunction}
 use Rattle.uri_ops.specs.Meaning.{meaning_of}
 use Rattle.uri_ops.specs.Normal.{normal_text}
-use Rattle.uri_ops.proofs.FourKinds.{uri, iri, iri_ref}
+use Rattle.uri_ops.specs.FourKinds.{uri, iri, iri_ref}
 
 ports : PortFunction
 ports scheme = cond (bytes_eq scheme (codes "http")) (Some 80) (cond (bytes_eq scheme (codes "foo")) (Some 4673) None)

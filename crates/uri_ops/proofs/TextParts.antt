@@ -9,19 +9,10 @@ use Rattle.uri_pct.proofs.Cuts.{AreAscii, ascii_marks, mark_boundary}
 use Rattle.uri_parts.specs.Components.{Components, starts, before_any, from_any, has_scheme, has_authority, after_scheme, after_authority, after_query, components, when}
 use Rattle.uri_parts.specs.Grammar.{Kind, if_some, is_scheme, has_colon_first}
 use Rattle.uri_parts.proofs.Stops.{utf8_from, utf8_tail, utf8_slashes}
+use Rattle.uri_ops.specs.Texts.{are_components_for}
 use Rattle.uri_ops.proofs.Parts.{is_part, part_from, part_valid}
 
--- the grammar of a kind, with this test of its authorities
-abbrev pub are_components_for : (List ℕ → Bool) → Kind → Components → Bool
-are_components_for is_authority kind p =
-    if_some p.scheme is_scheme
-    && if_some p.authority is_authority
-    && is_valid_for kind.path p.path
-    && if_some p.query (is_valid_for kind.query)
-    && if_some p.fragment (is_valid_for kind.fragment)
-    && (is_some p.scheme || (not kind.needs_scheme && (is_some p.authority || not (has_colon_first p.path))))
-
--- the same, each component with its rule
+-- the grammar of a kind, each component with its rule
 pub record AreParts (is_authority : List ℕ → Bool) (kind : Kind) (p : Components) : Type 0 where
   pub scheme : IfSome p.scheme (λ s. IsUtf8 s × (is_scheme s ≡ true))
   pub authority : IfSome p.authority (λ a. IsUtf8 a × (is_authority a ≡ true))

@@ -1,4 +1,7 @@
 //! What is done with references: building, normalising and resolving them.
 #![tactic(auto)]
 
+#[doc(hidden)]
+pub mod canonical;
+#[doc(hidden)]
 pub mod laws;
