@@ -23,3 +23,5 @@ pub mod AddressNumbers
 pub mod HostMeanings
 pub mod AuthorityMeanings
 pub mod NormalTexts
+pub mod MergedPaths
+pub mod JoinedMeanings

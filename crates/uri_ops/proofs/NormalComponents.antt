@@ -41,7 +41,7 @@ pub record KeepsAuthorities (is_authority : List ℕ → Bool) (kind : Kind) : T
   pub lacks : (default : Option ℕ) (a : List ℕ) → IsUtf8 a → is_authority a ≡ true → Lacks (codes "/?#") (normal_authority (authority_meaning kind default a))
   pub bare : (default : Option ℕ) (a : List ℕ) → IsUtf8 a → is_authority a ≡ true → authority_meaning kind None (normal_authority (authority_meaning kind default a)) ≡ authority_meaning kind default a
 
-some_map : {A B : Type 0} (f : A → B) (o : Option A) → is_some (option_map f o) ≡ is_some o
+pub some_map : {A B : Type 0} (f : A → B) (o : Option A) → is_some (option_map f o) ≡ is_some o
 some_map f None = refl
 some_map f (Some x) = refl
 
@@ -63,7 +63,7 @@ scheme_cut (Some s) h =
     let q = and_parts (is_ascii_alphabetic (slice_index s 0)) (is_valid_for scheme_set s) h.1 in
     (some_first s q.0, valid_lacks scheme_set (codes ":/?#") scheme_lacks scheme_marks s h.0 q.1)
 
-lowered_twice : (scheme : Option (List ℕ)) → option_map str_to_ascii_lowercase (option_map str_to_ascii_lowercase scheme) ≡ option_map str_to_ascii_lowercase scheme
+pub lowered_twice : (scheme : Option (List ℕ)) → option_map str_to_ascii_lowercase (option_map str_to_ascii_lowercase scheme) ≡ option_map str_to_ascii_lowercase scheme
 lowered_twice None = refl
 lowered_twice (Some s) = ap Some (lower_twice s)
 
@@ -101,7 +101,7 @@ module _ (set : TableSet) (w : IsComponentSet (codes "?#[]") set) (slash : set.a
   path_read None authority path h = read-reprinted set w.percent path h
   path_read (Some s) authority path h = read_guarded set w slash authority path h
 
-  rooted_reprinted : (path : List ℕ) → is_part set path ≡ true → IsRooted path → IsRooted (reprinted set path)
+  pub rooted_reprinted : (path : List ℕ) → is_part set path ≡ true → IsRooted path → IsRooted (reprinted set path)
   rooted_reprinted path h rooted = ⊎_elim
       (λ e. inl (ap (reprinted set) e ∙ reprinted-nil set))
       (λ e. inr (true_to _ (starts_reprinted set w.percent w.unreserved path h ∙ true_of _ e)))

@@ -48,7 +48,7 @@ unfolding slashed
 removed_guard = by_segments (λ path. remove_dot_segments (codes "/." ++ path) ≡ remove_dot_segments path)
     (λ s rest e. remove_slashed (codes "." ∷ s ∷ rest) e ∙ ap slashed (dot_first s rest) ∙ sym (remove_slashed (s ∷ rest) e))
 
-authority_first : (path : List ℕ) → has_authority path ≡ true → starts 47 path ≡ true
+pub authority_first : (path : List ℕ) → has_authority path ≡ true → starts 47 path ≡ true
 authority_first [] e = e
 authority_first (c ∷ path) e = (and_parts (eqb c 47) _ e).0
 

@@ -23,7 +23,7 @@ pub record Fits (c : Components) : Type 0 where
 true_to : (b : Bool) → b ≡ true → IsTrue b
 true_to b h = search rules
 
-absolute_append : (path q : List ℕ) → IsAbsolute path → IsAbsolute (path ++ q)
+pub absolute_append : (path q : List ℕ) → IsAbsolute path → IsAbsolute (path ++ q)
 absolute_append [] q h = absurd (false≢true (search rules))
 absolute_append (c ∷ path) q h = h
 
