@@ -29,7 +29,7 @@ use Rattle.uri_ops.proofs.MergedPaths.{cleaned_merged}
 true_of : (b : Bool) → IsTrue b → b ≡ true
 true_of b h = search rules
 
-abbrev of_parts : Option (List ℕ) → Option (List ℕ) → List ℕ → Option (List ℕ) → Option (List ℕ) → Components
+abbrev pub of_parts : Option (List ℕ) → Option (List ℕ) → List ℕ → Option (List ℕ) → Option (List ℕ) → Components
 of_parts scheme authority path query fragment = record { scheme = scheme; authority = authority; path = path; query = query; fragment = fragment }
 
 -- components with a scheme

@@ -25,3 +25,5 @@ pub mod AuthorityMeanings
 pub mod NormalTexts
 pub mod MergedPaths
 pub mod JoinedMeanings
+pub mod Swaps
+pub mod TargetTexts

@@ -5,3 +5,5 @@
 pub mod canonical;
 #[doc(hidden)]
 pub mod laws;
+#[doc(hidden)]
+pub mod swap;
