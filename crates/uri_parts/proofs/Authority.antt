@@ -38,14 +38,14 @@ lacks_fewer some all more text h k d l = ⊎_elim
     (λ e. e)
     (cases_Bool (is_one_of some _))
 
-lacks_first : (marks : List ℕ) (c : ℕ) (text : List ℕ) → is_one_of marks c ≡ false → Lacks marks text → Lacks marks (c ∷ text)
+pub lacks_first : (marks : List ℕ) (c : ℕ) (text : List ℕ) → is_one_of marks c ≡ false → Lacks marks text → Lacks marks (c ∷ text)
 lacks_first marks c text e h zero d l = e
 lacks_first marks c text e h (suc k) d l = h k d (omega arith)
 
-lacks_nil : (marks : List ℕ) → Lacks marks []
+pub lacks_nil : (marks : List ℕ) → Lacks marks []
 lacks_nil marks k d l = absurd (omega arith)
 
-cut-none : (marks text : List ℕ) → Lacks marks text → (before_any marks text ≡ text) × (from_any marks text ≡ [])
+pub cut-none : (marks text : List ℕ) → Lacks marks text → (before_any marks text ≡ text) × (from_any marks text ≡ [])
 cut-none marks text h =
     let cut = cut-append marks text [] h tt in
     (ap (before_any marks) (sym (append-nil text)) ∙ cut.0, ap (from_any marks) (sym (append-nil text)) ∙ cut.1)

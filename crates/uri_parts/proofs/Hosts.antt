@@ -18,7 +18,7 @@ use Rattle.uri_parts.proofs.Addresses.{is_address_char, is_address_text, address
 use Rattle.uri_parts.proofs.Futures.{is_ipv_future-complete, is_ipv_future-sound, ipv4_lacks, ipv6_lacks, ipv_future_lacks}
 
 -- a test of the value of an address
-value_cases : (o : Option (List ℕ)) → (o ≡ None) ⊎ ((x : List ℕ) × (o ≡ Some x))
+pub value_cases : (o : Option (List ℕ)) → (o ≡ None) ⊎ ((x : List ℕ) × (o ≡ Some x))
 value_cases None = inl refl
 value_cases (Some x) = inr (x, refl)
 

@@ -13,7 +13,8 @@ use Rattle.uri_parts.specs.Grammar.{Kind, if_some, is_scheme, is_authority, has_
 use Rattle.uri_parts.specs.Reading.{reads_path, reads_authority, reads_relative, reads_hier, reads_schemeless, reads}
 use Rattle.uri_parts.proofs.Stops.{utf8_from, utf8_past, utf8_slashes}
 use Rattle.uri_parts.proofs.Separations.{Separates}
-use Rattle.uri_parts.proofs.Accepts.{fragment_ok, end_ok, path_lemma, rest_ok, hier_lemma, slashes_lemma}
+use Rattle.uri_parts.proofs.Accepts.{fragment_ok, end_ok, path_lemma}
+use Rattle.uri_parts.proofs.Hierarchies.{rest_ok, hier_lemma, slashes_lemma}
 use Rattle.uri_parts.proofs.Relative.{scheme_lacks, scheme_marks, stops_at_colon, at_mark, before_other, colon_first, relative_lemma, relative_false, relative_within}
 
 and_true : (x : Bool) → (x && true) ≡ x

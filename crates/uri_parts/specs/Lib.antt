@@ -1,6 +1,7 @@
 pub mod Addresses
 pub mod Authority
 pub mod Authorities
+pub mod AuthorityReading
 pub mod AuthorityTexts
 pub mod Components
 pub mod CoreTexts

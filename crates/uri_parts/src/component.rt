@@ -1,7 +1,8 @@
 //! The components of a reference that are more than percent-encoded texts.
 ghost use Rattle.std.specs.Prelude.{◌≡◌, ◌↔◌, IsSome, IfSome, true};
-ghost use Rattle.uri_pct.specs.Tokens.{is_valid_for, IsValidFor};
+ghost use Rattle.uri_parts.specs.Authority.{is_authority_for};
 ghost use Rattle.uri_parts.specs.Grammar.{is_scheme};
+ghost use Rattle.uri_parts.specs.Positions.{host_start_of, host_end_of};
 
 use std::alloc::AllocError;
 use std::marker::PhantomData;
@@ -52,12 +53,16 @@ impl<'a> Scheme<'a> {
     }
 }
 
-/// An authority (RFC 3986, section 3.2), so far a registered name alone, over the encoders of its
-/// userinfo and its registered name.
+/// An authority (RFC 3986, section 3.2): userinfo, host and port, over the encoders of its userinfo
+/// and of registered names.
 pub struct Authority<'a, U: Encoder = Userinfo, R: Encoder = RegName> {
     text: &'a str,
+    host_start: usize,
+    host_end: usize,
     encoders: PhantomData<(U, R)>,
-    pub ghost valid: { is_valid_for R.set text.now ≡ true },
+    pub ghost valid: { is_authority_for U.set R.set text.now ≡ true },
+    pub ghost starts: { host_start ≡ host_start_of text.now },
+    pub ghost ends: { host_end ≡ host_end_of text.now },
 }
 
 impl<'a, U: Encoder, R: Encoder> Clone for Authority<'a, U, R> {
@@ -72,12 +77,16 @@ impl<'a, U: Encoder, R: Encoder> Authority<'a, U, R> {
     ghost use Rattle.uri_parts.specs.AuthorityTexts.{authority_text};
 
     #[doc(hidden)]
-    pub fn new_unchecked(text: &'a str) -> Self
-        requires { IsValidFor R.set text.now }
+    pub fn new_unchecked(text: &'a str, host_start: usize, host_end: usize) -> Self
+        requires valid { is_authority_for U.set R.set text.now ≡ true }
+        requires starts { host_start ≡ host_start_of text.now }
+        requires ends { host_end ≡ host_end_of text.now }
         ensures { authority_text result ≡ text.now }
     {
         Authority {
             text,
+            host_start,
+            host_end,
             encoders: PhantomData,
         }
     }
@@ -85,7 +94,7 @@ impl<'a, U: Encoder, R: Encoder> Authority<'a, U, R> {
     /// The text, without the `//` before it, for as long as it was borrowed.
     pub fn as_str(self) -> &'a str
         ensures text { result.now ≡ authority_text self.entry }
-        ensures valid { IsValidFor R.set result.now }
+        ensures valid { is_authority_for U.set R.set result.now ≡ true }
     {
         self.text
     }

@@ -6,7 +6,11 @@ pub mod component;
 pub mod core_text;
 pub mod error;
 #[doc(hidden)]
+pub mod fault;
+#[doc(hidden)]
 pub mod grammar;
+#[doc(hidden)]
+pub mod host_places;
 #[doc(hidden)]
 pub mod laws;
 pub mod net;
@@ -18,3 +22,5 @@ pub mod positions;
 pub mod reader;
 #[doc(hidden)]
 pub mod rules;
+#[doc(hidden)]
+pub mod slicing;

@@ -1,6 +1,7 @@
 //! IP addresses (RFC 3986, section 3.2.2), and their canonical texts (RFC 5952).
-ghost use Rattle.std.specs.Prelude.{◌≡◌, [], ◌∷◌, Some};
+ghost use Rattle.std.specs.Prelude.{◌≡◌, [], ◌∷◌, Some, option_map};
 ghost use Rattle.std.specs.Net.Text.{ipv4_text, ipv6_text};
+ghost use Rattle.uri_parts.specs.Hosts.{ipv4_value, ipv6_value};
 
 use std::{fmt, net};
 
@@ -26,6 +27,18 @@ impl Ipv4Addr {
         ensures { result ≡ ipv4_octets self.now }
     {
         self.0.octets()
+    }
+
+    /// The address that the whole text writes, or `None` if it writes none.
+    #[doc(hidden)]
+    #[tactic(auto, using(crate::proofs::Parsed::ipv4_parsed))]
+    pub fn read(text: &str) -> Option<Self>
+        ensures { option_map ipv4_octets result ≡ ipv4_value text.now }
+    {
+        match net::Ipv4Addr::parse_ascii(text.as_bytes()) {
+            Ok(address) => Some(Ipv4Addr(address)),
+            Err(_) => None,
+        }
     }
 }
 
@@ -63,6 +76,18 @@ impl Ipv6Addr {
         ensures { result ≡ ipv6_segments self.now }
     {
         self.0.segments()
+    }
+
+    /// The address that the whole text writes, or `None` if it writes none.
+    #[doc(hidden)]
+    #[tactic(auto, using(crate::proofs::Parsed::ipv6_parsed))]
+    pub fn read(text: &str) -> Option<Self>
+        ensures { option_map ipv6_segments result ≡ ipv6_value text.now }
+    {
+        match net::Ipv6Addr::parse_ascii(text.as_bytes()) {
+            Ok(address) => Some(Ipv6Addr(address)),
+            Err(_) => None,
+        }
     }
 }
 

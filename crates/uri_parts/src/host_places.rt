@@ -1,0 +1,134 @@
+//! Where the parts of an authority lie in it (RFC 3986, section 3.2).
+ghost use Rattle.std.specs.Prelude.{◌≡◌, ◌≤◌, ◌+◌, IfSome, is_some, length};
+ghost use Rattle.uri_pct.specs.Tables.{set_of};
+ghost use Rattle.uri_parts.specs.Authority.{host_before};
+ghost use Rattle.uri_parts.specs.AuthorityReading.{is_literal, is_name, ends_in_port, reads_host_and_port, reads_whole_authority};
+ghost use Rattle.uri_parts.specs.Hosts.{is_ipv_future, ipv4_value, ipv6_value};
+ghost use Rattle.uri_parts.specs.Positions.{host_start_of, host_end_of};
+
+use crate::slicing::{after_mark, cut_before};
+use crate::grammar::Grammar;
+use std::net::{Ipv4Addr, Ipv6Addr};
+use uri_pct::table::{DIGIT, HEXDIG, IPV_FUTURE, Table};
+
+/// Where a host begins and ends: byte offsets.
+#[doc(hidden)]
+#[derive(Clone, Copy, Debug)]
+pub struct HostPlaces {
+    pub start: usize,
+    pub end: usize,
+}
+
+/// Whether a text is that of an address in a version to come.
+#[doc(hidden)]
+#[tactic(auto, using(uri_pct::proofs::Constants::hexdig_table, uri_pct::proofs::Constants::ipv_future_table, crate::proofs::AuthorityCuts::future_is))]
+pub fn is_ipv_future(text: &str) -> bool
+    ensures { result ≡ is_ipv_future text.now }
+{
+    let Some(rest) = after_mark(text, b'v').or(after_mark(text, b'V')) else {
+        return false;
+    };
+    let (version, behind) = cut_before(rest, b".");
+    let Some(address) = after_mark(behind, b'.') else {
+        return false;
+    };
+    !version.is_empty()
+        && HEXDIG.allows_text(version)
+        && !address.is_empty()
+        && IPV_FUTURE.allows_text(address)
+}
+
+/// Whether a text is that of an IPv6 address.
+#[tactic(auto, using(crate::proofs::AuthorityCuts::ipv6_parses))]
+fn is_ipv6(text: &str) -> bool
+    ensures { result ≡ is_some (ipv6_value text.now) }
+{
+    Ipv6Addr::parse_ascii(text.as_bytes()).is_ok()
+}
+
+/// Whether a text is that of an IPv4 address.
+#[tactic(auto, using(crate::proofs::AuthorityCuts::ipv4_parses))]
+fn is_ipv4(text: &str) -> bool
+    ensures { result ≡ is_some (ipv4_value text.now) }
+{
+    Ipv4Addr::parse_ascii(text.as_bytes()).is_ok()
+}
+
+/// Whether a text may stand between the brackets of a host.
+#[doc(hidden)]
+#[tactic(auto, unfolding(crate::specs::AuthorityReading::is_literal))]
+pub fn is_literal(text: &str) -> bool
+    ensures { result ≡ is_literal text.now }
+{
+    is_ipv6(text) || is_ipv_future(text)
+}
+
+/// Whether a text is a host in no brackets.
+#[tactic(auto, unfolding(crate::specs::AuthorityReading::is_name))]
+fn is_name(table: &Table, text: &str) -> bool
+    ensures { result ≡ is_name (set_of table.now) text.now }
+{
+    is_ipv4(text) || table.allows_text(text)
+}
+
+/// Whether nothing is left behind a host, or `:` and a port.
+#[tactic(auto, using(uri_pct::proofs::Constants::digit_table), unfolding(crate::specs::AuthorityReading::ends_in_port))]
+fn ends_in_port(text: &str) -> bool
+    ensures { result ≡ ends_in_port text.now }
+{
+    match after_mark(text, b':') {
+        Some(port) => DIGIT.allows_text(port),
+        None => text.is_empty(),
+    }
+}
+
+/// How long the host is that begins a text, or `None` exactly if the text is no host, perhaps with
+/// a port.
+#[tactic(auto, unfolding(crate::specs::AuthorityReading::reads_host_and_port))]
+fn find_host_end(names: &Table, text: &str) -> Option<usize>
+    ensures accepts { is_some result ≡ reads_host_and_port (set_of names.now) text.now }
+    ensures end { IfSome result (λ n. n ≡ length (host_before text.now)) }
+    ensures within { IfSome result (λ n. n ≤ length text.now) }
+{
+    if let Some(inside) = after_mark(text, b'[') {
+        let (address, behind) = cut_before(inside, b"]");
+        let rest = after_mark(behind, b']')?;
+        if is_literal(address) && ends_in_port(rest) {
+            Some(text.len() - rest.len())
+        } else {
+            None
+        }
+    } else {
+        let (name, behind) = cut_before(text, b":");
+        if is_name(names, name) && ends_in_port(behind) {
+            Some(name.len())
+        } else {
+            None
+        }
+    }
+}
+
+/// Where the host of an authority lies in it, or `None` exactly if the text is no authority.
+#[doc(hidden)]
+#[tactic(auto, unfolding(crate::specs::AuthorityReading::reads_whole_authority))]
+pub fn find_host(grammar: &Grammar, authority: &str) -> Option<HostPlaces>
+    ensures accepts { is_some result ≡ reads_whole_authority (set_of grammar.now.userinfo) (set_of grammar.now.reg_name) authority.now }
+    ensures start { IfSome result (λ h. h.start ≡ host_start_of authority.now) }
+    ensures end { IfSome result (λ h. h.end ≡ host_end_of authority.now) }
+    ensures within { IfSome result (λ h. (h.start ≤ h.end) × (h.end ≤ length authority.now)) }
+{
+    let (userinfo, behind) = cut_before(authority, b"@");
+    let Some(host_and_port) = after_mark(behind, b'@') else {
+        let end = find_host_end(&grammar.reg_name, authority)?;
+        return Some(HostPlaces { start: 0, end });
+    };
+    if !grammar.userinfo.allows_text(userinfo) {
+        return None;
+    }
+    let start = authority.len() - host_and_port.len();
+    let end = find_host_end(&grammar.reg_name, host_and_port)?;
+    Some(HostPlaces {
+        start,
+        end: start + end,
+    })
+}
