@@ -12,8 +12,7 @@ use Rattle.uri_pct.proofs.Cuts.{excludes, of_each}
 use Rattle.uri_parts.specs.Components.{Lacks, marked}
 use Rattle.uri_parts.specs.Hosts.{HostKind, IsHost, host_kind}
 use Rattle.uri_parts.specs.Authority.{AuthorityParts, IsAuthorityFor, KeepsApart, authority_parts, authority_text}
-use Rattle.uri_parts.specs.Authorities.{is_whole_authority}
-use Rattle.uri_parts.specs.Grammar.{Kind}
+use Rattle.uri_parts.specs.Grammar.{Kind, is_authority}
 use Rattle.uri_parts.proofs.Authority.{is_authority_for-sound, is_authority_for-complete, authority_parts-only, names_outside}
 use Rattle.uri_parts.proofs.Futures.{lacks_append}
 use Rattle.uri_parts.proofs.Hosts.{is_host-complete}
@@ -132,7 +131,7 @@ port_bare : (default : Option ℕ) (port : Option (List ℕ)) → port_meaning N
 port_bare default None = refl
 port_bare default (Some digits) = bare_kept default digits (is_empty digits || is_default default digits) refl
 
-module _ (kind : Kind) (sets : HasComponentSets kind) (default : Option ℕ) (a : List ℕ) (u : IsUtf8 a) (e : is_whole_authority kind a ≡ true) where
+module _ (kind : Kind) (sets : HasComponentSets kind) (default : Option ℕ) (a : List ℕ) (u : IsUtf8 a) (e : is_authority kind a ≡ true) where
   abbrev users : TableSet
   users = kind.userinfo
 
@@ -184,7 +183,7 @@ module _ (kind : Kind) (sets : HasComponentSets kind) (default : Option ℕ) (a 
     port = port_kept default parts.port (IsValidFor digit_set) grammar.port;
   }
 
-  pub printed_meets : is_whole_authority kind (authority_text normal) ≡ true
+  pub printed_meets : is_authority kind (authority_text normal) ≡ true
   printed_meets = is_authority_for-complete users names apart (authority_text normal) normal printed_utf8 normal_grammar
 
   pub printed_bare : authority_meaning kind None (authority_text normal) ≡ authority_meaning kind default a
@@ -204,7 +203,7 @@ module _ (kind : Kind) (sets : HasComponentSets kind) (default : Option ℕ) (a 
       lacks_text normal (part_cut_at users (codes "/?#[]@") sets.userinfo (codes "/?#") user_outside normal.userinfo normal_user) host.lacks
       (two_some normal.port IsUtf8 (IsValidFor digit_set) (Lacks (codes "/?#")) (λ x v h. valid_lacks digit_set (codes "/?#") refl refl x v h) normal_utf8.port normal_grammar.port)
 
-pub keeps_authorities : (kind : Kind) → HasComponentSets kind → KeepsAuthorities (is_whole_authority kind) kind
+pub keeps_authorities : (kind : Kind) → HasComponentSets kind → KeepsAuthorities kind
 keeps_authorities kind sets = record {
   utf8 = λ default a u e. printed_utf8 kind sets default a u e;
   meets = λ default a u e. printed_meets kind sets default a u e;

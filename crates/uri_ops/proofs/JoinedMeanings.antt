@@ -7,8 +7,7 @@ use Rattle.uri_pct.specs.Sets.{TableSet}
 use Rattle.uri_pct.specs.Tokens.{print}
 use Rattle.uri_pct.specs.Reading.{read}
 use Rattle.uri_parts.specs.Components.{Components, starts, has_authority, IsRooted}
-use Rattle.uri_parts.specs.Authorities.{is_whole_authority}
-use Rattle.uri_parts.specs.Grammar.{Kind}
+use Rattle.uri_parts.specs.Grammar.{Kind, is_authority}
 use Rattle.uri_ops.specs.Dots.{is_empty, directory}
 use Rattle.uri_ops.specs.Target.{is_opaque, is_fragment_only, is_refused_as_opaque, joined, cleaned_path, guarded}
 use Rattle.uri_ops.specs.ComponentSets.{IsComponentSet, HasComponentSets}
@@ -61,9 +60,6 @@ module _ (set : TableSet) (w : IsComponentSet (codes "?#[]") set) (slash : set.a
   merged_read authority base path h e f = cleaned_merged set w slash authority base path h e f
 
 module _ (kind : Kind) (sets : HasComponentSets kind) (ports : PortFunction) where
-  abbrev is_authority : List ℕ → Bool
-  is_authority = is_whole_authority kind
-
   reference_sets : HasComponentSets (reference_kind kind)
   reference_sets = record { userinfo = sets.userinfo; reg_name = sets.reg_name; path = sets.path; slash = sets.slash; query = sets.query; fragment = sets.fragment }
 
@@ -81,7 +77,7 @@ module _ (kind : Kind) (sets : HasComponentSets kind) (ports : PortFunction) whe
       λ i. record (meaning (of_parts (Some s) a p q f)) { path = read kind.path (e i) })
 
   -- an authority that came without a scheme
-  moved_authority : (default : Option ℕ) (a : List ℕ) → IsUtf8 a → is_authority a ≡ true → authority_meaning kind default (normal_authority (authority_meaning kind None a)) ≡ authority_meaning kind default a
+  moved_authority : (default : Option ℕ) (a : List ℕ) → IsUtf8 a → is_authority kind a ≡ true → authority_meaning kind default (normal_authority (authority_meaning kind None a)) ≡ authority_meaning kind default a
   moved_authority default a u e =
       sym (authority_meaning-bare kind default (normal_authority (authority_meaning kind None a)))
       ∙ ap (with_default default) ((keeps_authorities kind sets).bare None a u e)
@@ -103,12 +99,12 @@ module _ (kind : Kind) (sets : HasComponentSets kind) (ports : PortFunction) whe
   abbrev Same : Components → Components → Components → Components → Type 0
   Same base r other_base other = meaning (joined other_base other) ≡ meaning (joined base r)
 
-  no_path : (base : Components) (q f : Option (List ℕ)) → AreParts is_authority kind base → IfSome q (λ x. is_part kind.query x ≡ true) → IfSome f (λ x. is_part kind.fragment x ≡ true)
+  no_path : (base : Components) (q f : Option (List ℕ)) → AreParts kind base → IfSome q (λ x. is_part kind.query x ≡ true) → IfSome f (λ x. is_part kind.fragment x ≡ true)
       → meaning (joined (normal base) (normal (of_parts None None [] q f))) ≡ meaning (joined base (of_parts None None [] q f))
   unfolding reprinted
   no_path base q f parts hq hf =
       let r = of_parts None None [] q f in
-      let same = normal_meaning kind sets is_authority (keeps_authorities kind sets) ports base parts in
+      let same = normal_meaning kind sets (keeps_authorities kind sets) ports base parts in
       let nothing : is_empty (normal r).path ≡ true = ap is_empty (reprinted-nil kind.path) in
       let query = either_query q (normal base).query base.query hq (ap (λ m. m.query) same) in
       let fragment = printed_fragment f hf in
@@ -116,13 +112,13 @@ module _ (kind : Kind) (sets : HasComponentSets kind) (ports : PortFunction) whe
       ∙ (λ i. record { scheme = (same i).scheme; authority = (same i).authority; path = (same i).path; query = query i; fragment = fragment i })
 
   -- with a path
-  on_path : (b : List ℕ) (ba : Option (List ℕ)) (bp : List ℕ) (bq bf : Option (List ℕ)) (p : List ℕ) (q f : Option (List ℕ)) → AreParts is_authority kind (of_parts (Some b) ba bp bq bf)
+  on_path : (b : List ℕ) (ba : Option (List ℕ)) (bp : List ℕ) (bq bf : Option (List ℕ)) (p : List ℕ) (q f : Option (List ℕ)) → AreParts kind (of_parts (Some b) ba bp bq bf)
       → is_part kind.path p ≡ true → IfSome q (λ x. is_part kind.query x ≡ true) → IfSome f (λ x. is_part kind.fragment x ≡ true) → is_empty p ≡ false → (starts 47 p ≡ false → IsRooted bp)
       → meaning (joined (normal (of_parts (Some b) ba bp bq bf)) (normal (of_parts None None p q f))) ≡ meaning (joined (of_parts (Some b) ba bp bq bf) (of_parts None None p q f))
   on_path b ba bp bq bf p q f parts hp hq hf some rooted =
       let base = of_parts (Some b) ba bp bq bf in
       let r = of_parts None None p q f in
-      let same = normal_meaning kind sets is_authority (keeps_authorities kind sets) ports base parts in
+      let same = normal_meaning kind sets (keeps_authorities kind sets) ports base parts in
       let query = printed_query q hq in
       let fragment = printed_fragment f hf in
       let first = starts_printed kind.path sets.path sets.slash p hp in
@@ -141,7 +137,7 @@ module _ (kind : Kind) (sets : HasComponentSets kind) (ports : PortFunction) whe
       (cases_Bool (starts 47 p))
 
   -- with an authority
-  with_authority : (b : List ℕ) (ba : Option (List ℕ)) (bp : List ℕ) (bq bf : Option (List ℕ)) (a p : List ℕ) (q f : Option (List ℕ)) → IsUtf8 a → is_authority a ≡ true
+  with_authority : (b : List ℕ) (ba : Option (List ℕ)) (bp : List ℕ) (bq bf : Option (List ℕ)) (a p : List ℕ) (q f : Option (List ℕ)) → IsUtf8 a → is_authority kind a ≡ true
       → is_part kind.path p ≡ true → IfSome q (λ x. is_part kind.query x ≡ true) → IfSome f (λ x. is_part kind.fragment x ≡ true)
       → meaning (joined (normal (of_parts (Some b) ba bp bq bf)) (normal (of_parts None (Some a) p q f))) ≡ meaning (joined (of_parts (Some b) ba bp bq bf) (of_parts None (Some a) p q f))
   with_authority b ba bp bq bf a p q f u e hp hq hf =
@@ -154,11 +150,11 @@ module _ (kind : Kind) (sets : HasComponentSets kind) (ports : PortFunction) whe
 
   -- what is joined means the same where both are those of normal texts
   pub joined_normal : (b : List ℕ) (ba : Option (List ℕ)) (bp : List ℕ) (bq bf : Option (List ℕ)) (s a : Option (List ℕ)) (p : List ℕ) (q f : Option (List ℕ))
-      → AreParts is_authority kind (of_parts (Some b) ba bp bq bf) → AreParts is_authority (reference_kind kind) (of_parts s a p q f)
+      → AreParts kind (of_parts (Some b) ba bp bq bf) → AreParts (reference_kind kind) (of_parts s a p q f)
       → (is_none s ≡ true → is_none a ≡ true → is_empty p ≡ false → IsRooted bp)
       → meaning (joined (normal (of_parts (Some b) ba bp bq bf)) (normal (of_parts s a p q f))) ≡ meaning (joined (of_parts (Some b) ba bp bq bf) (of_parts s a p q f))
   joined_normal b ba bp bq bf (Some s) a p q f base r rooted =
-      normal_meaning (reference_kind kind) reference_sets is_authority (keeps_authorities (reference_kind kind) reference_sets) ports (of_parts (Some s) a p q f) r
+      normal_meaning (reference_kind kind) reference_sets (keeps_authorities (reference_kind kind) reference_sets) ports (of_parts (Some s) a p q f) r
   joined_normal b ba bp bq bf None (Some a) p q f base r rooted = with_authority b ba bp bq bf a p q f r.authority.0 r.authority.1 r.path r.query r.fragment
   joined_normal b ba bp bq bf None None [] q f base r rooted = no_path (of_parts (Some b) ba bp bq bf) q f base r.query r.fragment
   joined_normal b ba bp bq bf None None (c ∷ p) q f base r rooted = on_path b ba bp bq bf (c ∷ p) q f base r.path r.query r.fragment refl (λ h. rooted refl refl refl)

@@ -10,7 +10,7 @@ use Rattle.uri_pct.specs.Tokens.{print, is_valid_for}
 use Rattle.uri_pct.specs.Reading.{read}
 use Rattle.uri_pct.proofs.Cuts.{excludes}
 use Rattle.uri_parts.specs.Components.{Components, IsSplitOf, Lacks, IsRooted, marked, has_scheme, has_authority, recompose}
-use Rattle.uri_parts.specs.Grammar.{Kind, is_scheme, has_colon_first}
+use Rattle.uri_parts.specs.Grammar.{Kind, is_scheme, has_colon_first, is_authority}
 use Rattle.uri_parts.proofs.Marks.{query_text, Begins-query_text}
 use Rattle.uri_parts.proofs.Relative.{scheme_lacks, scheme_marks}
 use Rattle.uri_parts.proofs.Spelt.{valid_lacks}
@@ -35,11 +35,11 @@ true_of : (b : Bool) → IsTrue b → b ≡ true
 true_of b h = search rules
 
 -- an authority that is printed from its meaning is one, lacks the marks that would end it, and has that meaning
-pub record KeepsAuthorities (is_authority : List ℕ → Bool) (kind : Kind) : Type 0 where
-  pub utf8 : (default : Option ℕ) (a : List ℕ) → IsUtf8 a → is_authority a ≡ true → IsUtf8 (normal_authority (authority_meaning kind default a))
-  pub meets : (default : Option ℕ) (a : List ℕ) → IsUtf8 a → is_authority a ≡ true → is_authority (normal_authority (authority_meaning kind default a)) ≡ true
-  pub lacks : (default : Option ℕ) (a : List ℕ) → IsUtf8 a → is_authority a ≡ true → Lacks (codes "/?#") (normal_authority (authority_meaning kind default a))
-  pub bare : (default : Option ℕ) (a : List ℕ) → IsUtf8 a → is_authority a ≡ true → authority_meaning kind None (normal_authority (authority_meaning kind default a)) ≡ authority_meaning kind default a
+pub record KeepsAuthorities (kind : Kind) : Type 0 where
+  pub utf8 : (default : Option ℕ) (a : List ℕ) → IsUtf8 a → is_authority kind a ≡ true → IsUtf8 (normal_authority (authority_meaning kind default a))
+  pub meets : (default : Option ℕ) (a : List ℕ) → IsUtf8 a → is_authority kind a ≡ true → is_authority kind (normal_authority (authority_meaning kind default a)) ≡ true
+  pub lacks : (default : Option ℕ) (a : List ℕ) → IsUtf8 a → is_authority kind a ≡ true → Lacks (codes "/?#") (normal_authority (authority_meaning kind default a))
+  pub bare : (default : Option ℕ) (a : List ℕ) → IsUtf8 a → is_authority kind a ≡ true → authority_meaning kind None (normal_authority (authority_meaning kind default a)) ≡ authority_meaning kind default a
 
 pub some_map : {A B : Type 0} (f : A → B) (o : Option A) → is_some (option_map f o) ≡ is_some o
 some_map f None = refl
@@ -117,9 +117,9 @@ module _ (set : TableSet) (w : IsComponentSet (codes "?#[]") set) (slash : set.a
   path_no_authority None path h e = has_authority_reprinted set w.percent w.unreserved path h ∙ e
   path_no_authority (Some s) path h e = guarded_plain None (reprinted set (cleaned_path path))
 
-module _ (kind : Kind) (sets : HasComponentSets kind) (is_authority : List ℕ → Bool) (keeps : KeepsAuthorities is_authority kind) (ports : PortFunction) where
+module _ (kind : Kind) (sets : HasComponentSets kind) (keeps : KeepsAuthorities kind) (ports : PortFunction) where
   abbrev IsAuthorityPart : List ℕ → Type 0
-  IsAuthorityPart a = IsUtf8 a × (is_authority a ≡ true)
+  IsAuthorityPart a = IsUtf8 a × (is_authority kind a ≡ true)
 
   abbrev printed : Option ℕ → Option (List ℕ) → Option (List ℕ)
   printed default o = option_map normal_authority (option_map (authority_meaning kind default) o)
@@ -173,7 +173,7 @@ module _ (kind : Kind) (sets : HasComponentSets kind) (is_authority : List ℕ �
   normal_of p = normal_components (components_meaning kind ports p)
 
   -- each component meets its rule
-  pub normal_parts : (p : Components) → AreParts is_authority kind p → AreParts is_authority kind (normal_of p)
+  pub normal_parts : (p : Components) → AreParts kind p → AreParts kind (normal_of p)
   normal_parts p parts =
       let default = option_and_then ports (option_map str_to_ascii_lowercase p.scheme) in
       record {
@@ -192,7 +192,7 @@ module _ (kind : Kind) (sets : HasComponentSets kind) (is_authority : List ℕ �
   query_outside = excludes_front (codes "#") (codes "[]") kind.query (ends_outside (codes "#[]") kind.query refl sets.query.ends)
 
   -- they are the components of their text
-  pub normal_split : (text : List ℕ) (p : Components) → IsSplitOf text p → AreParts is_authority kind p → IsSplitOf (recompose (normal_of p)) (normal_of p)
+  pub normal_split : (text : List ℕ) (p : Components) → IsSplitOf text p → AreParts kind p → IsSplitOf (recompose (normal_of p)) (normal_of p)
   normal_split text p split parts =
       let default = option_and_then ports (option_map str_to_ascii_lowercase p.scheme) in
       let done = normal_parts p parts in
@@ -207,7 +207,7 @@ module _ (kind : Kind) (sets : HasComponentSets kind) (is_authority : List ℕ �
       }
 
   -- and mean what they were printed from
-  pub normal_meaning : (p : Components) → AreParts is_authority kind p → components_meaning kind ports (normal_of p) ≡ components_meaning kind ports p
+  pub normal_meaning : (p : Components) → AreParts kind p → components_meaning kind ports (normal_of p) ≡ components_meaning kind ports p
   normal_meaning p parts =
       let scheme = option_map str_to_ascii_lowercase p.scheme in
       let twice = lowered_twice p.scheme in

@@ -6,7 +6,6 @@ use Rattle.std.proofs.lemmas.Bool.{and_cases, and_left, and_right, or_from, cond
 use Rattle.uri_pct.specs.Tokens.{print}
 use Rattle.uri_pct.specs.Reading.{read}
 use Rattle.uri_parts.specs.Components.{Components, Lacks, starts, IsRooted, components, recompose}
-use Rattle.uri_parts.specs.Authorities.{is_whole_authority}
 use Rattle.uri_parts.specs.Grammar.{Kind}
 use Rattle.uri_parts.proofs.Recompose.{IsSplitOf-components}
 use Rattle.uri_ops.specs.Dots.{is_empty}
@@ -89,11 +88,11 @@ module _ (kind : Kind) (ports : PortFunction) (sets : HasComponentSets kind) whe
       outcome_map (meaning_of kind ports) (is_some base.fragment) (is_refused_as_opaque base r) (recompose (target_of base r))
       ∙ ap (outcome (is_some base.fragment) (is_refused_as_opaque base r)) (ap meaning (target_components b t some) ∙ target_meaning kind sets ports (joined base r) (joined_scheme base r some))
 
-  outcome_normal : (r base : Components) → is_some base.scheme ≡ true → AreParts (is_whole_authority kind) (reference_kind kind) r → AreParts (is_whole_authority kind) kind base → IfSome base.authority (λ a. Lacks (codes "/?#") a × IsRooted base.path)
+  outcome_normal : (r base : Components) → is_some base.scheme ≡ true → AreParts (reference_kind kind) r → AreParts kind base → IfSome base.authority (λ a. Lacks (codes "/?#") a × IsRooted base.path)
       → outcome_of base r ≡ outcome_of (normal_components (meaning base)) (normal_components (meaning r))
   unfolding outcome_of
   outcome_normal r base some of_reference =
-      with_scheme (λ base. AreParts (is_whole_authority kind) kind base → IfSome base.authority (λ a. Lacks (codes "/?#") a × IsRooted base.path) → outcome_of base r ≡ outcome_of (normal_components (meaning base)) (normal_components (meaning r)))
+      with_scheme (λ base. AreParts kind base → IfSome base.authority (λ a. Lacks (codes "/?#") a × IsRooted base.path) → outcome_of base r ≡ outcome_of (normal_components (meaning base)) (normal_components (meaning r)))
       (λ b ba bp bq bf of_base cut.
       let base = of_parts (Some b) ba bp bq bf in
       let other_base = normal_components (meaning base) in

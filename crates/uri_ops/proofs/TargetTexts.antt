@@ -4,13 +4,12 @@ use Rattle.std.specs.Prelude.{Option, Some, None, IfSome, Result, Ok, Err, is_so
 use Rattle.std.specs.Str.{IsUtf8}
 use Rattle.std.proofs.lemmas.Bool.{cond_both, or_left, false≢true}
 use Rattle.uri_parts.specs.Components.{Components, starts, IsRooted, components, recompose}
-use Rattle.uri_parts.specs.Authorities.{is_whole_authority}
-use Rattle.uri_parts.specs.Grammar.{Kind, is_scheme}
+use Rattle.uri_parts.specs.Grammar.{Kind, is_scheme, is_authority, are_components}
 use Rattle.uri_parts.proofs.Recompose.{IsSplitOf-components}
 use Rattle.uri_ops.specs.Dots.{is_empty}
 use Rattle.uri_ops.specs.Target.{Refusal, BaseWithFragment, InvalidReferenceAgainstOpaqueBase, is_refused_as_opaque, merged, joined, cleaned_path, guarded, target_of, resolution_of}
 use Rattle.uri_ops.specs.ComponentSets.{HasComponentSets}
-use Rattle.uri_ops.specs.Texts.{are_components_for, IsTextOf}
+use Rattle.uri_ops.specs.Texts.{IsTextOf}
 use Rattle.uri_ops.specs.References.{reference_kind}
 use Rattle.uri_ops.proofs.Parts.{is_part}
 use Rattle.uri_ops.proofs.PathMeanings.{part_guarded, part_cleaned}
@@ -29,12 +28,12 @@ module _ (kind : Kind) (sets : HasComponentSets kind) where
   record ArePartsWithScheme (t : Components) : Type 0 where
     some : is_some t.scheme ≡ true
     scheme : IfSome t.scheme (λ s. IsUtf8 s × (is_scheme s ≡ true))
-    authority : IfSome t.authority (λ a. IsUtf8 a × (is_whole_authority kind a ≡ true))
+    authority : IfSome t.authority (λ a. IsUtf8 a × (is_authority kind a ≡ true))
     path : is_part kind.path t.path ≡ true
     query : IfSome t.query (λ q. is_part kind.query q ≡ true)
     fragment : IfSome t.fragment (λ f. is_part kind.fragment f ≡ true)
 
-  joined_parts : (base r : Components) → is_some base.scheme ≡ true → AreParts (is_whole_authority kind) kind base → AreParts (is_whole_authority kind) (reference_kind kind) r
+  joined_parts : (base r : Components) → is_some base.scheme ≡ true → AreParts kind base → AreParts (reference_kind kind) r
       → (is_none r.scheme ≡ true → is_empty r.path ≡ false → IsRooted base.path) → ArePartsWithScheme (joined base r)
   joined_parts base r some b p rooted =
       cond_both (is_some r.scheme) r _ ArePartsWithScheme
@@ -61,7 +60,7 @@ module _ (kind : Kind) (sets : HasComponentSets kind) where
         fragment = p.fragment;
       }))))
 
-  target_parts : (t : Components) → ArePartsWithScheme t → AreParts (is_whole_authority kind) kind (record t { path = guarded t.authority (cleaned_path t.path) })
+  target_parts : (t : Components) → ArePartsWithScheme t → AreParts kind (record t { path = guarded t.authority (cleaned_path t.path) })
   target_parts t p = record {
     scheme = p.scheme;
     authority = p.authority;
@@ -85,6 +84,6 @@ module _ (kind : Kind) (sets : HasComponentSets kind) where
       let parts = target_parts (joined base r) (joined_parts base r some (parts_of kind b v) (parts_of (reference_kind kind) t w)
       (λ s p. rooted_base base.authority base.path (not_opaque base r a.0 s p) (IsSplitOf-components b).authority)) in
       subst (IsTextOf kind) a.1 (record {
-        utf8 = utf8_recompose (is_whole_authority kind) kind (target_of base r) parts;
-        grammar = ap (are_components_for (is_whole_authority kind) kind) (target_components b t some) ∙ parts_meet (is_whole_authority kind) kind (target_of base r) parts;
+        utf8 = utf8_recompose kind (target_of base r) parts;
+        grammar = ap (are_components kind) (target_components b t some) ∙ parts_meet kind (target_of base r) parts;
       })

@@ -7,15 +7,14 @@ use Rattle.std.proofs.lemmas.Bool.{cases_Bool, and_parts, and_from, eqb-true}
 use Rattle.uri_pct.specs.Tokens.{is_valid_for}
 use Rattle.uri_pct.proofs.Cuts.{AreAscii, ascii_marks, mark_boundary}
 use Rattle.uri_parts.specs.Components.{Components, starts, before_any, from_any, has_scheme, has_authority, after_scheme, after_authority, after_query, components, when}
-use Rattle.uri_parts.specs.Grammar.{Kind, if_some, is_scheme, has_colon_first}
+use Rattle.uri_parts.specs.Grammar.{Kind, if_some, is_scheme, has_colon_first, is_authority, are_components}
 use Rattle.uri_parts.proofs.Stops.{utf8_from, utf8_tail, utf8_slashes}
-use Rattle.uri_ops.specs.Texts.{are_components_for}
 use Rattle.uri_ops.proofs.Parts.{is_part, part_from, part_valid}
 
 -- the grammar of a kind, each component with its rule
-pub record AreParts (is_authority : List ℕ → Bool) (kind : Kind) (p : Components) : Type 0 where
+pub record AreParts (kind : Kind) (p : Components) : Type 0 where
   pub scheme : IfSome p.scheme (λ s. IsUtf8 s × (is_scheme s ≡ true))
-  pub authority : IfSome p.authority (λ a. IsUtf8 a × (is_authority a ≡ true))
+  pub authority : IfSome p.authority (λ a. IsUtf8 a × (is_authority kind a ≡ true))
   pub path : is_part kind.path p.path ≡ true
   pub query : IfSome p.query (λ q. is_part kind.query q ≡ true)
   pub fragment : IfSome p.fragment (λ f. is_part kind.fragment f ≡ true)
@@ -34,11 +33,11 @@ if_both None P Q R f p q = tt
 if_both (Some x) P Q R f p q = f x p q
 
 -- such components meet the grammar
-pub parts_meet : (is_authority : List ℕ → Bool) (kind : Kind) (p : Components) → AreParts is_authority kind p → are_components_for is_authority kind p ≡ true
-parts_meet is_authority kind p w =
+pub parts_meet : (kind : Kind) (p : Components) → AreParts kind p → are_components kind p ≡ true
+parts_meet kind p w =
     and_from _ _ (and_from _ _ (and_from _ _ (and_from _ _ (and_from _ _
     (if_from p.scheme (λ s. IsUtf8 s × (is_scheme s ≡ true)) is_scheme (λ s h. h.1) w.scheme)
-    (if_from p.authority (λ a. IsUtf8 a × (is_authority a ≡ true)) is_authority (λ a h. h.1) w.authority))
+    (if_from p.authority (λ a. IsUtf8 a × (is_authority kind a ≡ true)) (is_authority kind) (λ a h. h.1) w.authority))
     (part_valid kind.path p.path w.path))
     (if_from p.query (λ q. is_part kind.query q ≡ true) (is_valid_for kind.query) (λ q h. part_valid kind.query q h) w.query))
     (if_from p.fragment (λ f. is_part kind.fragment f ≡ true) (is_valid_for kind.fragment) (λ f h. part_valid kind.fragment f h) w.fragment))
@@ -107,8 +106,8 @@ components_utf8 text u =
     }
 
 -- the components of a text that meet the grammar
-pub meet_parts : (is_authority : List ℕ → Bool) (kind : Kind) (p : Components) → AreUtf8 p → are_components_for is_authority kind p ≡ true → AreParts is_authority kind p
-meet_parts is_authority kind p u e =
+pub meet_parts : (kind : Kind) (p : Components) → AreUtf8 p → are_components kind p ≡ true → AreParts kind p
+meet_parts kind p u e =
     let a = and_parts _ _ e in
     let b = and_parts _ _ a.0 in
     let c = and_parts _ _ b.0 in
@@ -116,7 +115,7 @@ meet_parts is_authority kind p u e =
     let f = and_parts _ _ d.0 in
     record {
       scheme = if_both p.scheme IsUtf8 (λ s. is_scheme s ≡ true) (λ s. IsUtf8 s × (is_scheme s ≡ true)) (λ s v h. (v, h)) u.scheme (some_if p.scheme is_scheme f.0);
-      authority = if_both p.authority IsUtf8 (λ s. is_authority s ≡ true) (λ s. IsUtf8 s × (is_authority s ≡ true)) (λ s v h. (v, h)) u.authority (some_if p.authority is_authority f.1);
+      authority = if_both p.authority IsUtf8 (λ s. is_authority kind s ≡ true) (λ s. IsUtf8 s × (is_authority kind s ≡ true)) (λ s v h. (v, h)) u.authority (some_if p.authority (is_authority kind) f.1);
       path = part_from kind.path p.path u.path d.1;
       query = if_both p.query IsUtf8 (λ q. is_valid_for kind.query q ≡ true) (λ q. is_part kind.query q ≡ true) (λ q v h. part_from kind.query q v h) u.query (some_if p.query (is_valid_for kind.query) c.1);
       fragment = if_both p.fragment IsUtf8 (λ q. is_valid_for kind.fragment q ≡ true) (λ q. is_part kind.fragment q ≡ true) (λ q v h. part_from kind.fragment q v h) u.fragment (some_if p.fragment (is_valid_for kind.fragment) b.1);
