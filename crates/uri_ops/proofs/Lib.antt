@@ -27,3 +27,4 @@ pub mod MergedPaths
 pub mod JoinedMeanings
 pub mod Swaps
 pub mod TargetTexts
+pub mod EncodedTokens

@@ -38,7 +38,7 @@ plain_bytes test (b ∷ bs) = plain_step test b bs ∙ ap (λ t. is_plain_char t
 pub valid_plain : (test : ℕ → Bool) → test 37 ≡ false → (text : List ℕ) → IsUtf8 text → is_valid_for (plain test) text ≡ list_all (is_plain_char test) text
 valid_plain test lacks text u = is_valid_for-bytes (plain test) lacks text u ∙ plain_bytes test text
 
-ascii_plain : (test : ℕ → Bool) (text : List ℕ) → list_all (is_plain_char test) text ≡ true → IsAscii text
+pub ascii_plain : (test : ℕ → Bool) (text : List ℕ) → list_all (is_plain_char test) text ≡ true → IsAscii text
 ascii_plain test [] e i = omega arith
 ascii_plain test (b ∷ bs) e zero = ltb-true b 128 (and_parts (ltb b 128) (test b) (and_parts (is_plain_char test b) _ e).0).0
 ascii_plain test (b ∷ bs) e (suc i) = ascii_plain test bs (and_parts (is_plain_char test b) _ e).1 i
