@@ -38,6 +38,7 @@ unfolding component
 component_set marks test past private within percent ends = record {
   unreserved = record { ascii = within; pct_encoded = λ e. refl; ucschar = λ e. absurd (false≢true e); iprivate = λ e. absurd (false≢true e) };
   percent = percent;
+  octets = refl;
   ends = ends;
 }
 

@@ -28,3 +28,4 @@ pub mod JoinedMeanings
 pub mod Swaps
 pub mod TargetTexts
 pub mod EncodedTokens
+pub mod EncodedReadings

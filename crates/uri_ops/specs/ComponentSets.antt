@@ -4,10 +4,11 @@ use Rattle.std.specs.List.{list_any}
 use Rattle.uri_pct.specs.Sets.{TableSet, LacksPercent, IsSubset, unreserved_set}
 use Rattle.uri_parts.specs.Grammar.{Kind}
 
--- a component may have the unreserved characters, and neither `%` nor one of the marks, which end it
+-- a component may have the unreserved characters and percent-encoded octets, and neither `%` by itself nor one of the marks, which end it
 pub record IsComponentSet (marks : List ℕ) (set : TableSet) : Type 0 where
   pub unreserved : IsSubset unreserved_set set
   pub percent : LacksPercent set
+  pub octets : set.pct_encoded ≡ true
   pub ends : list_any set.ascii marks ≡ false
 
 pub record HasComponentSets (kind : Kind) : Type 0 where
