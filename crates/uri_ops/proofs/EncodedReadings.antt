@@ -1,15 +1,14 @@
 -- A text without characters past ASCII is allowed where the text was, and read as the text.
-use Rattle.std.proofs.Common.{◌≡◌, ℕ, ◌≤◌, Bool, true, false, ltb, List, [], ◌∷◌, ◌++◌, map, refl, sym, ap, ◌∙◌, ◌&&◌, ⊎_elim, append_assoc}
+use Rattle.std.proofs.Common.{◌≡◌, ℕ, true, List, [], ◌∷◌, ◌++◌, map, refl, sym, ap, ◌∙◌, ⊎_elim, append_assoc}
 use Rattle.std.specs.Char.{IsScalar, encode_utf8}
 use Rattle.std.specs.List.{list_all, flat_map}
-use Rattle.std.specs.Str.{IsUtf8}
 use Rattle.std.proofs.lemmas.List.{append-nil}
 use Rattle.std.proofs.lemmas.List.Concat.{flat_map-append}
 use Rattle.std.proofs.lemmas.List.Folds.{list_all-append}
 use Rattle.std.proofs.lemmas.Bool.{cases_lt, cond-true, cond-false, and_parts, and_from, or_right, lt-ltb, le-ltb}
 use Rattle.uri_pct.specs.Sets.{TableSet, allows, allows_past_ascii}
-use Rattle.uri_pct.specs.Tokens.{Token, Char, Octet, tokens, allows_token, is_valid_for, IsValidFor}
-use Rattle.uri_pct.specs.Pieces.{Piece, WellFormed, utf8_pieces, char_of}
+use Rattle.uri_pct.specs.Tokens.{Token, Char, Octet, tokens, allows_token, is_valid_for}
+use Rattle.uri_pct.specs.Pieces.{WellFormed, utf8_pieces}
 use Rattle.uri_pct.specs.Reading.{is_readable, read_piece, read_run, read_from, read_tokens, read}
 use Rattle.uri_pct.proofs.Validity.{allows-ascii, allows-past}
 use Rattle.uri_pct.proofs.Allowed.{past_ascii_scalar}

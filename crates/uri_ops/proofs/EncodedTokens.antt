@@ -53,14 +53,14 @@ high_bytes c h =
 scalar_below : (c : ℕ) → IsScalar c → c < 0x110000
 scalar_below c s = grind (arith, nat_tests)
 
-is_byte : ℕ → Bool
+unfoldable pub is_byte : ℕ → Bool
 is_byte b = ltb b 256
 
 byte : (b : ℕ) → b < 256 → is_byte b ≡ true
 unfolding is_byte
 byte b h = lt-ltb b 256 h
 
-are_bytes : (c : ℕ) → IsScalar c → list_all is_byte (encode_utf8 c) ≡ true
+pub are_bytes : (c : ℕ) → IsScalar c → list_all is_byte (encode_utf8 c) ≡ true
 unfolding encode_utf8
 are_bytes c s =
     let most = scalar_below c s in

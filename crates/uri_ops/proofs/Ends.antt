@@ -13,7 +13,7 @@ use Rattle.uri_parts.specs.Grammar.{has_colon_first}
 use Rattle.uri_parts.proofs.Cuts.{Begins}
 
 -- the marks of a component are excluded from its set
-abbrev is_plain_mark : ℕ → Bool
+abbrev pub is_plain_mark : ℕ → Bool
 is_plain_mark c = nat_lt c 128 && (not (is_ascii_hexdigit c) && not (eqb c 37))
 
 pub ends_outside : (marks : List ℕ) (set : TableSet) → list_all is_plain_mark marks ≡ true → list_any set.ascii marks ≡ false → excludes set marks ≡ true

@@ -28,7 +28,7 @@ part_lacks marks set lacks outside text e =
 abbrev pub without : ℕ → TableSet → TableSet
 without m set = record { ascii = λ c. not (eqb c m) && set.ascii c; pct_encoded = set.pct_encoded; ucschar = set.ucschar; iprivate = set.iprivate }
 
-has : ℕ → List ℕ → Bool
+unfoldable pub has : ℕ → List ℕ → Bool
 has m text = list_any (λ c. eqb c m) text
 
 allows_without : (m : ℕ) (set : TableSet) (b : ℕ) (rest : List ℕ) → eqb b m ≡ false → allows_first (without m set) b rest ≡ allows_first set b rest
@@ -89,7 +89,7 @@ wide_without m set reserved wide = record {
 one_mark : (c m : ℕ) → is_one_of (m ∷ []) c ≡ eqb c m
 one_mark c m = grind (arith, nat_tests)
 
-has_lacks : (m : ℕ) (text : List ℕ) → lacks_any (m ∷ []) text ≡ true → has m text ≡ false
+pub has_lacks : (m : ℕ) (text : List ℕ) → lacks_any (m ∷ []) text ≡ true → has m text ≡ false
 unfolding has
 has_lacks m [] e = refl
 has_lacks m (c ∷ text) e =

@@ -29,3 +29,4 @@ pub mod Swaps
 pub mod TargetTexts
 pub mod EncodedTokens
 pub mod EncodedReadings
+pub mod EncodedPaths
