@@ -30,3 +30,4 @@ pub mod TargetTexts
 pub mod EncodedTokens
 pub mod EncodedReadings
 pub mod EncodedPaths
+pub mod EncodedComponents

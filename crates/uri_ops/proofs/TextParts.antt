@@ -51,7 +51,7 @@ pub record AreUtf8 (p : Components) : Type 0 where
   pub query : IfSome p.query IsUtf8
   pub fragment : IfSome p.fragment IsUtf8
 
-utf8_before : (marks text : List ℕ) → AreAscii marks → IsUtf8 text → IsUtf8 (before_any marks text)
+pub utf8_before : (marks text : List ℕ) → AreAscii marks → IsUtf8 text → IsUtf8 (before_any marks text)
 utf8_before marks text ascii u = IsUtf8-take text _ u (mark_boundary marks ascii text)
 
 utf8_past : (c : ℕ) (text : List ℕ) → c < 128 → starts c text ≡ true → IsUtf8 text → IsUtf8 (drop 1 text)
@@ -62,7 +62,7 @@ utf8_when : (test : Bool) (text : List ℕ) → (test ≡ true → IsUtf8 text) 
 utf8_when true text u = u refl
 utf8_when false text u = tt
 
-scheme_ascii : AreAscii (codes ":/?#")
+pub scheme_ascii : AreAscii (codes ":/?#")
 scheme_ascii = ascii_marks (codes ":/?#") refl
 
 authority_ascii : AreAscii (codes "/?#")
