@@ -157,7 +157,7 @@ unfolding slashed
 utf8_behind s [] u = and_from _ _ (is_utf8-from_IsUtf8 s (subst IsUtf8 (append-nil s) u)) refl
 utf8_behind s (t ∷ rest) u = let p = utf8_apart s 47 (t ++ slashed rest) (lit< tt) u in and_from _ _ (is_utf8-from_IsUtf8 s p.0) (utf8_behind t rest p.1)
 
-utf8_slashed : (s : List ℕ) (rest : List (List ℕ)) → IsUtf8 (slashed (s ∷ rest)) → Passes is_utf8 (s ∷ rest)
+pub utf8_slashed : (s : List ℕ) (rest : List (List ℕ)) → IsUtf8 (slashed (s ∷ rest)) → Passes is_utf8 (s ∷ rest)
 unfolding slashed
 utf8_slashed s rest u = utf8_behind s rest (utf8_apart [] 47 (s ++ slashed rest) (lit< tt) u).1
 

@@ -31,3 +31,4 @@ pub mod EncodedTokens
 pub mod EncodedReadings
 pub mod EncodedPaths
 pub mod EncodedComponents
+pub mod EncodedTargets

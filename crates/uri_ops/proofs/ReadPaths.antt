@@ -21,7 +21,7 @@ use Rattle.uri_ops.proofs.DotBytes.{same_single_dot, same_double_dot}
 use Rattle.uri_ops.proofs.Lacking.{reprinted_lacks}
 use Rattle.uri_ops.proofs.SegmentMaps.{KeepsDots, cleaned_map, parent_map, sinks_map}
 
-utf8_join : (x y : List ℕ) → IsUtf8 x → IsUtf8 y → IsUtf8 (x ++ 47 ∷ y)
+pub utf8_join : (x y : List ℕ) → IsUtf8 x → IsUtf8 y → IsUtf8 (x ++ 47 ∷ y)
 utf8_join x y u v = IsUtf8-append x (47 ∷ y) u (subst IsUtf8 (ap (λ t. t ++ y) (encode_ascii 47 (lit< tt))) (IsUtf8-append _ y (IsUtf8-encode 47 (low_scalar 47 (omega arith))) v))
 
 -- a part is cut at a `/` into parts

@@ -19,9 +19,14 @@ use Rattle.uri_ops.proofs.TextParts.{AreParts, parts_meet}
 use Rattle.uri_ops.proofs.NormalTexts.{utf8_recompose, parts_of}
 use Rattle.uri_ops.proofs.Swaps.{has_needed_scheme, not_opaque, rooted_base}
 
-absent : (o : Option (List ℕ)) → is_some o ≡ false → is_none o ≡ true
+pub absent : (o : Option (List ℕ)) → is_some o ≡ false → is_none o ≡ true
 absent None e = refl
 absent (Some x) e = absurd (false≢true (sym e))
+
+pub accepted : (fragment opaque : Bool) (t target : List ℕ) → ◌≡◌ {A = Result (List ℕ) Refusal} (cond fragment (Err BaseWithFragment) (cond opaque (Err InvalidReferenceAgainstOpaqueBase) (Ok t))) (Ok target) → (opaque ≡ false) × (t ≡ target)
+accepted true opaque t target e = cc
+accepted false true t target e = cc
+accepted false false t target e = (refl, cc)
 
 module _ (kind : Kind) (sets : HasComponentSets kind) where
   -- components with a scheme, each of which meets its rule
@@ -69,11 +74,6 @@ module _ (kind : Kind) (sets : HasComponentSets kind) where
     fragment = p.fragment;
     needs = or_left _ _ p.some;
   }
-
-  accepted : (fragment opaque : Bool) (t target : List ℕ) → ◌≡◌ {A = Result (List ℕ) Refusal} (cond fragment (Err BaseWithFragment) (cond opaque (Err InvalidReferenceAgainstOpaqueBase) (Ok t))) (Ok target) → (opaque ≡ false) × (t ≡ target)
-  accepted true opaque t target e = cc
-  accepted false true t target e = cc
-  accepted false false t target e = (refl, cc)
 
   pub target_is_text : (b t target : List ℕ) → kind.needs_scheme ≡ true → IsTextOf kind b → IsTextOf (reference_kind kind) t → resolution_of (components b) (components t) ≡ Ok target → IsTextOf kind target
   target_is_text b t target needs v w e =
