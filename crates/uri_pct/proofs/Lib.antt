@@ -8,6 +8,7 @@ pub mod Tables
 pub mod Percent
 pub mod Constants
 pub mod EStrs
+pub mod OctetTexts
 pub mod Pieces
 pub mod CharacterPieces
 pub mod Printing

@@ -6,3 +6,4 @@ pub mod Tables
 pub mod EStrs
 pub mod Pieces
 pub mod Reading
+pub mod Texts

@@ -4,6 +4,8 @@
 pub mod encoder;
 #[doc(hidden)]
 pub mod laws;
+#[doc(hidden)]
+pub mod octet;
 pub mod pct_enc;
 #[doc(hidden)]
 pub mod rules;
