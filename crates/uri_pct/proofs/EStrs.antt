@@ -1,8 +1,8 @@
 -- Texts that are valid for a set.
-use Rattle.std.proofs.Common.{◌≡◌, ℕ, ◌<◌, Bool, true, List, [], ◌∷◌, refl, sym, ap, ◌∙◌, arith, ◌&&◌, ◌||◌, ⊎_elim}
+use Rattle.std.proofs.Common.{◌≡◌, ℕ, ◌<◌, true, List, [], ◌∷◌, refl, sym, ◌∙◌, ◌&&◌, ⊎_elim}
 use Rattle.std.specs.List.{list_all}
 use Rattle.std.specs.Str.{chars}
-use Rattle.std.proofs.lemmas.Bool.{and_parts, and_from, or_cases, or_left, or_right, lt-ltb, le-ltb, cond-true, cond-false, cases_lt}
+use Rattle.std.proofs.lemmas.Bool.{and_parts, and_from, or_cases, or_left, or_right, lt-ltb, cases_lt}
 use Rattle.uri_pct.specs.Sets.{TableSet, IsSubset, allows, allows_past_ascii, is_ucschar, is_iprivate}
 use Rattle.uri_pct.specs.Tokens.{Token, Char, Octet, allows_token, is_valid_for, tokens, tokens_of, text_of_token}
 use Rattle.uri_pct.proofs.Printing.{is_valid_for-print}

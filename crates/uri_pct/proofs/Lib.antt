@@ -8,6 +8,9 @@ pub mod Tables
 pub mod Percent
 pub mod Constants
 pub mod EStrs
+pub mod TokenCuts
+pub mod Delimiters
+pub mod Splits
 pub mod OctetTexts
 pub mod Pieces
 pub mod CharacterPieces

@@ -7,3 +7,4 @@ pub mod EStrs
 pub mod Pieces
 pub mod Reading
 pub mod Texts
+pub mod Splits

@@ -11,6 +11,8 @@ pub mod pct_enc;
 pub mod rules;
 #[doc(hidden)]
 pub mod scan;
+#[doc(hidden)]
+pub mod split;
 pub mod table;
 #[doc(hidden)]
 pub mod utf8;

@@ -6,6 +6,7 @@ ghost use Rattle.uri_pct.specs.Texts.{is_unencoded, is_absolute};
 
 use crate::encoder::{Encoder, PathEncoder};
 use crate::octet::pct_encoded;
+pub use crate::split::Split;
 use std::alloc::AllocError;
 use std::cmp::Ordering;
 use std::fmt;
