@@ -11,6 +11,7 @@ pub mod EStrs
 pub mod TokenCuts
 pub mod Delimiters
 pub mod Splits
+pub mod Decoding
 pub mod OctetTexts
 pub mod Pieces
 pub mod CharacterPieces

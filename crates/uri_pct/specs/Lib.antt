@@ -8,3 +8,5 @@ pub mod Pieces
 pub mod Reading
 pub mod Texts
 pub mod Splits
+pub mod Chunks
+pub mod Decodes

@@ -1,6 +1,8 @@
 //! Sets of characters, and texts that are percent-encoded over them.
 #![tactic(auto)]
 
+#[doc(hidden)]
+pub mod decode;
 pub mod encoder;
 #[doc(hidden)]
 pub mod laws;

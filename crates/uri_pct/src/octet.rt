@@ -1,5 +1,6 @@
 //! Percent-encoded octets (RFC 3986, section 2.1).
-ghost use Rattle.std.specs.Prelude.{◌≡◌};
+ghost use Rattle.std.specs.Prelude.{◌≡◌, ◌+◌, ◌*◌, ◌<◌, IsTrue};
+ghost use Rattle.std.specs.Char.{digit_value, is_ascii_hexdigit};
 ghost use Rattle.uri_pct.specs.Tokens.{Octet, text_of_token};
 
 /// Each byte as an octet, in order.
@@ -29,4 +30,27 @@ pub fn pct_encoded(byte: u8) -> &'static str
 {
     let start = usize::from(byte) * 3;
     &OCTETS[start..start + 3]
+}
+
+/// The value of a hexadecimal digit.
+fn digit_value(digit: u8) -> u8
+    requires { IsTrue (is_ascii_hexdigit digit) }
+    ensures value { result ≡ digit_value digit }
+    ensures small { result < 16 }
+{
+    match digit {
+        b'0'..=b'9' => digit - b'0',
+        b'A'..=b'F' => digit - b'A' + 10,
+        _ => digit - b'a' + 10,
+    }
+}
+
+/// The byte that `%` and the two hexadecimal digits stand for.
+#[doc(hidden)]
+pub fn octet_value(high: u8, low: u8) -> u8
+    requires high { IsTrue (is_ascii_hexdigit high) }
+    requires low { IsTrue (is_ascii_hexdigit low) }
+    ensures { result ≡ 16 * digit_value high + digit_value low }
+{
+    16 * digit_value(high) + digit_value(low)
 }
