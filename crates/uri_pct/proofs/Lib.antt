@@ -23,3 +23,4 @@ pub mod Octets
 pub mod ReadingLaws
 mod ReadingRows
 pub mod Lossy
+pub mod Runs

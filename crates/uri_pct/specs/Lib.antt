@@ -9,4 +9,6 @@ pub mod Reading
 pub mod Texts
 pub mod Splits
 pub mod Chunks
+pub mod DecodedChunks
 pub mod Decodes
+pub mod Parts

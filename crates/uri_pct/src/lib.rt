@@ -8,6 +8,8 @@ pub mod encoder;
 pub mod laws;
 #[doc(hidden)]
 pub mod octet;
+#[doc(hidden)]
+pub mod parts;
 pub mod pct_enc;
 #[doc(hidden)]
 pub mod rules;
