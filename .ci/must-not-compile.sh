@@ -7,7 +7,7 @@ work=$(mktemp -d)
 trap 'rm -rf "$work"' EXIT
 trap 'exit 1' HUP INT TERM
 
-cp -R "$root/crates" "$root/crates.txt" "$root/HANDLES" "$work/"
+tar -C "$root" --exclude=out -cf - crates crates.txt HANDLES | tar -C "$work" -xf -
 echo 'refused: fluent_uri' >> "$work/crates.txt"
 crate=$work/crates/refused
 mkdir -p "$crate/src" "$crate/specs"

@@ -14,7 +14,7 @@ use Rattle.uri_pct.proofs.Cuts.{ascii_marks, to_mark, excludes, from_mark, cut, 
 use Rattle.uri_pct.proofs.Fronts.{front-after, front-within}
 use Rattle.uri_parts.specs.Components.{before_any, from_any, starts, has_authority, has_scheme, after_scheme, after_authority, components, when, after_query}
 use Rattle.uri_parts.specs.Grammar.{Kind, if_some, is_scheme, is_authority, has_colon_first, are_components, is_of_kind}
-use Rattle.uri_parts.specs.Reading.{is_stray, reads_after, is_end, reads_fragment, reads_end, reads_path, reads_rooted, reads_authority, reads_relative, reads_hier, reads_schemeless, reads}
+use Rattle.uri_parts.specs.Reading.{is_stray, reads_after, is_end, reads_fragment, reads_end, reads_path, reads_relative, reads_hier, reads_schemeless, reads}
 use Rattle.uri_parts.proofs.Stops.{StopsWithin, stop_cases, piece, utf8_from, utf8_tail, utf8_slashes, no_stray}
 use Rattle.uri_parts.proofs.Separations.{Separates}
 
@@ -92,8 +92,8 @@ module _ (segment : TableSet) (kind : Kind) (w : Separates segment kind) where
   unfolding reads_fragment fragment_ok is_end
   fragment_back bs u =
       from_mark (codes "#") (λ r. IsUtf8 r → reads_fragment kind r ≡ fragment_ok r) (λ _. refl)
-        (λ b rest e. fragment_at b rest (flip b 35 (sym (hash b) ∙ e)))
-        bs (utf8_from (codes "#") bs (ascii_marks (codes "#") refl) u)
+      (λ b rest e. fragment_at b rest (flip b 35 (sym (hash b) ∙ e)))
+      bs (utf8_from (codes "#") bs (ascii_marks (codes "#") refl) u)
 
   query_piece : (rest : List ℕ) → IsUtf8 rest → reads_after kind.query (reads_fragment kind) rest ≡ (is_valid_for kind.query (before_any (codes "#") rest) && fragment_ok (from_any (codes "#") rest))
   query_piece rest u =
@@ -111,7 +111,7 @@ module _ (segment : TableSet) (kind : Kind) (w : Separates segment kind) where
   unfolding reads_end end_ok reads_fragment fragment_ok is_end
   end_back bs u =
       from_mark (codes "?#") (λ r. IsUtf8 r → reads_end kind r ≡ end_ok r) (λ _. refl) (λ b rest e. end_at b rest e)
-        bs (utf8_from (codes "?#") bs (ascii_marks (codes "?#") refl) u)
+      bs (utf8_from (codes "?#") bs (ascii_marks (codes "?#") refl) u)
 
   pub end_stuck : (b : ℕ) (rest : List ℕ) → is_one_of (codes "?#") b ≡ false → reads_end kind (b ∷ rest) ≡ false
   unfolding reads_end
@@ -123,51 +123,3 @@ module _ (segment : TableSet) (kind : Kind) (w : Separates segment kind) where
   path_lemma bs u =
       piece (codes "?#") kind.path w.path_lacks w.path_marks (reads_end kind) (λ b r e _. end_stuck b r e) bs u
       ∙ ap (λ t. is_valid_for kind.path (before_any (codes "?#") bs) && t) (end_back bs u)
-
-  pub rooted_stuck : (b : ℕ) (rest : List ℕ) → is_one_of (codes "/?#") b ≡ false → reads_rooted kind (b ∷ rest) ≡ false
-  unfolding reads_rooted
-  rooted_stuck b rest e =
-      let p = none_of_three b e in
-      let n = front kind.path (b ∷ rest) in
-      let r : List ℕ = after kind.path (b ∷ rest) in
-      let first : Bool = eqb b 47 || eqb n 0 in
-      and_right (not (is_stray kind.path r)) (first && reads_end kind r) (⊎_elim
-        (λ z. and_right first (reads_end kind r) (ap (λ n. reads_end kind (drop n (b ∷ rest))) z ∙ end_stuck b rest p.1))
-        (λ z. and_left first (reads_end kind r) (or_from _ _ p.0 (ne_eqb _ 0 z)))
-        (cases_eq n 0))
-
-  rooted_at : (b : ℕ) (rest : List ℕ) → is_one_of (codes "/?#") b ≡ true → reads_rooted kind (b ∷ rest) ≡ reads_path kind (b ∷ rest)
-  unfolding reads_rooted reads_path
-  rooted_at b rest e =
-      let r : List ℕ = after kind.path (b ∷ rest) in
-      ap (λ t. not (is_stray kind.path r) && (t && reads_end kind r)) (⊎_elim
-        (λ s. or_left _ _ s)
-        (λ s. or_right _ _ (eq-eqb _ 0 (front_zero_mark (codes "?#") kind.path w.path_lacks w.path_marks b rest (one_of_three b e s))))
-        (cases_Bool (eqb b 47)))
-
-  rooted_back : (bs : List ℕ) → reads_rooted kind (from_any (codes "/?#") bs) ≡ reads_path kind (from_any (codes "/?#") bs)
-  unfolding reads_rooted reads_path front_from
-  rooted_back bs = from_mark (codes "/?#") (λ r. reads_rooted kind r ≡ reads_path kind r) refl rooted_at bs
-
-  -- authorities
-  authority_piece : (bs : List ℕ) → IsUtf8 bs → reads_authority kind bs ≡ (is_authority kind (before_any (codes "/?#") bs) && reads_path kind (from_any (codes "/?#") bs))
-  unfolding reads_authority
-  authority_piece bs u =
-      piece (codes "/?#") kind.reg_name w.reg_name_lacks w.reg_name_marks (reads_rooted kind) (λ b r e _. rooted_stuck b r e) bs u
-      ∙ ap (λ t. is_authority kind (before_any (codes "/?#") bs) && t) (rooted_back bs)
-
-  unfoldable pub rest_ok : List ℕ → Bool
-  rest_ok rest = if_some (when (has_authority rest) (before_any (codes "/?#") (drop 2 rest))) (is_authority kind) && reads_path kind (after_authority rest)
-
-  pub slashes_lemma : (rest : List ℕ) → has_authority rest ≡ true → IsUtf8 rest → reads_authority kind (drop 2 rest) ≡ rest_ok rest
-  unfolding rest_ok
-  slashes_lemma rest e u =
-      authority_piece (drop 2 rest) (utf8_slashes rest e u)
-      ∙ sym (ap (λ t. if_some (when t (before_any (codes "/?#") (drop 2 rest))) (is_authority kind) && reads_path kind (cond t (from_any (codes "/?#") (drop 2 rest)) rest)) e)
-
-  pub hier_lemma : (rest : List ℕ) → IsUtf8 rest → reads_hier kind rest ≡ rest_ok rest
-  unfolding reads_hier rest_ok
-  hier_lemma rest u = ⊎_elim
-      (λ e. cond-true _ _ _ e ∙ slashes_lemma rest e u)
-      (λ e. rw e refl)
-      (cases_Bool (has_authority rest))

@@ -1,10 +1,9 @@
 -- The texts of IP addresses: the characters that they are made of, and the numbers that they write.
-use Rattle.std.proofs.Common.{◌≡◌, ℕ, zero, suc, ◌+◌, ◌<◌, ◌≤◌, ◌^◌, Bool, true, false, eqb, List, [], ◌∷◌, ◌++◌, length, decimal, refl, sym, ap, ◌∙◌, subst, arith, ◌||◌, ◌&&◌, inl, inr, lit≤, append-nil, Option, Some, None}
-use Rattle.std.specs.Prelude.{codes, is_some}
+use Rattle.std.proofs.Common.{◌≡◌, ℕ, zero, suc, ◌<◌, ◌≤◌, Bool, true, false, eqb, List, [], ◌∷◌, ◌++◌, length, decimal, refl, sym, ap, ◌∙◌, subst, arith, ◌||◌, inl, inr, lit≤, append-nil, Some, None}
+use Rattle.std.specs.Prelude.{codes}
 use Rattle.std.specs.List.{list_all}
 use Rattle.std.specs.Char.{digit_value, is_ascii_hexdigit}
 use Rattle.std.specs.Str.Parse.{AllDigits}
-use Rattle.std.specs.Net.Text.{dotted_text}
 use Rattle.std.specs.Net.Grammar.{IsDotted, IsGroupsAfter, IsColonHex}
 use Rattle.std.specs.Net.Reader.{Read, read_ipv4, read_ipv6, whole_value}
 use Rattle.std.proofs.lemmas.Bool.{and_from, and_parts, eqb-true}

@@ -3,10 +3,16 @@ pub mod Marks
 pub mod Splits
 pub mod Recompose
 pub mod Next
+pub mod AuthorityCuts
+pub mod LiteralFaults
+pub mod AuthorityPlaces
+pub mod WholeAuthorities
 pub mod Separations
 pub mod Stops
 pub mod Accepts
 pub mod Relative
+pub mod PlainNames
+pub mod Hierarchies
 pub mod Texts
 pub mod ReadPositions
 pub mod KindLemmas
@@ -14,4 +20,11 @@ pub mod Places
 mod Rows
 pub mod Parts
 pub mod Addresses
+pub mod Spelt
+pub mod Futures
+pub mod Hosts
+pub mod Parsed
+pub mod LiteralTexts
+pub mod Authority
+pub mod Literals
 mod AuthorityRows

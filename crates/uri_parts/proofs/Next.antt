@@ -1,12 +1,14 @@
 -- What is next at a place in a text.
-use Rattle.std.proofs.Common.{◌≡◌, ℕ, ◌+◌, ◌<◌, ◌≤◌, Bool, true, false, cond, eqb, ltb, List, [], ◌∷◌, length, get_or, drop, refl, sym, ap, ◌∙◌, arith, ◌&&◌, ⊎_elim}
+use Rattle.std.proofs.Common.{◌≡◌, ℕ, ◌+◌, ◌<◌, ◌≤◌, Bool, true, false, cond, eqb, ltb, List, [], ◌∷◌, length, get_or, drop, refl, sym, ap, ◌∙◌, arith, ◌&&◌, ◌||◌, ⊎_elim}
 use Rattle.std.proofs.lemmas.Bool.{cases_lt, and_left, eq-eqb, ne_eqb, lt-ltb, le-ltb}
 use Rattle.std.proofs.lemmas.List.{drop_more, drop_all, drop-drop}
-use Rattle.uri_pct.specs.Sets.{TableSet}
+use Rattle.std.specs.Prelude.{codes}
+use Rattle.std.proofs.lemmas.Bool.Decides.{nat_tests}
+use Rattle.uri_pct.specs.Sets.{TableSet, is_one_of}
 use Rattle.uri_pct.specs.Fronts.{front, after, IsStrayPercent, has_digits}
 use Rattle.uri_pct.proofs.Fronts.{front-after, stray-digits}
 use Rattle.uri_parts.specs.Components.{starts}
-use Rattle.uri_parts.specs.Reading.{is_end}
+use Rattle.uri_parts.specs.Reading.{is_end, begins_any}
 
 pub starts_at : (mark i : ℕ) (text : List ℕ) → starts mark (drop i text) ≡ (ltb i (length text) && eqb (get_or text i 0) mark)
 starts_at mark i text = ⊎_elim
@@ -26,3 +28,15 @@ is_end_at i text l = ⊎_elim
     (λ h. ap is_end (drop_more text i 0 h) ∙ sym (ne_eqb i (length text) (λ e. omega arith)))
     (λ h. ap is_end (drop_all i text h) ∙ sym (eq-eqb i (length text) (omega arith)))
     (cases_lt i (length text))
+
+-- what may stand behind an authority
+three : (b : ℕ) → is_one_of (codes "/?#") b ≡ ((eqb b 47 || eqb b 63) || eqb b 35)
+three b = grind (arith, nat_tests)
+
+pub ends_at : (i : ℕ) (text : List ℕ) → length text ≤ i → begins_any (codes "/?#") (drop i text) ≡ true
+unfolding begins_any
+ends_at i text h = ap (begins_any (codes "/?#")) (drop_all i text h)
+
+pub goes_on_at : (i : ℕ) (text : List ℕ) → i < length text → begins_any (codes "/?#") (drop i text) ≡ ((eqb (get_or text i 0) 47 || eqb (get_or text i 0) 63) || eqb (get_or text i 0) 35)
+unfolding begins_any
+goes_on_at i text h = ap (begins_any (codes "/?#")) (drop_more text i 0 h) ∙ three (get_or text i 0)

@@ -4,7 +4,6 @@ use Rattle.std.specs.Prelude.{codes, Some, None, Option, option_map}
 use Rattle.std.specs.List.{prefix_len}
 use Rattle.std.specs.Char.{is_ascii_alphabetic}
 use Rattle.std.specs.Str.{IsUtf8}
-use Rattle.std.proofs.lemmas.List.Folds.{length-prefix_len}
 use Rattle.std.proofs.lemmas.List.{drop-drop}
 use Rattle.std.proofs.lemmas.Bool.{cases_Bool, cond-true, cond-false, and_left, and_right, and_from, and_parts, ne_eqb, both_ways, not_from_false, false_from_ne_true}
 use Rattle.uri_pct.specs.Sets.{TableSet, LacksPercent, is_one_of, scheme_set}
@@ -14,17 +13,17 @@ use Rattle.uri_pct.proofs.Fronts.{front-within}
 use Rattle.uri_parts.specs.declared.positions.Positions.{Positions}
 use Rattle.uri_parts.specs.declared.positions.AuthorityPositions.{AuthorityPositions}
 use Rattle.uri_parts.specs.Components.{Components, before_any, from_any, starts, has_authority, has_scheme, after_scheme, after_authority, after_query, components, when}
-use Rattle.uri_parts.specs.Positions.{positions_of, marked_length}
+use Rattle.uri_parts.specs.Positions.{positions_of, marked_length, authority_at}
 use Rattle.uri_parts.specs.Grammar.{Kind}
-use Rattle.uri_parts.specs.Reading.{is_stray, reads_after, is_end, reads_fragment, reads_end, reads_path, reads_rooted, reads_authority, reads_relative, reads_hier, reads_schemeless, reads, query_end_at, path_positions, authority_positions, hier_positions, relative_positions, schemeless_positions, read_positions}
+use Rattle.uri_parts.specs.Reading.{is_stray, reads_after, is_end, reads_fragment, reads_end, reads_path, finds_authority, found_length, reads_authority, reads_relative, reads_hier, reads_schemeless, reads, query_end_at, path_positions, authority_positions, hier_positions, relative_positions, schemeless_positions, read_positions}
 use Rattle.uri_parts.proofs.Stops.{StopsWithin, stop_cases, utf8_from, utf8_past, utf8_slashes}
+use Rattle.uri_parts.proofs.AuthorityCuts.{length-before}
 use Rattle.uri_parts.proofs.Separations.{Separates}
-use Rattle.uri_parts.proofs.Accepts.{fragment_stuck, end_stuck, rooted_stuck, hash}
+use Rattle.uri_parts.proofs.Accepts.{fragment_stuck, end_stuck}
+use Rattle.uri_parts.proofs.PlainNames.{IsFound, is_found}
+use Rattle.uri_parts.proofs.Hierarchies.{behind_found}
 use Rattle.uri_parts.proofs.Relative.{scheme_lacks, scheme_marks, stops_at_colon, path_after, after_within, relative_false, segment_within, relative_within}
 use Rattle.uri_parts.proofs.Texts.{alpha_colon, slashes_first, slashes_colon, slashes_front, slashes_read}
-
-length-before : (marks text : List ℕ) → length (before_any marks text) ≡ to_mark marks text
-length-before marks text = length-prefix_len (λ c. not (is_one_of marks c)) text
 
 no_hash : (b : ℕ) → is_one_of (codes "#") b ≡ false → eqb b 35 ≡ false
 no_hash b o = ne_eqb b 35 (λ e. both_ways _ o (ap (is_one_of (codes "#")) e))
@@ -52,19 +51,19 @@ tail_positions scheme_end authority start tail =
 abbrev hier_layout : Option ℕ → ℕ → List ℕ → Positions
 hier_layout scheme_end place rest =
     let authority = when (has_authority rest) (before_any (codes "/?#") (drop 2 rest)) in
-    tail_positions scheme_end (option_map (λ a. record { start = place + 2; end = place + 2 + length a }) authority) (place + marked_length 2 authority) (after_authority rest)
+    tail_positions scheme_end (option_map (authority_at (place + 2)) authority) (place + marked_length 2 authority) (after_authority rest)
 
 module _ (segment : TableSet) (kind : Kind) (w : Separates segment kind) where
   query_case : (end : ℕ) (r : List ℕ) → IsUtf8 r → reads_end kind r ≡ true → query_end_at kind end r ≡ option_map (λ q. end + 1 + length q) (when (starts 63 r) (before_any (codes "#") (drop 1 r)))
   unfolding reads_end query_end_at
   query_case end r u h = ⊎_elim
       (λ q.
-        let r1 = drop 1 r in
-        let h1 : (not (is_stray kind.query (after kind.query r1)) && reads_fragment kind (after kind.query r1)) ≡ true = sym (cond-true _ _ _ q) ∙ h in
-        let stuck = λ (b : ℕ) (rest : List ℕ) (o : is_one_of (codes "#") b ≡ false). fragment_stuck segment kind w b rest (no_hash b o) in
-        let m : front kind.query r1 ≡ length (before_any (codes "#") r1) =
-          front_true (codes "#") kind.query w.query_lacks w.query_marks (reads_fragment kind) stuck r1 (utf8_past 63 (lit< tt) r q u) (and_parts _ _ h1).1 ∙ sym (length-before (codes "#") r1) in
-        cond-true _ _ _ q ∙ ap (λ n. Some (end + 1 + n)) m ∙ sym (ap (λ t. option_map (λ q. end + 1 + length q) (when t (before_any (codes "#") r1))) q))
+      let r1 = drop 1 r in
+      let h1 : (not (is_stray kind.query (after kind.query r1)) && reads_fragment kind (after kind.query r1)) ≡ true = sym (cond-true _ _ _ q) ∙ h in
+      let stuck = λ (b : ℕ) (rest : List ℕ) (o : is_one_of (codes "#") b ≡ false). fragment_stuck segment kind w b rest (no_hash b o) in
+      let m : front kind.query r1 ≡ length (before_any (codes "#") r1) =
+      front_true (codes "#") kind.query w.query_lacks w.query_marks (reads_fragment kind) stuck r1 (utf8_past 63 (lit< tt) r q u) (and_parts _ _ h1).1 ∙ sym (length-before (codes "#") r1) in
+      cond-true _ _ _ q ∙ ap (λ n. Some (end + 1 + n)) m ∙ sym (ap (λ t. option_map (λ q. end + 1 + length q) (when t (before_any (codes "#") r1))) q))
       (λ q. cond-false _ _ _ q ∙ sym (ap (λ t. option_map (λ q. end + 1 + length q) (when t (before_any (codes "#") (drop 1 r)))) q))
       (cases_Bool (starts 63 r))
 
@@ -86,26 +85,24 @@ module _ (segment : TableSet) (kind : Kind) (w : Separates segment kind) where
       let r : after kind.path tail ≡ rest = ap (λ k. drop k tail) m in
       let end : start + front kind.path tail ≡ start + length (before_any (codes "?#") tail) = ap (λ k. start + k) n in
       let q : query_end_at kind (start + front kind.path tail) (after kind.path tail) ≡ option_map (λ q. start + length (before_any (codes "?#") tail) + 1 + length q) (when (starts 63 rest) (before_any (codes "#") (drop 1 rest))) =
-        ap (λ e. query_end_at kind e (after kind.path tail)) end ∙ ap (query_end_at kind (start + length (before_any (codes "?#") tail))) r
-        ∙ query_case (start + length (before_any (codes "?#") tail)) rest (utf8_from (codes "?#") tail (ascii_marks (codes "?#") refl) u) (sym (ap (reads_end kind) r) ∙ path_end tail h) in
+      ap (λ e. query_end_at kind e (after kind.path tail)) end ∙ ap (query_end_at kind (start + length (before_any (codes "?#") tail))) r
+      ∙ query_case (start + length (before_any (codes "?#") tail)) rest (utf8_from (codes "?#") tail (ascii_marks (codes "?#") refl) u) (sym (ap (reads_end kind) r) ∙ path_end tail h) in
       λ i. record { scheme_end = scheme_end; authority = authority; path_start = start; path_end = end i; query_end = q i }
 
-  rooted_path : (r : List ℕ) → reads_rooted kind r ≡ true → reads_path kind r ≡ true
-  unfolding reads_rooted reads_path
-  rooted_path r h = let p = and_parts (not (is_stray kind.path (after kind.path r))) _ h in and_from _ _ p.0 (and_parts _ _ p.1).1
-
   authority_case : (scheme_end : Option ℕ) (place : ℕ) (rest : List ℕ) → IsUtf8 rest → reads_authority kind rest ≡ true →
-      authority_positions kind scheme_end place rest ≡ tail_positions scheme_end (Some (record { start = place; end = place + length (before_any (codes "/?#") rest) })) (place + length (before_any (codes "/?#") rest)) (from_any (codes "/?#") rest)
+      authority_positions kind scheme_end place rest ≡ tail_positions scheme_end (Some (authority_at place (before_any (codes "/?#") rest))) (place + length (before_any (codes "/?#") rest)) (from_any (codes "/?#") rest)
   unfolding reads_authority authority_positions
   authority_case scheme_end place rest u h =
-      let p = (and_parts _ _ h).1 in
-      let m = front_true (codes "/?#") kind.reg_name w.reg_name_lacks w.reg_name_marks (reads_rooted kind) (rooted_stuck segment kind w) rest u p in
-      let n : front kind.reg_name rest ≡ length (before_any (codes "/?#") rest) = m ∙ sym (length-before (codes "/?#") rest) in
-      let r : after kind.reg_name rest ≡ from_any (codes "/?#") rest = ap (λ k. drop k rest) m in
-      let at = λ (k : ℕ) (t : List ℕ). path_positions kind scheme_end (Some (record { start = place; end = place + k })) (place + k) (place + k) t in
-      ap (λ k. at k (after kind.reg_name rest)) n ∙ ap (at (length (before_any (codes "/?#") rest))) r
-      ∙ path_case scheme_end (Some (record { start = place; end = place + length (before_any (codes "/?#") rest) })) (place + length (before_any (codes "/?#") rest)) (from_any (codes "/?#") rest)
-        (utf8_from (codes "/?#") rest (ascii_marks (codes "/?#") refl) u) (sym (ap (reads_path kind) r) ∙ rooted_path _ p)
+      let f = is_found segment kind w rest u in
+      let p = (and_parts (finds_authority kind rest) _ h).1 in
+      let r = behind_found segment kind w rest u in
+      let at = λ (a : AuthorityPositions) (k : ℕ) (t : List ℕ). path_positions kind scheme_end (Some a) (place + k) (place + k) t in
+      let host : List ℕ = before_any (codes "/?#") rest in
+      ap (λ a. at a (found_length kind rest) (drop (found_length kind rest) rest)) (f.found place)
+      ∙ ap (λ k. at (authority_at place host) k (drop (found_length kind rest) rest)) f.len
+      ∙ ap (at (authority_at place host) (length host)) r
+      ∙ path_case scheme_end (Some (authority_at place host)) (place + length host) (from_any (codes "/?#") rest)
+      (utf8_from (codes "/?#") rest (ascii_marks (codes "/?#") refl) u) (sym (ap (reads_path kind) r) ∙ p)
 
   slashes_case : (scheme_end : Option ℕ) (place : ℕ) (rest : List ℕ) → IsUtf8 rest → has_authority rest ≡ true → reads_authority kind (drop 2 rest) ≡ true →
       authority_positions kind scheme_end (place + 2) (drop 2 rest) ≡ hier_layout scheme_end place rest
@@ -113,8 +110,8 @@ module _ (segment : TableSet) (kind : Kind) (w : Separates segment kind) where
       let host : List ℕ = before_any (codes "/?#") (drop 2 rest) in
       let e : place + 2 + length host ≡ place + (2 + length host) = omega arith in
       authority_case scheme_end (place + 2) (drop 2 rest) (utf8_slashes rest a u) h
-      ∙ ap (λ n. tail_positions scheme_end (Some (record { start = place + 2; end = place + 2 + length host })) n (from_any (codes "/?#") (drop 2 rest))) e
-      ∙ sym (ap (λ t. tail_positions scheme_end (option_map (λ a. record { start = place + 2; end = place + 2 + length a }) (when t host)) (place + marked_length 2 (when t host)) (cond t (from_any (codes "/?#") (drop 2 rest)) rest)) a)
+      ∙ ap (λ n. tail_positions scheme_end (Some (authority_at (place + 2) host)) n (from_any (codes "/?#") (drop 2 rest))) e
+      ∙ sym (ap (λ t. tail_positions scheme_end (option_map (authority_at (place + 2)) (when t host)) (place + marked_length 2 (when t host)) (cond t (from_any (codes "/?#") (drop 2 rest)) rest)) a)
 
   none_case : (scheme_end : Option ℕ) (place : ℕ) (rest : List ℕ) → IsUtf8 rest → has_authority rest ≡ false → reads_path kind rest ≡ true →
       path_positions kind scheme_end None place place rest ≡ hier_layout scheme_end place rest
@@ -123,7 +120,7 @@ module _ (segment : TableSet) (kind : Kind) (w : Separates segment kind) where
       let e : place ≡ place + 0 = omega arith in
       path_case scheme_end None place rest u h
       ∙ ap (λ n. tail_positions scheme_end None n rest) e
-      ∙ sym (ap (λ t. tail_positions scheme_end (option_map (λ a. record { start = place + 2; end = place + 2 + length a }) (when t host)) (place + marked_length 2 (when t host)) (cond t (from_any (codes "/?#") (drop 2 rest)) rest)) a)
+      ∙ sym (ap (λ t. tail_positions scheme_end (option_map (authority_at (place + 2)) (when t host)) (place + marked_length 2 (when t host)) (cond t (from_any (codes "/?#") (drop 2 rest)) rest)) a)
 
   hier_case : (scheme_end : Option ℕ) (place : ℕ) (rest : List ℕ) → IsUtf8 rest → reads_hier kind rest ≡ true → hier_positions kind scheme_end place rest ≡ hier_layout scheme_end place rest
   unfolding reads_hier hier_positions
@@ -153,12 +150,12 @@ module _ (segment : TableSet) (kind : Kind) (w : Separates segment kind) where
   unfolding reads_schemeless schemeless_positions
   schemeless_case text u h = ⊎_elim
       (λ a.
-        let e = slashes_read text ∙ a in
-        let d : drop 2 (after scheme_set text) ≡ drop 2 text = ap (λ n. drop 2 (drop n text)) (slashes_front text a) in
-        cond-true _ _ _ e ∙ ap (authority_positions kind None 2) d ∙ slashes_case None 0 text u a (sym (ap (reads_authority kind) d) ∙ sym (cond-true _ _ _ e) ∙ h))
+      let e = slashes_read text ∙ a in
+      let d : drop 2 (after scheme_set text) ≡ drop 2 text = ap (λ n. drop 2 (drop n text)) (slashes_front text a) in
+      cond-true _ _ _ e ∙ ap (authority_positions kind None 2) d ∙ slashes_case None 0 text u a (sym (ap (reads_authority kind) d) ∙ sym (cond-true _ _ _ e) ∙ h))
       (λ a.
-        let e = slashes_read text ∙ a in
-        cond-false _ _ _ e ∙ relative_same text ∙ none_case None 0 text u a (relative_path text (sym (relative_within segment kind w text) ∙ sym (cond-false _ _ _ e) ∙ h)))
+      let e = slashes_read text ∙ a in
+      cond-false _ _ _ e ∙ relative_same text ∙ none_case None 0 text u a (relative_path text (sym (relative_within segment kind w text) ∙ sym (cond-false _ _ _ e) ∙ h)))
       (cases_Bool (has_authority text))
 
   -- where there is no colon behind the characters of a scheme, there is no scheme
@@ -203,6 +200,6 @@ module _ (segment : TableSet) (kind : Kind) (w : Separates segment kind) where
   positions_read text u h = ⊎_elim
       (λ s. cond-true _ _ _ s ∙ scheme_case text u s (sym (cond-true _ _ _ s) ∙ h))
       (λ s.
-        let h1 = (and_parts (not kind.needs_scheme) _ (sym (cond-false _ _ _ s) ∙ h)).1 in
-        cond-false _ _ _ s ∙ schemeless_case text u h1 ∙ sym (layout_none text (no_scheme text u s h1)))
+      let h1 = (and_parts (not kind.needs_scheme) _ (sym (cond-false _ _ _ s) ∙ h)).1 in
+      cond-false _ _ _ s ∙ schemeless_case text u h1 ∙ sym (layout_none text (no_scheme text u s h1)))
       (cases_Bool (starts 58 (after scheme_set text)))

@@ -14,6 +14,8 @@ pub record Separates (segment : TableSet) (kind : Kind) : Type 0 where
   pub segment_lacks : LacksPercent segment
   -- no set holds a character that ends its component
   pub reg_name_marks : excludes kind.reg_name (codes "/?#") ≡ true
+  pub reg_name_colon : excludes kind.reg_name (codes ":/?#") ≡ true
+  pub reg_name_starts : excludes kind.reg_name (codes "@:[") ≡ true
   pub path_marks : excludes kind.path (codes "?#") ≡ true
   pub query_marks : excludes kind.query (codes "#") ≡ true
   pub segment_marks : excludes segment (codes ":/?#") ≡ true

@@ -4,6 +4,7 @@ use Rattle.std.specs.List.{list_any}
 use Rattle.std.specs.Char.{is_ascii_alphabetic}
 use Rattle.uri_pct.specs.Sets.{TableSet, scheme_set, userinfo_set, reg_name_set, path_set, query_set, fragment_set, iuserinfo_set, ireg_name_set, ipath_set, iquery_set, ifragment_set}
 use Rattle.uri_pct.specs.Tokens.{is_valid_for}
+use Rattle.uri_parts.specs.Authority.{is_authority_for}
 use Rattle.uri_parts.specs.Components.{Components, components, before_any}
 
 -- what tells the kinds apart: the sets of their components, and whether a scheme is needed
@@ -48,9 +49,9 @@ iri = record iri_ref { needs_scheme = true }
 abbrev pub is_scheme : List ℕ → Bool
 is_scheme text = is_ascii_alphabetic (slice_index text 0) && is_valid_for scheme_set text
 
--- section 3.2, so far as it is a registered name alone
+-- section 3.2: userinfo, host and port
 abbrev pub is_authority : Kind → List ℕ → Bool
-is_authority kind text = is_valid_for kind.reg_name text
+is_authority kind text = is_authority_for kind.userinfo kind.reg_name text
 
 -- sections 3.3 and 4.2: the first segment of the path holds `:`
 abbrev pub has_colon_first : List ℕ → Bool

@@ -1,6 +1,7 @@
 pub mod Addresses
 pub mod Authority
 pub mod Authorities
+pub mod AuthorityReading
 pub mod AuthorityTexts
 pub mod Components
 pub mod CoreTexts
@@ -8,6 +9,8 @@ pub mod Errors
 pub mod Grammar
 pub mod Grammars
 pub mod Hosts
+pub mod HostTexts
+pub mod Literals
 pub mod Positions
 pub mod Readers
 pub mod Reading

@@ -1,12 +1,30 @@
 -- Where the components of a text lie in it.
 use Rattle.std.specs.Prelude.{◌≡◌, ℕ, ◌+◌, List, length, Option, Some, None, option_map, unwrap_or}
 use Rattle.uri_parts.specs.declared.positions.Positions.{Positions}
+use Rattle.uri_parts.specs.declared.positions.AuthorityPositions.{AuthorityPositions}
+use Rattle.uri_parts.specs.Authority.{authority_parts}
 use Rattle.uri_parts.specs.Components.{Components, components}
 
 -- the length of a component, where it is present, with that of the marks beside it
 abbrev pub marked_length : ℕ → Option (List ℕ) → ℕ
 marked_length marks None = 0
 marked_length marks (Some part) = marks + length part
+
+-- where the host of an authority begins and ends in it
+abbrev pub host_start_of : List ℕ → ℕ
+host_start_of text = marked_length 1 (authority_parts text).userinfo
+
+abbrev pub host_end_of : List ℕ → ℕ
+host_end_of text = host_start_of text + length (authority_parts text).host
+
+-- where an authority lies that begins at a place
+abbrev pub authority_at : ℕ → List ℕ → AuthorityPositions
+authority_at place text = record {
+  start = place;
+  host_start = place + host_start_of text;
+  host_end = place + host_end_of text;
+  end = place + length text;
+}
 
 -- where components lie in their text, by the lengths of those before each
 abbrev pub positions_of : Components → Positions
@@ -16,7 +34,7 @@ positions_of p =
     let path_end = path_start + length p.path in
     record {
       scheme_end = option_map length p.scheme;
-      authority = option_map (λ a. record { start = behind_scheme + 2; end = behind_scheme + 2 + length a }) p.authority;
+      authority = option_map (authority_at (behind_scheme + 2)) p.authority;
       path_start = path_start;
       path_end = path_end;
       query_end = option_map (λ q. path_end + 1 + length q) p.query;

@@ -1,9 +1,11 @@
 -- What the parser reads, as functions of the text that is left.
-use Rattle.std.specs.Prelude.{◌≡◌, ℕ, ◌+◌, Bool, true, false, not, ◌&&◌, ◌||◌, ◌==◌, List, [], ◌∷◌, drop, slice_index, Option, Some, None, if◌then◌else◌}
+use Rattle.std.specs.Prelude.{◌≡◌, ℕ, length, codes, ◌+◌, Bool, true, false, not, ◌&&◌, ◌||◌, ◌==◌, List, [], ◌∷◌, drop, slice_index, Option, Some, None, if◌then◌else◌}
 use Rattle.std.specs.Char.{is_ascii_alphabetic}
-use Rattle.uri_pct.specs.Sets.{TableSet, scheme_set}
+use Rattle.uri_pct.specs.Sets.{TableSet, scheme_set, digit_set, is_one_of}
 use Rattle.uri_pct.specs.Fronts.{front, after}
-use Rattle.uri_parts.specs.Components.{starts, has_authority}
+use Rattle.uri_parts.specs.AuthorityReading.{reads_whole_authority}
+use Rattle.uri_parts.specs.Components.{starts, has_authority, before_any}
+use Rattle.uri_parts.specs.Positions.{authority_at}
 use Rattle.uri_parts.specs.Grammar.{Kind}
 use Rattle.uri_parts.specs.declared.positions.Positions.{Positions}
 use Rattle.uri_parts.specs.declared.positions.AuthorityPositions.{AuthorityPositions}
@@ -32,15 +34,42 @@ reads_end kind rest = if starts 63 rest then reads_after kind.query (reads_fragm
 unfoldable pub reads_path : Kind → List ℕ → Bool
 reads_path kind rest = reads_after kind.path (reads_end kind) rest
 
--- the same behind an authority, where the path is empty or begins with `/`
-unfoldable pub reads_rooted : Kind → List ℕ → Bool
-reads_rooted kind rest =
-    not (is_stray kind.path (after kind.path rest))
-    && ((starts 47 rest || front kind.path rest == 0) && reads_end kind (after kind.path rest))
+-- the text begins with one of these characters, or is empty
+unfoldable pub begins_any : List ℕ → List ℕ → Bool
+begins_any marks [] = true
+begins_any marks (b ∷ rest) = is_one_of marks b
+
+-- An authority ends where `/`, `?`, `#` or nothing follows. Most are a registered name, perhaps with a port; these two are read at once.
+unfoldable pub is_plain_name : Kind → List ℕ → Bool
+is_plain_name kind rest = begins_any (codes "/?#") (after kind.reg_name rest)
+
+unfoldable pub is_name_and_port : Kind → List ℕ → Bool
+is_name_and_port kind rest = starts 58 (after kind.reg_name rest) && begins_any (codes "/?#") (after digit_set (drop 1 (after kind.reg_name rest)))
+
+unfoldable pub finds_authority : Kind → List ℕ → Bool
+finds_authority kind rest =
+    is_plain_name kind rest || (is_name_and_port kind rest || reads_whole_authority kind.userinfo kind.reg_name (before_any (codes "/?#") rest))
+
+unfoldable pub found_length : Kind → List ℕ → ℕ
+found_length kind rest =
+    if is_plain_name kind rest then front kind.reg_name rest
+    else (if is_name_and_port kind rest then front kind.reg_name rest + 1 + front digit_set (drop 1 (after kind.reg_name rest))
+    else length (before_any (codes "/?#") rest))
+
+-- an authority with no userinfo, from its beginning to the end of the host and to its own
+abbrev pub name_at : ℕ → ℕ → ℕ → AuthorityPositions
+name_at place name_end end = record { start = place; host_start = place; host_end = name_end; end = end }
+
+unfoldable pub found_authority : Kind → ℕ → List ℕ → AuthorityPositions
+found_authority kind place rest =
+    let name_end = place + front kind.reg_name rest in
+    if is_plain_name kind rest then name_at place name_end name_end
+    else (if is_name_and_port kind rest then name_at place name_end (name_end + 1 + front digit_set (drop 1 (after kind.reg_name rest)))
+    else authority_at place (before_any (codes "/?#") rest))
 
 -- an authority, and what follows it
 unfoldable pub reads_authority : Kind → List ℕ → Bool
-reads_authority kind rest = reads_after kind.reg_name (reads_rooted kind) rest
+reads_authority kind rest = finds_authority kind rest && reads_path kind (drop (found_length kind rest) rest)
 
 -- a path that has no colon behind the characters of a first segment, and what follows it
 unfoldable pub reads_relative : TableSet → Kind → List ℕ → Bool
@@ -79,8 +108,8 @@ path_positions kind scheme_end authority start place rest =
 
 unfoldable pub authority_positions : Kind → Option ℕ → ℕ → List ℕ → Positions
 authority_positions kind scheme_end place rest =
-    let end = place + front kind.reg_name rest in
-    path_positions kind scheme_end (Some (record { start = place; end = end })) end end (after kind.reg_name rest)
+    let end = place + found_length kind rest in
+    path_positions kind scheme_end (Some (found_authority kind place rest)) end end (drop (found_length kind rest) rest)
 
 unfoldable pub hier_positions : Kind → Option ℕ → ℕ → List ℕ → Positions
 hier_positions kind scheme_end place rest =

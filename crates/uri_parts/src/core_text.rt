@@ -116,10 +116,13 @@ impl<'a, K: Encoders> CoreText<'a, K> {
     pub fn authority(self) -> Option<Authority<'a, K::UserinfoE, K::RegNameE>>
         ensures { option_map authority_text result ≡ (components (core_text self.entry)).authority }
     {
-        match self.positions.authority(self.text) {
-            Some(authority) => Some(Authority::new_unchecked(authority)),
-            None => None,
-        }
+        let places = self.positions.authority?;
+        let text = self.positions.authority(self.text)?;
+        Some(Authority::new_unchecked(
+            text,
+            places.host_start - places.start,
+            places.host_end - places.start,
+        ))
     }
 
     /// The path.

@@ -1,6 +1,18 @@
 //! Laws of the definitions that contracts cite, each the contract of a function that does nothing.
-ghost use Rattle.std.specs.Prelude.{◌≡◌, ℕ, List};
+ghost use Rattle.std.specs.Prelude.{◌≡◌, ◌↔◌, ℕ, List, true};
+ghost use Rattle.std.specs.Cmp.Lexicographic.{slice_cmp};
+ghost use Rattle.std.specs.Ordering.{nat_cmp};
+ghost use Rattle.std.specs.declared.cmp.Ordering.TheVariants.{Less};
+ghost use Rattle.std.specs.Str.{IsUtf8};
+ghost use Rattle.std.specs.Net.Text.{ipv4_text, ipv6_text};
+ghost use Rattle.uri_pct.specs.Sets.{TableSet, userinfo_set, reg_name_set};
+ghost use Rattle.uri_parts.specs.Addresses.{ipv4_octets, ipv6_segments};
+ghost use Rattle.uri_parts.specs.Authority.{AuthorityParts, IsAuthorityFor, KeepsApart, authority_parts, is_authority_for};
 ghost use Rattle.uri_parts.specs.Components.{Components, IsSplitOf, components, recompose};
+ghost use Rattle.uri_parts.specs.Hosts.{HostKind, IsHost, IsIpv4Text, IsIpv6Text, host_kind, is_host};
+
+use crate::net::{IpAddr, Ipv4Addr, Ipv6Addr};
+use std::cmp::Ordering;
 
 /// The components of a text are a split of it by RFC 3986, appendix B.
 #[doc(hidden)]
@@ -18,4 +30,75 @@ pub fn components_are_the_only_split()
 #[doc(hidden)]
 pub fn components_recompose()
     ensures { (text : List ℕ) → recompose (components text) ≡ text }
+{}
+
+/// The grammar reads the text of an IPv4 address back as the same four octets.
+#[doc(hidden)]
+pub fn ipv4_text_is_read_back(address: &Ipv4Addr)
+    ensures { IsIpv4Text (ipv4_text (ipv4_octets address.now)) (ipv4_octets address.now) }
+{
+    let _octets = address.octets();
+}
+
+/// The grammar reads the text of an IPv6 address back as the same eight segments.
+#[doc(hidden)]
+pub fn ipv6_text_is_read_back(address: &Ipv6Addr)
+    ensures { IsIpv6Text (ipv6_text (ipv6_segments address.now)) (ipv6_segments address.now) }
+{
+    let _segments = address.segments();
+}
+
+/// IPv4 addresses are compared by their octets, first to last.
+#[doc(hidden)]
+pub fn ipv4_addresses_compare_by_octets(a: &Ipv4Addr, b: &Ipv4Addr) -> Ordering
+    ensures { result ≡ slice_cmp nat_cmp (ipv4_octets a.now) (ipv4_octets b.now) }
+{
+    a.cmp(b)
+}
+
+/// IPv6 addresses are compared by their segments, first to last.
+#[doc(hidden)]
+pub fn ipv6_addresses_compare_by_segments(a: &Ipv6Addr, b: &Ipv6Addr) -> Ordering
+    ensures { result ≡ slice_cmp nat_cmp (ipv6_segments a.now) (ipv6_segments b.now) }
+{
+    a.cmp(b)
+}
+
+/// An IPv4 address is less than an IPv6 address.
+#[doc(hidden)]
+pub fn ipv4_is_less_than_ipv6(a: Ipv4Addr, b: Ipv6Addr) -> Ordering
+    ensures { result ≡ Less }
+{
+    IpAddr::V4(a).cmp(&IpAddr::V6(b))
+}
+
+/// The characters of userinfo and of registered names keep the parts of an authority apart.
+#[doc(hidden)]
+#[tactic(auto, unfolding(uri_pct::specs::Sets::is_userinfo_char, uri_pct::specs::Sets::is_reg_name_char, uri_pct::specs::Sets::is_unreserved, uri_pct::specs::Sets::is_sub_delim))]
+pub fn uri_sets_keep_apart()
+    ensures { KeepsApart userinfo_set reg_name_set }
+{}
+
+/// A text is a host of one kind: RFC 3986, section 3.2.2.
+#[doc(hidden)]
+pub fn a_host_is_of_one_kind()
+    ensures { (users names : TableSet) (text : List ℕ) (host : HostKind) → KeepsApart users names → IsUtf8 text → IsHost names text host → host_kind text ≡ host }
+{}
+
+/// The test of a host is its grammar.
+#[doc(hidden)]
+pub fn host_test_is_the_grammar()
+    ensures { (users names : TableSet) (text : List ℕ) → KeepsApart users names → IsUtf8 text → (is_host names text ≡ true ↔ ((host : HostKind) × IsHost names text host)) }
+{}
+
+/// An authority has one cut into userinfo, host and port: RFC 3986, section 3.2.
+#[doc(hidden)]
+pub fn an_authority_has_one_cut()
+    ensures { (users names : TableSet) (text : List ℕ) (p : AuthorityParts) → KeepsApart users names → IsUtf8 text → IsAuthorityFor users names text p → authority_parts text ≡ p }
+{}
+
+/// The test of an authority is its grammar.
+#[doc(hidden)]
+pub fn authority_test_is_the_grammar()
+    ensures { (users names : TableSet) (text : List ℕ) → KeepsApart users names → IsUtf8 text → (is_authority_for users names text ≡ true ↔ IsAuthorityFor users names text (authority_parts text)) }
 {}

@@ -6,9 +6,15 @@ pub mod component;
 pub mod core_text;
 pub mod error;
 #[doc(hidden)]
+pub mod fault;
+#[doc(hidden)]
 pub mod grammar;
 #[doc(hidden)]
+pub mod host_places;
+#[doc(hidden)]
 pub mod laws;
+#[doc(hidden)]
+pub mod literal;
 pub mod net;
 #[doc(hidden)]
 pub mod parse;
@@ -18,3 +24,5 @@ pub mod positions;
 pub mod reader;
 #[doc(hidden)]
 pub mod rules;
+#[doc(hidden)]
+pub mod slicing;

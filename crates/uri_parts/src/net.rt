@@ -1,6 +1,7 @@
 //! IP addresses (RFC 3986, section 3.2.2), and their canonical texts (RFC 5952).
-ghost use Rattle.std.specs.Prelude.{◌≡◌, [], ◌∷◌, Some};
+ghost use Rattle.std.specs.Prelude.{◌≡◌, [], ◌∷◌, Some, option_map};
 ghost use Rattle.std.specs.Net.Text.{ipv4_text, ipv6_text};
+ghost use Rattle.uri_parts.specs.Hosts.{ipv4_value, ipv6_value};
 
 use std::{fmt, net};
 
@@ -26,6 +27,18 @@ impl Ipv4Addr {
         ensures { result ≡ ipv4_octets self.now }
     {
         self.0.octets()
+    }
+
+    /// The address that the whole text writes, or `None` if it writes none.
+    #[doc(hidden)]
+    #[tactic(auto, using(crate::proofs::Parsed::ipv4_parsed))]
+    pub fn read(text: &str) -> Option<Self>
+        ensures { option_map ipv4_octets result ≡ ipv4_value text.now }
+    {
+        match net::Ipv4Addr::parse_ascii(text.as_bytes()) {
+            Ok(address) => Some(Ipv4Addr(address)),
+            Err(_) => None,
+        }
     }
 }
 
@@ -64,6 +77,18 @@ impl Ipv6Addr {
     {
         self.0.segments()
     }
+
+    /// The address that the whole text writes, or `None` if it writes none.
+    #[doc(hidden)]
+    #[tactic(auto, using(crate::proofs::Parsed::ipv6_parsed))]
+    pub fn read(text: &str) -> Option<Self>
+        ensures { option_map ipv6_segments result ≡ ipv6_value text.now }
+    {
+        match net::Ipv6Addr::parse_ascii(text.as_bytes()) {
+            Ok(address) => Some(Ipv6Addr(address)),
+            Err(_) => None,
+        }
+    }
 }
 
 impl fmt::Display for Ipv6Addr {
@@ -72,7 +97,8 @@ impl fmt::Display for Ipv6Addr {
     ghost output = { λ a. Some (ipv6_text (ipv6_segments a)) };
 
     fn fmt<W: fmt::Write>(&self, f: &mut fmt::Formatter<W>) -> fmt::Result {
-        fmt::Display::fmt(&self.0, f)
+        let Ipv6Addr(address) = self;
+        fmt::Display::fmt(address, f)
     }
 }
 

@@ -1,18 +1,20 @@
 //! The parser of the four kinds.
-ghost use Rattle.std.specs.Prelude.{◌≡◌, ◌↔◌, ◌+◌, IfErr, IfOk, IsOk, OnOk, is_ok, Some, None};
+ghost use Rattle.std.specs.Prelude.{◌≡◌, ◌↔◌, ◌+◌, drop, IfErr, IfOk, IsOk, OnOk, is_ok, Some, None};
 ghost use Rattle.uri_pct.specs.Tables.{set_of};
 ghost use Rattle.uri_parts.specs.Errors.{IsErrorIn};
 ghost use Rattle.uri_parts.specs.Grammar.{IsOfKind, uri, uri_ref, iri, iri_ref};
 ghost use Rattle.uri_parts.specs.Grammars.{kind_of};
 ghost use Rattle.uri_parts.specs.Positions.{AreAt};
 ghost use Rattle.uri_parts.specs.Readers.{rest_of, text_of, place_of};
-ghost use Rattle.uri_parts.specs.Reading.{reads_fragment, reads_end, reads_path, reads_rooted, reads_authority, reads_relative, reads_hier, reads_schemeless, reads, query_end_at, path_positions, authority_positions, relative_positions, hier_positions, schemeless_positions, read_positions};
+ghost use Rattle.uri_parts.specs.Reading.{reads_fragment, reads_end, reads_path, finds_authority, found_length, found_authority, reads_authority, reads_relative, reads_hier, reads_schemeless, reads, query_end_at, path_positions, authority_positions, relative_positions, hier_positions, schemeless_positions, read_positions};
 
 use crate::error::ParseError;
+use crate::fault::authority_fault;
 use crate::grammar::{Grammar, iri_grammar, uri_grammar};
+use crate::host_places::find_host;
 use crate::positions::{AuthorityPositions, Positions};
 use crate::reader::Reader;
-use uri_pct::table::SCHEME;
+use uri_pct::table::{DIGIT, SCHEME};
 
 /// A fragment if there is one, and then the end.
 #[tactic(auto, unfolding(crate::specs::Reading::reads_fragment))]
@@ -51,10 +53,11 @@ fn read_path(
     reader: &mut Reader<'_>,
     grammar: &Grammar,
     scheme_end: Option<usize>,
+    authority: Option<AuthorityPositions>,
     path_start: usize,
 ) -> Result<Positions, ParseError>
     ensures accepts { is_ok result ≡ reads_path (kind_of grammar.now) (rest_of reader.old) }
-    ensures places { IfOk result (λ p. p ≡ path_positions (kind_of grammar.now) scheme_end None path_start (place_of reader.old) (rest_of reader.old)) }
+    ensures places { IfOk result (λ p. p ≡ path_positions (kind_of grammar.now) scheme_end authority path_start (place_of reader.old) (rest_of reader.old)) }
     ensures err { IfErr result (IsErrorIn (text_of reader.old)) }
 {
     reader.pass(&grammar.path)?;
@@ -62,41 +65,62 @@ fn read_path(
     let query_end = read_end(reader, grammar)?;
     Ok(Positions {
         scheme_end,
-        authority: None,
+        authority,
         path_start,
         path_end,
         query_end,
     })
 }
 
-/// A path behind an authority, which is empty or begins with `/`, and what follows it.
-#[tactic(auto, unfolding(crate::specs::Reading::reads_rooted, crate::specs::Reading::path_positions))]
-fn read_rooted(
+/// An authority: where it lies, and its host.
+#[tactic(auto, using(uri_pct::proofs::Constants::digit_table, crate::proofs::AuthorityCuts::behind_port), unfolding(crate::specs::Reading::finds_authority, crate::specs::Reading::is_plain_name, crate::specs::Reading::is_name_and_port, crate::specs::Reading::found_length, crate::specs::Reading::found_authority))]
+fn find_authority(
     reader: &mut Reader<'_>,
     grammar: &Grammar,
-    scheme_end: Option<usize>,
-    authority: AuthorityPositions,
-) -> Result<Positions, ParseError>
-    ensures accepts { is_ok result ≡ reads_rooted (kind_of grammar.now) (rest_of reader.old) }
-    ensures places { IfOk result (λ p. p ≡ path_positions (kind_of grammar.now) scheme_end (Some authority) (place_of reader.old) (place_of reader.old) (rest_of reader.old)) }
+) -> Result<AuthorityPositions, ParseError>
+    ensures accepts { is_ok result ≡ finds_authority (kind_of grammar.now) (rest_of reader.old) }
+    ensures found { IfOk result (λ a. a ≡ found_authority (kind_of grammar.now) (place_of reader.old) (rest_of reader.old)) }
+    ensures text { text_of reader.new ≡ text_of reader.old }
+    ensures place { OnOk result (place_of reader.new ≡ place_of reader.old + found_length (kind_of grammar.now) (rest_of reader.old)) }
+    ensures rest { OnOk result (rest_of reader.new ≡ drop (found_length (kind_of grammar.now) (rest_of reader.old)) (rest_of reader.old)) }
     ensures err { IfErr result (IsErrorIn (text_of reader.old)) }
 {
-    let path_start = reader.position();
-    let rootless = reader.unexpected();
-    let is_rooted = reader.sees(b'/');
-    reader.pass(&grammar.path)?;
-    let path_end = reader.position();
-    if !is_rooted && path_end != path_start {
-        return Err(rootless);
+    let start = reader.position();
+    let mut name = *reader;
+    name.read(&grammar.reg_name);
+    let host_end = name.position();
+    if name.ends_authority() {
+        *reader = name;
+        return Ok(AuthorityPositions {
+            start,
+            host_start: start,
+            host_end,
+            end: host_end,
+        });
     }
-    let query_end = read_end(reader, grammar)?;
-    Ok(Positions {
-        scheme_end,
-        authority: Some(authority),
-        path_start,
-        path_end,
-        query_end,
-    })
+    if name.skip(b':') {
+        name.read(&DIGIT);
+        if name.ends_authority() {
+            *reader = name;
+            return Ok(AuthorityPositions {
+                start,
+                host_start: start,
+                host_end,
+                end: name.position(),
+            });
+        }
+    }
+    let refused = *reader;
+    let authority = reader.pass_authority();
+    match find_host(grammar, authority) {
+        Some(host) => Ok(AuthorityPositions {
+            start,
+            host_start: start + host.start,
+            host_end: start + host.end,
+            end: reader.position(),
+        }),
+        None => Err(authority_fault(refused, grammar)),
+    }
 }
 
 /// An authority, and what follows it.
@@ -110,10 +134,9 @@ fn read_authority(
     ensures places { IfOk result (λ p. p ≡ authority_positions (kind_of grammar.now) scheme_end (place_of reader.old) (rest_of reader.old)) }
     ensures err { IfErr result (IsErrorIn (text_of reader.old)) }
 {
-    let start = reader.position();
-    reader.pass(&grammar.reg_name)?;
-    let end = reader.position();
-    read_rooted(reader, grammar, scheme_end, AuthorityPositions { start, end })
+    let authority = find_authority(reader, grammar)?;
+    let path_start = reader.position();
+    read_path(reader, grammar, scheme_end, Some(authority), path_start)
 }
 
 /// What follows a scheme.
@@ -131,7 +154,7 @@ fn read_hier(
         read_authority(reader, grammar, Some(scheme_end))
     } else {
         let path_start = reader.position();
-        read_path(reader, grammar, Some(scheme_end), path_start)
+        read_path(reader, grammar, Some(scheme_end), None, path_start)
     }
 }
 
@@ -147,7 +170,7 @@ fn read_relative(reader: &mut Reader<'_>, grammar: &Grammar) -> Result<Positions
     if reader.sees(b':') {
         return Err(reader.unexpected());
     }
-    read_path(reader, grammar, None, 0)
+    read_path(reader, grammar, None, None, 0)
 }
 
 /// A text that has no scheme, behind the characters that might have been one.

@@ -27,6 +27,10 @@ pub struct Positions {
 pub struct AuthorityPositions {
     /// Where it begins.
     pub start: usize,
+    /// Where its host begins.
+    pub host_start: usize,
+    /// Where its host ends.
+    pub host_end: usize,
     /// Where it ends.
     pub end: usize,
 }

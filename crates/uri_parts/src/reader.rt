@@ -1,25 +1,34 @@
 //! A place in a text.
-ghost use Rattle.std.specs.Prelude.{◌≡◌, ◌≤◌, ◌<◌, ◌+◌, ◌==◌, not, length, drop, OnOk, IfErr, is_ok, if◌then◌else◌};
+ghost use Rattle.std.specs.Prelude.{◌≡◌, ◌≤◌, ◌<◌, ◌+◌, ◌==◌, not, length, drop, codes, OnOk, IfErr, is_ok, if◌then◌else◌};
 ghost use Rattle.std.specs.Str.{IsCharBoundary};
 
 use crate::error::{ParseError, ParseErrorKind};
+use crate::slicing::cut_before;
+use std::alloc::AllocError;
 use uri_pct::table::Table;
 
 /// Reads a text from left to right.
 #[doc(hidden)]
-#[derive(Drop)]
 pub struct Reader<'a> {
     text: &'a str,
     position: usize,
     ghost boundary: { IsCharBoundary text.now position },
 }
 
+impl<'a> Clone for Reader<'a> {
+    fn clone(&self) -> Result<Self, AllocError> {
+        Ok(*self)
+    }
+}
+
+impl<'a> Copy for Reader<'a> {}
+
 impl<'a> Reader<'a> {
     ghost use Rattle.uri_pct.specs.Tables.{set_of};
     ghost use Rattle.uri_pct.specs.Fronts.{front, after};
-    ghost use Rattle.uri_parts.specs.Components.{starts, has_authority};
+    ghost use Rattle.uri_parts.specs.Components.{starts, has_authority, before_any};
     ghost use Rattle.uri_parts.specs.Errors.{IsErrorIn};
-    ghost use Rattle.uri_parts.specs.Reading.{is_end, is_stray};
+    ghost use Rattle.uri_parts.specs.Reading.{is_end, is_stray, begins_any};
     ghost use Rattle.uri_parts.specs.Readers.{rest_of, text_of, place_of};
 
     /// The text from its beginning.
@@ -31,11 +40,61 @@ impl<'a> Reader<'a> {
         Reader { text, position: 0 }
     }
 
+    /// The text from a place on.
+    pub fn at(text: &'a str, position: usize) -> Self
+        requires { IsCharBoundary text.now position }
+        ensures text { text_of result ≡ text.now }
+        ensures place { place_of result ≡ position }
+        ensures rest { rest_of result ≡ drop position text.now }
+    {
+        Reader { text, position }
+    }
+
+    /// The whole text, what was read of it too.
+    pub fn text(&self) -> &'a str
+        ensures { result.now ≡ text_of self.now }
+    {
+        self.text
+    }
+
     /// How many bytes were read.
     pub fn position(&self) -> usize
-        ensures { result ≡ place_of self.now }
+        ensures place { result ≡ place_of self.now }
+        ensures boundary { IsCharBoundary (text_of self.now) result }
     {
         self.position
+    }
+
+    /// Passes the longest front of the rest that the table allows.
+    pub fn read(&mut self, table: &Table)
+        ensures text { text_of self.new ≡ text_of self.old }
+        ensures place { place_of self.new ≡ place_of self.old + front (set_of table.now) (rest_of self.old) }
+        ensures rest { rest_of self.new ≡ after (set_of table.now) (rest_of self.old) }
+    {
+        self.position = table.read(self.text, self.position);
+    }
+
+    /// Whether one of `/?#` is next, or nothing is left: what may stand behind an authority.
+    #[tactic(auto, using(crate::proofs::Next::ends_at, crate::proofs::Next::goes_on_at))]
+    pub fn ends_authority(&self) -> bool
+        ensures { result ≡ begins_any (codes "/?#") (rest_of self.now) }
+    {
+        match self.text.as_bytes().get(self.position) {
+            Some(byte) => matches!(byte, b'/' | b'?' | b'#'),
+            None => true,
+        }
+    }
+
+    /// Passes what stands before the first of `/?#`, and answers it.
+    pub fn pass_authority(&mut self) -> &'a str
+        ensures value { result.now ≡ before_any (codes "/?#") (rest_of self.old) }
+        ensures text { text_of self.new ≡ text_of self.old }
+        ensures place { place_of self.new ≡ place_of self.old + length (before_any (codes "/?#") (rest_of self.old)) }
+        ensures rest { rest_of self.new ≡ drop (length (before_any (codes "/?#") (rest_of self.old))) (rest_of self.old) }
+    {
+        let (authority, _) = cut_before(&self.text[self.position..], b"/?#");
+        self.position += authority.len();
+        authority
     }
 
     /// Passes the longest front of the rest that the table allows; a `%` behind it that begins no

@@ -15,6 +15,12 @@ pub struct EStr<'a, E: Encoder> {
 }
 
 impl<'a, E: Encoder> Clone for EStr<'a, E> {
+    ghost use Rattle.std.specs.Prelude.{⊤};
+
+    ghost is_clone = { λ e copy. copy ≡ e };
+
+    ghost is_infallible = { λ _. ⊤ };
+
     fn clone(&self) -> Result<Self, AllocError> {
         Ok(*self)
     }
@@ -52,6 +58,7 @@ impl<'a, E: Encoder> EStr<'a, E> {
         EStr::new_unchecked(text)
     }
 
+    /// The text as it stands, with no test.
     #[doc(hidden)]
     pub fn new_unchecked(text: &'a str) -> Self
         requires { IsValidFor E.set text.now }

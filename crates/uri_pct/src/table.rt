@@ -5,10 +5,9 @@ ghost use Rattle.std.specs.List.{list_all};
 ghost use Rattle.uri_pct.specs.Masks.{is_plain_ascii};
 ghost use Rattle.uri_pct.specs.Sets.{allows, allows_past_ascii, is_ucschar, is_iprivate, is_one_of, plain, union, difference, IsSubset};
 
-use std::alloc::AllocError;
-
 /// A set of ASCII characters other than `%`, and three flags: whether percent-encoded octets,
 /// the characters of `ucschar` and those of `iprivate` (RFC 3987, section 2.2) may stand beside them.
+#[derive(Clone, Copy, Debug)]
 pub struct Table {
     low: u64,
     high: u64,
@@ -17,14 +16,6 @@ pub struct Table {
     iprivate: bool,
     pub ghost lacks_percent: { (bit_at low 37 == 1) ≡ false },
 }
-
-impl Clone for Table {
-    fn clone(&self) -> Result<Self, AllocError> {
-        Ok(*self)
-    }
-}
-
-impl Copy for Table {}
 
 impl Table {
     ghost use Rattle.uri_pct.specs.Tables.{set_of, empty_set};

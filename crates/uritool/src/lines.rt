@@ -22,10 +22,10 @@ pub struct Texts<'a> {
 impl<'a> From<UriRef<&'a str>> for Texts<'a> {
     ghost use Rattle.std.specs.Prelude.{◌≡◌};
     ghost use Rattle.fluent_uri.specs.Components.{components};
-    ghost use Rattle.fluent_uri.specs.UriRefs.{text_of_uri_ref};
+    ghost use Rattle.fluent_uri.specs.UriRefs.{uri_ref_text};
     ghost use Rattle.uritool.specs.Texts.{components_in};
 
-    ghost from_gives = { λ reference texts. components_in texts ≡ components (text_of_uri_ref reference) };
+    ghost from_gives = { λ reference texts. components_in texts ≡ components (uri_ref_text reference) };
 
     fn from(reference: UriRef<&'a str>) -> Texts<'a> {
         Texts {

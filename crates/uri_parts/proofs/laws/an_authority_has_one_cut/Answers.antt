@@ -1,0 +1,5 @@
+use Rattle.uri_parts.proofs.Authority.{authority_parts-only}
+use Rattle.uri_parts.proofs.laws.an_authority_has_one_cut.Goals as goal
+
+pub returns : goal.returns
+returns c = λ users names text p apart u h. authority_parts-only users names apart text p u h
