@@ -1,3 +1,5 @@
+pub mod IriRefs
+pub mod Iris
 pub use Rattle.uri_pct.specs.EStrs
 pub use Rattle.uri_pct.specs.Fronts
 pub use Rattle.uri_pct.specs.Masks
@@ -8,5 +10,8 @@ pub use Rattle.uri_parts.specs.AuthorityTexts
 pub use Rattle.uri_parts.specs.Components
 pub use Rattle.uri_parts.specs.Errors
 pub use Rattle.uri_parts.specs.Grammar
+pub use Rattle.uri_parts.specs.Positions
 pub use Rattle.uri_parts.specs.Schemes
+pub use Rattle.uri_ascii.specs.Parses
 pub use Rattle.uri_ascii.specs.UriRefs
+pub use Rattle.uri_ascii.specs.Uris

@@ -1,12 +1,31 @@
-//! Generic URIs and their references (RFC 3986), read, taken apart and proved.
+//! Generic URIs (RFC 3986), IRIs (RFC 3987) and their references, read, taken apart and proved.
 #![tactic(auto)]
 
+mod iri;
+mod iri_ref;
+
+pub use iri::Iri;
+pub use iri_ref::IriRef;
+pub use uri_ascii::uri::Uri;
 pub use uri_ascii::uri_ref::UriRef;
+pub use uri_ops::traits::{RefOf, Ri, RiMaybeRef};
 pub use uri_parts::error::{ParseError, ParseErrorKind};
 
 /// The components of a reference that are more than percent-encoded texts.
 pub mod component {
-    pub use uri_parts::component::{Authority, Scheme};
+    pub use uri_parts::component::{Authority, Host, HostOf, Scheme};
+    use uri_pct::encoder::{IRegName, IUserinfo};
+
+    /// An authority of an IRI (RFC 3987, section 2.2).
+    pub type IAuthority<'a> = Authority<'a, IUserinfo, IRegName>;
+
+    /// A host of an IRI's authority.
+    pub type IHost<'a> = Host<'a, IRegName>;
+}
+
+/// IP addresses.
+pub mod net {
+    pub use uri_parts::net::{IpAddr, Ipv4Addr, Ipv6Addr};
 }
 
 /// Texts that are percent-encoded over an encoder's set.
@@ -17,15 +36,17 @@ pub mod pct_enc {
     /// The encoders: which characters and octets each component consists of.
     pub mod encoder {
         pub use uri_pct::encoder::{
-            Encoder, Fragment, Path, PathEncoder, Port, Query, RegName, Userinfo,
+            Encoder, Fragment, IFragment, IPath, IQuery, IRegName, IUserinfo, Path, PathEncoder,
+            Port, Query, RegName, Userinfo,
         };
     }
 
-    /// Sets of characters, and the rules of RFC 3986, appendix A.
+    /// Sets of characters, and the rules of RFC 3986, appendix A, and RFC 3987, section 2.2.
     pub mod table {
         pub use uri_pct::table::{
-            ALPHA, DIGIT, FRAGMENT, GEN_DELIMS, HEXDIG, IPV_FUTURE, PATH, PCHAR, QUERY, REG_NAME,
-            RESERVED, SCHEME, SEGMENT_NZ_NC, SUB_DELIMS, Table, UNRESERVED, USERINFO,
+            ALPHA, DIGIT, FRAGMENT, GEN_DELIMS, HEXDIG, IFRAGMENT, IPATH, IPV_FUTURE, IQUERY,
+            IREG_NAME, ISEGMENT_NZ_NC, IUSERINFO, PATH, PCHAR, QUERY, REG_NAME, RESERVED, SCHEME,
+            SEGMENT_NZ_NC, SUB_DELIMS, Table, UNRESERVED, USERINFO,
         };
     }
 }

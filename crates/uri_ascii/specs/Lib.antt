@@ -1,1 +1,3 @@
+pub mod Parses
 pub mod UriRefs
+pub mod Uris

@@ -1,4 +1,5 @@
-//! URI references.
+//! URIs and URI references.
 #![tactic(auto)]
 
+pub mod uri;
 pub mod uri_ref;

@@ -1,23 +1,29 @@
 //! URI references (RFC 3986, section 4.1).
-ghost use Rattle.std.specs.Prelude.{◌≡◌, ◌↔◌, IsOk, IfOk, IfErr, is_some, option_map};
+ghost use Rattle.std.specs.Prelude.{◌≡◌, ◌↔◌, IsOk, IfOk, IfErr, Some, is_some, option_map, string_bytes};
 ghost use Rattle.uri_parts.specs.Components.{components};
 ghost use Rattle.uri_parts.specs.Errors.{IsErrorIn};
 ghost use Rattle.uri_parts.specs.Grammar.{IsOfKind, uri_ref};
 ghost use Rattle.uri_parts.specs.Positions.{AreAt};
 
-use std::alloc::AllocError;
+use crate::uri::Uri;
+use std::alloc::{AllocError, Global};
+use std::cmp::Ordering;
 use std::convert::{AsStr, TryFrom};
+use std::fmt;
+use std::hash::{Hash, Hasher};
+use uri_ops::traits::{self, RefOf, RiMaybeRef};
 use uri_parts::component::{Authority, Scheme};
 use uri_parts::core_text::CoreText;
 use uri_parts::error::ParseError;
+use uri_parts::parse;
 use uri_parts::positions::Positions;
-use uri_parts::rules::{Rules, UriRefRules};
-use uri_pct::encoder::{Fragment, Path, Query};
+use uri_parts::rules::UriRefRules;
+use uri_pct::encoder::{Fragment, Path, Query, RegName, Userinfo};
 use uri_pct::pct_enc::EStr;
 
 /// A URI reference: a URI, or a reference that is relative to one (RFC 3986, section 4.1).
 ///
-/// A value holds a text of that grammar, over `&str`.
+/// A value holds a text of that grammar, over `&str` or over `String`.
 ///
 /// # Examples
 ///
@@ -40,6 +46,96 @@ impl<T: AsStr + Copy> Clone for UriRef<T> {
 
 impl<T: AsStr + Copy> Copy for UriRef<T> {}
 
+impl<T: AsStr> RiMaybeRef for UriRef<T> {
+    ghost use Rattle.std.specs.Prelude.{refl};
+    ghost use Rattle.uri_ascii.specs.UriRefs.{uri_ref_text};
+
+    type Owned = UriRef<String>;
+
+    type UserinfoE = Userinfo;
+
+    type RegNameE = RegName;
+
+    type PathE = Path;
+
+    type QueryE = Query;
+
+    type FragmentE = Fragment;
+
+    type Rules = UriRefRules;
+
+    ghost kind = { uri_ref };
+
+    ghost text = { uri_ref_text };
+
+    ghost owned_text = { uri_ref_text };
+
+    fn as_str(&self) -> &str {
+        self.core().as_str()
+    }
+
+    fn core(&self) -> CoreText<'_, UriRefRules> {
+        CoreText::new(self.text.as_str(), self.positions)
+    }
+
+    fn make_owned(owned: String, positions: Positions) -> UriRef<String> {
+        UriRef {
+            text: owned,
+            positions,
+        }
+    }
+
+    ghost rules_of_kind = { refl };
+
+    ghost userinfo_set = { refl };
+
+    ghost reg_name_set = { refl };
+
+    ghost path_set = { refl };
+
+    ghost query_set = { refl };
+
+    ghost fragment_set = { refl };
+}
+
+impl<T: AsStr, B: AsStr> RefOf<Uri<B>> for UriRef<T> {
+    ghost use Rattle.std.specs.Prelude.{refl};
+
+    ghost same_tables = { refl };
+}
+
+impl<T: AsStr> UriRef<T> {
+    ghost use Rattle.uri_ascii.specs.UriRefs.{uri_ref_text};
+
+    /// Whether there is a scheme.
+    pub fn has_scheme(&self) -> bool
+        ensures { result ≡ is_some (components (uri_ref_text self.now)).scheme }
+    {
+        self.core().has_scheme()
+    }
+
+    /// Whether there is an authority.
+    pub fn has_authority(&self) -> bool
+        ensures { result ≡ is_some (components (uri_ref_text self.now)).authority }
+    {
+        self.core().has_authority()
+    }
+
+    /// Whether there is a query.
+    pub fn has_query(&self) -> bool
+        ensures { result ≡ is_some (components (uri_ref_text self.now)).query }
+    {
+        self.core().has_query()
+    }
+
+    /// Whether there is a fragment.
+    pub fn has_fragment(&self) -> bool
+        ensures { result ≡ is_some (components (uri_ref_text self.now)).fragment }
+    {
+        self.core().has_fragment()
+    }
+}
+
 impl<'a> UriRef<&'a str> {
     ghost use Rattle.uri_pct.specs.EStrs.{text_of};
     ghost use Rattle.uri_parts.specs.AuthorityTexts.{authority_text};
@@ -55,14 +151,14 @@ impl<'a> UriRef<&'a str> {
     /// wrong, and where, as a byte offset on a character boundary.
     pub fn parse(text: &'a str) -> Result<UriRef<&'a str>, ParseError>
         ensures accepts { IsOk result ↔ IsOfKind uri_ref text.now }
-        ensures text { IfOk result (λ r. uri_ref_text r ≡ text.now) }
+        ensures text { IfOk result (λ value. uri_ref_text value ≡ text.now) }
         ensures err { IfErr result (IsErrorIn text.now) }
     {
-        let positions = UriRefRules::parse(text)?;
+        let positions = parse::parse_uri_ref(text)?;
         Ok(UriRef { text, positions })
     }
 
-    fn core(self) -> CoreText<'a, UriRefRules>
+    fn parts(self) -> CoreText<'a, UriRefRules>
         ensures { core_text result ≡ uri_ref_text self.entry }
     {
         CoreText::new(self.text, self.positions)
@@ -72,82 +168,283 @@ impl<'a> UriRef<&'a str> {
     pub fn as_str(self) -> &'a str
         ensures { result.now ≡ uri_ref_text self.entry }
     {
-        self.text
+        self.parts().as_str()
     }
 
     /// The scheme without its `:`, if there is one (RFC 3986, section 3.1).
     pub fn scheme(self) -> Option<Scheme<'a>>
         ensures { option_map scheme_text result ≡ (components (uri_ref_text self.entry)).scheme }
     {
-        self.core().scheme()
+        self.parts().scheme()
     }
 
     /// The authority without its `//`, if there is one (RFC 3986, section 3.2).
     pub fn authority(self) -> Option<Authority<'a>>
         ensures { option_map authority_text result ≡ (components (uri_ref_text self.entry)).authority }
     {
-        self.core().authority()
+        self.parts().authority()
     }
 
     /// The path, which may be empty (RFC 3986, section 3.3).
     pub fn path(self) -> EStr<'a, Path>
         ensures { text_of result ≡ (components (uri_ref_text self.entry)).path }
     {
-        self.core().path()
+        self.parts().path()
     }
 
     /// The query without its `?`, if there is one (RFC 3986, section 3.4).
     pub fn query(self) -> Option<EStr<'a, Query>>
         ensures { option_map text_of result ≡ (components (uri_ref_text self.entry)).query }
     {
-        self.core().query()
+        self.parts().query()
     }
 
     /// The fragment without its `#`, if there is one (RFC 3986, section 3.5).
     pub fn fragment(self) -> Option<EStr<'a, Fragment>>
         ensures { option_map text_of result ≡ (components (uri_ref_text self.entry)).fragment }
     {
-        self.core().fragment()
+        self.parts().fragment()
     }
 
-    /// Whether there is a scheme.
-    pub fn has_scheme(self) -> bool
-        ensures { result ≡ is_some (components (uri_ref_text self.entry)).scheme }
+    /// The same URI reference over a copy of the text.
+    ///
+    /// # Errors
+    ///
+    /// Only if memory is refused.
+    pub fn to_owned(self, alloc: Global) -> Result<UriRef<String>, AllocError>
+        ensures { IfOk result (λ owned. uri_ref_text owned ≡ uri_ref_text self.entry) }
     {
-        self.core().has_scheme()
+        traits::copied(alloc, &self)
+    }
+}
+
+impl UriRef<String> {
+    ghost use Rattle.uri_pct.specs.EStrs.{text_of};
+    ghost use Rattle.uri_parts.specs.AuthorityTexts.{authority_text};
+    ghost use Rattle.uri_parts.specs.Schemes.{scheme_text};
+    ghost use Rattle.uri_ascii.specs.UriRefs.{uri_ref_text};
+
+    /// Reads a text as a URI reference, once and from left to right, and takes no memory.
+    ///
+    /// # Errors
+    ///
+    /// Exactly if the text is no URI reference (RFC 3986, section 4.1). The error names what is
+    /// wrong, and where, as a byte offset on a character boundary; the text comes back beside it.
+    pub fn parse(text: String) -> Result<UriRef<String>, (ParseError, String)>
+        ensures accepts { IsOk result ↔ IsOfKind uri_ref (string_bytes text) }
+        ensures text { IfOk result (λ value. uri_ref_text value ≡ string_bytes text) }
+        ensures err { IfErr result (λ refused. IsErrorIn (string_bytes text) refused.0) }
+        ensures back { IfErr result (λ refused. string_bytes refused.1 ≡ string_bytes text) }
+    {
+        match parse::parse_uri_ref(text.as_str()) {
+            Ok(positions) => Ok(UriRef { text, positions }),
+            Err(error) => Err((error, text)),
+        }
     }
 
-    /// Whether there is an authority.
-    pub fn has_authority(self) -> bool
-        ensures { result ≡ is_some (components (uri_ref_text self.entry)).authority }
+    /// The same URI reference over the text, which is borrowed.
+    pub fn borrow(&self) -> UriRef<&str>
+        ensures { uri_ref_text result ≡ uri_ref_text self.now }
     {
-        self.core().has_authority()
+        UriRef {
+            text: self.text.as_str(),
+            positions: self.positions,
+        }
     }
 
-    /// Whether there is a query.
-    pub fn has_query(self) -> bool
-        ensures { result ≡ is_some (components (uri_ref_text self.entry)).query }
+    /// The text as it stands, with its memory.
+    pub fn into_string(self) -> String
+        ensures { string_bytes result ≡ uri_ref_text self }
     {
-        self.core().has_query()
+        self.into()
     }
 
-    /// Whether there is a fragment.
-    pub fn has_fragment(self) -> bool
-        ensures { result ≡ is_some (components (uri_ref_text self.entry)).fragment }
+    /// The text as it stands.
+    pub fn as_str(&self) -> &str
+        ensures { result.now ≡ uri_ref_text self.now }
     {
-        self.core().has_fragment()
+        self.borrow().as_str()
+    }
+
+    /// The scheme without its `:`, if there is one (RFC 3986, section 3.1).
+    pub fn scheme(&self) -> Option<Scheme<'_>>
+        ensures { option_map scheme_text result ≡ (components (uri_ref_text self.now)).scheme }
+    {
+        self.borrow().scheme()
+    }
+
+    /// The authority without its `//`, if there is one (RFC 3986, section 3.2).
+    pub fn authority(&self) -> Option<Authority<'_>>
+        ensures { option_map authority_text result ≡ (components (uri_ref_text self.now)).authority }
+    {
+        self.borrow().authority()
+    }
+
+    /// The path, which may be empty (RFC 3986, section 3.3).
+    pub fn path(&self) -> EStr<'_, Path>
+        ensures { text_of result ≡ (components (uri_ref_text self.now)).path }
+    {
+        self.borrow().path()
+    }
+
+    /// The query without its `?`, if there is one (RFC 3986, section 3.4).
+    pub fn query(&self) -> Option<EStr<'_, Query>>
+        ensures { option_map text_of result ≡ (components (uri_ref_text self.now)).query }
+    {
+        self.borrow().query()
+    }
+
+    /// The fragment without its `#`, if there is one (RFC 3986, section 3.5).
+    pub fn fragment(&self) -> Option<EStr<'_, Fragment>>
+        ensures { option_map text_of result ≡ (components (uri_ref_text self.now)).fragment }
+    {
+        self.borrow().fragment()
     }
 }
 
 impl<'a> TryFrom<&'a str> for UriRef<&'a str> {
     type Error = ParseError;
 
-    ghost use Rattle.uri_ascii.specs.UriRefs.{ParsesUriRef};
+    ghost use Rattle.uri_ascii.specs.Parses.{Parses};
+    ghost use Rattle.uri_ascii.specs.UriRefs.{uri_ref_text};
 
-    ghost try_from_gives = { λ text result. ParsesUriRef text.now result };
+    ghost try_from_gives = { λ text result. Parses uri_ref uri_ref_text text.now result };
 
     /// The same as `parse`.
     fn try_from(text: &'a str) -> Result<Self, ParseError> {
         UriRef::<&'a str>::parse(text)
+    }
+}
+
+impl TryFrom<String> for UriRef<String> {
+    type Error = (ParseError, String);
+
+    ghost use Rattle.uri_ascii.specs.Parses.{ParsesOwned};
+    ghost use Rattle.uri_ascii.specs.UriRefs.{uri_ref_text};
+
+    ghost try_from_gives = { λ text result. ParsesOwned uri_ref uri_ref_text (string_bytes text) result };
+
+    /// The same as `parse`.
+    fn try_from(text: String) -> Result<Self, (ParseError, String)> {
+        UriRef::<String>::parse(text)
+    }
+}
+
+impl From<UriRef<String>> for String {
+    ghost use Rattle.uri_ascii.specs.UriRefs.{uri_ref_text};
+
+    ghost from_gives = { λ value text. string_bytes text ≡ uri_ref_text value };
+
+    /// The same as `into_string`.
+    fn from(value: UriRef<String>) -> String {
+        value.text
+    }
+}
+
+#[tactic(auto, using(uri_parts::proofs::KindLemmas::empty_is_uri_ref))]
+impl<'a> Default for UriRef<&'a str> {
+    ghost use Rattle.std.specs.Prelude.{[]};
+    ghost use Rattle.uri_ascii.specs.UriRefs.{uri_ref_text};
+
+    ghost is_default = { λ value. uri_ref_text value ≡ [] };
+
+    /// The empty text, a reference to the base itself (RFC 3986, section 4.4).
+    fn default() -> Self {
+        UriRef {
+            text: "",
+            positions: Positions {
+                scheme_end: None,
+                authority: None,
+                path_start: 0,
+                path_end: 0,
+                query_end: None,
+            },
+        }
+    }
+}
+
+impl<T: AsStr> fmt::Display for UriRef<T> {
+    ghost use Rattle.uri_ascii.specs.UriRefs.{uri_ref_text};
+
+    ghost output = { λ value. Some (uri_ref_text value) };
+
+    fn fmt<W: fmt::Write>(&self, f: &mut fmt::Formatter<W>) -> fmt::Result {
+        f.write_str(self.text.as_str())
+    }
+}
+
+impl<T: AsStr> PartialEq for UriRef<T> {
+    ghost use Rattle.std.proofs.Common.{rules};
+    ghost use Rattle.std.specs.Prelude.{◌==◌};
+    ghost use Rattle.std.specs.Cmp.Rules.{comparing};
+    ghost use Rattle.std.specs.Ordering.{on};
+    ghost use Rattle.std.specs.Cmp.Lexicographic.{pointwise};
+    ghost use Rattle.uri_ascii.specs.UriRefs.{uri_ref_text};
+
+    ghost eq = { on uri_ref_text (pointwise ◌==◌) };
+
+    ghost laws = { Prim.search (comparing, rules) };
+
+    fn eq(&self, other: &Self) -> bool {
+        self.text.as_str() == other.text.as_str()
+    }
+}
+
+impl<T: AsStr> Eq for UriRef<T> {
+    ghost use Rattle.std.proofs.Common.{rules};
+    ghost use Rattle.std.specs.Cmp.Rules.{comparing};
+
+    ghost laws = { Prim.search (comparing, rules) };
+}
+
+impl<T: AsStr> Ord for UriRef<T> {
+    ghost use Rattle.std.proofs.Common.{rules};
+    ghost use Rattle.std.specs.Cmp.Rules.{comparing};
+    ghost use Rattle.std.specs.Ordering.{on, nat_cmp};
+    ghost use Rattle.std.specs.Cmp.Lexicographic.{slice_cmp};
+    ghost use Rattle.uri_ascii.specs.UriRefs.{uri_ref_text};
+
+    ghost cmp = { on uri_ref_text (slice_cmp nat_cmp) };
+
+    ghost total = { Prim.search (comparing, rules) };
+
+    ghost matches_partial_cmp = { Prim.search (comparing, rules) };
+
+    ghost matches_eq = { Prim.search (comparing, rules) };
+
+    fn cmp(&self, other: &Self) -> Ordering {
+        self.text.as_str().cmp(other.text.as_str())
+    }
+}
+
+impl<T: AsStr> PartialOrd for UriRef<T> {
+    ghost use Rattle.std.proofs.Common.{rules};
+    ghost use Rattle.std.specs.Cmp.Rules.{comparing};
+    ghost use Rattle.std.specs.Cmp.{partial_order_from_own_ties};
+    ghost use Rattle.std.specs.Ordering.{on, nat_cmp, as_partial_cmp};
+    ghost use Rattle.std.specs.Cmp.Lexicographic.{slice_cmp};
+    ghost use Rattle.uri_ascii.specs.UriRefs.{uri_ref_text};
+
+    ghost partial_cmp = { as_partial_cmp (on uri_ref_text (slice_cmp nat_cmp)) };
+
+    ghost laws = { partial_order_from_own_ties (Prim.search (comparing, rules)) (Prim.search (comparing, rules)) };
+
+    fn partial_cmp(&self, other: &Self) -> Option<Ordering> {
+        Some(self.cmp(other))
+    }
+}
+
+impl<T: AsStr> Hash for UriRef<T> {
+    ghost use Rattle.std.proofs.Common.{rules};
+    ghost use Rattle.std.specs.Hash as fed;
+    ghost use Rattle.std.specs.Cmp.Rules.{comparing, hashing};
+    ghost use Rattle.uri_ascii.specs.UriRefs.{uri_ref_text};
+
+    ghost hash_input = { λ value. fed.str (uri_ref_text value) };
+
+    ghost respects_eq = { Prim.search (hashing, rules) };
+
+    fn hash<H: Hasher>(&self, state: &mut H) {
+        self.text.as_str().hash(state);
     }
 }

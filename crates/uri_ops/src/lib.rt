@@ -7,5 +7,6 @@ pub mod across;
 pub mod canonical;
 #[doc(hidden)]
 pub mod laws;
+pub mod traits;
 #[doc(hidden)]
 pub mod swap;

@@ -92,8 +92,8 @@ module _ (segment : TableSet) (kind : Kind) (w : Separates segment kind) where
   unfolding reads_fragment fragment_ok is_end
   fragment_back bs u =
       from_mark (codes "#") (λ r. IsUtf8 r → reads_fragment kind r ≡ fragment_ok r) (λ _. refl)
-        (λ b rest e. fragment_at b rest (flip b 35 (sym (hash b) ∙ e)))
-        bs (utf8_from (codes "#") bs (ascii_marks (codes "#") refl) u)
+      (λ b rest e. fragment_at b rest (flip b 35 (sym (hash b) ∙ e)))
+      bs (utf8_from (codes "#") bs (ascii_marks (codes "#") refl) u)
 
   query_piece : (rest : List ℕ) → IsUtf8 rest → reads_after kind.query (reads_fragment kind) rest ≡ (is_valid_for kind.query (before_any (codes "#") rest) && fragment_ok (from_any (codes "#") rest))
   query_piece rest u =
@@ -111,7 +111,7 @@ module _ (segment : TableSet) (kind : Kind) (w : Separates segment kind) where
   unfolding reads_end end_ok reads_fragment fragment_ok is_end
   end_back bs u =
       from_mark (codes "?#") (λ r. IsUtf8 r → reads_end kind r ≡ end_ok r) (λ _. refl) (λ b rest e. end_at b rest e)
-        bs (utf8_from (codes "?#") bs (ascii_marks (codes "?#") refl) u)
+      bs (utf8_from (codes "?#") bs (ascii_marks (codes "?#") refl) u)
 
   pub end_stuck : (b : ℕ) (rest : List ℕ) → is_one_of (codes "?#") b ≡ false → reads_end kind (b ∷ rest) ≡ false
   unfolding reads_end

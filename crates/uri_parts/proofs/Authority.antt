@@ -90,7 +90,7 @@ host_cut host tail (inr lacks) begins =
     let cut = cut-append (codes ":") host tail (lacks_fewer (codes ":") (codes "@:[") (λ c e. grind (arith, nat_tests)) host lacks) begins in
     (cond-false _ _ _ s ∙ cut.0, cond-false _ _ _ s ∙ cut.1)
 
-literal_outside : (excludes ipv_future_set (codes "]") ≡ true) × (excludes ipv_future_set (codes "@") ≡ true)
+pub literal_outside : (excludes ipv_future_set (codes "]") ≡ true) × (excludes ipv_future_set (codes "@") ≡ true)
 unfolding is_userinfo_char is_reg_name_char is_unreserved is_sub_delim
 literal_outside = (refl, refl)
 

@@ -69,7 +69,7 @@ lacks_starts marks (d ∷ text) c m h = ⊎_elim
     (λ e. e)
     (cases_Bool (eqb d c))
 
-literal_sound : (names : TableSet) (text address : List ℕ) → text ≡ bracketed address → (is_some (ipv6_value address) || is_ipv_future address) ≡ true → IsHost names text (literal_kind (ipv6_value address))
+pub literal_sound : (names : TableSet) (text address : List ℕ) → text ≡ bracketed address → (is_some (ipv6_value address) || is_ipv_future address) ≡ true → IsHost names text (literal_kind (ipv6_value address))
 literal_sound names text address e t = ⊎_elim
     (λ n. subst (λ o. IsHost names text (literal_kind o)) (sym n) (address, e, is_ipv_future-sound address (subst (λ o. (is_some o || is_ipv_future address) ≡ true) n t)))
     (λ (segments, s). subst (λ o. IsHost names text (literal_kind o)) (sym s) (address, e, ipv6_value-sound address segments s))

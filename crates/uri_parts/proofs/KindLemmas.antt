@@ -1,17 +1,14 @@
 -- The kinds keep apart what has to be apart, and their tables stand for their sets.
-use Rattle.std.proofs.Common.{◌≡◌, ℕ, Bool, true, false, eqb, refl, sym, ap, ◌∙◌, arith, ◌||◌, ◌&&◌, not, ⊎_elim, List}
-use Rattle.std.specs.Prelude.{codes, nat_lt}
-use Rattle.std.specs.Str.{IsUtf8}
-use Rattle.std.proofs.lemmas.Bool.{cases_Bool, cases_lt, cond-true, cond-false, lt-ltb, le-ltb, or_from}
+use Rattle.std.proofs.Common.{◌≡◌, ℕ, Bool, true, false, eqb, refl, sym, ap, ◌∙◌, arith, ◌||◌, ◌&&◌, not, ⊎_elim, List, []}
+use Rattle.std.specs.Prelude.{codes, is_some}
+use Rattle.std.specs.Str.{chars}
+use Rattle.std.proofs.lemmas.Bool.{cases_Bool, cases_lt, cond-true, cond-false, lt-ltb, le-ltb, and_parts, and_from}
 use Rattle.std.proofs.lemmas.Bool.Decides.{nat_tests}
-use Rattle.uri_pct.specs.Sets.{TableSet, IsSubset, is_one_of, is_scheme_char, is_segment_nz_nc_char, is_path_char, is_query_char, is_pchar, is_reg_name_char, is_unreserved, is_sub_delim, scheme_set, segment_nz_nc_set, path_set, userinfo_set, reg_name_set, query_set, fragment_set, allows_past_ascii}
+use Rattle.uri_pct.specs.Sets.{TableSet, IsSubset, is_one_of, is_scheme_char, is_segment_nz_nc_char, is_path_char, is_query_char, is_pchar, is_reg_name_char, is_unreserved, is_sub_delim, scheme_set, segment_nz_nc_set, isegment_nz_nc_set, path_set, userinfo_set, reg_name_set, query_set, fragment_set, allows_past_ascii}
+use Rattle.uri_pct.specs.Tokens.{is_valid_for, tokens_of}
 use Rattle.uri_pct.specs.Fronts.{allows_first, first_char}
-use Rattle.uri_parts.specs.Grammar.{Kind, uri_ref, is_of_kind}
+use Rattle.uri_parts.specs.Grammar.{Kind, uri, uri_ref, iri, iri_ref, IsOfKind}
 use Rattle.uri_parts.specs.Components.{components}
-use Rattle.uri_parts.specs.Positions.{positions_of}
-use Rattle.uri_parts.specs.Reading.{reads, read_positions}
-use Rattle.uri_parts.proofs.Texts.{reads_of_kind}
-use Rattle.uri_parts.proofs.ReadPositions.{positions_read}
 use Rattle.uri_parts.proofs.Separations.{Separates}
 
 scheme_in_segment : (c : ℕ) → is_scheme_char c ≡ true → is_segment_nz_nc_char c ≡ true
@@ -26,16 +23,33 @@ path_in_segment : (c : ℕ) → is_one_of (codes ":/") c ≡ false → is_segmen
 unfolding is_segment_nz_nc_char is_path_char is_pchar
 path_in_segment c m e = grind (arith, nat_tests)
 
-first_rest : (b : ℕ) (bs : List ℕ) → is_one_of (codes ":/") b ≡ false → allows_first segment_nz_nc_set b bs ≡ false → allows_first path_set b bs ≡ false
+-- the sets of the four kinds differ in flags alone
+abbrev international : Bool → TableSet → TableSet
+international ucschar set = record set { ucschar = ucschar }
+
+abbrev segment_with : Bool → TableSet
+segment_with ucschar = international ucschar segment_nz_nc_set
+
+abbrev kind_with : (ucschar iprivate needs_scheme : Bool) → Kind
+kind_with ucschar iprivate needs_scheme = record {
+  userinfo = international ucschar userinfo_set;
+  reg_name = international ucschar reg_name_set;
+  path = international ucschar path_set;
+  query = record query_set { ucschar = ucschar; iprivate = iprivate };
+  fragment = international ucschar fragment_set;
+  needs_scheme = needs_scheme;
+}
+
+first_rest : (ucschar : Bool) (b : ℕ) (bs : List ℕ) → is_one_of (codes ":/") b ≡ false → allows_first (segment_with ucschar) b bs ≡ false → allows_first (international ucschar path_set) b bs ≡ false
 unfolding allows_first allows_past_ascii
-first_rest b bs m e = ⊎_elim
+first_rest ucschar b bs m e = ⊎_elim
     (λ h. let l = lt-ltb b 128 h in cond-true _ _ _ l ∙ path_in_segment b m (sym (cond-true _ _ _ l) ∙ e))
-    (λ h. let l = le-ltb b 128 h in cond-false _ _ _ l)
+    (λ h. let l = le-ltb b 128 h in cond-false _ _ _ l ∙ (sym (cond-false _ _ _ l) ∙ e))
     (cases_lt b 128)
 
-pub uri_ref_separates : Separates segment_nz_nc_set uri_ref
+separates : (ucschar iprivate needs_scheme : Bool) → Separates (segment_with ucschar) (kind_with ucschar iprivate needs_scheme)
 unfolding is_scheme_char is_segment_nz_nc_char is_path_char is_query_char is_pchar is_reg_name_char is_unreserved is_sub_delim
-uri_ref_separates = record {
+separates ucschar iprivate needs_scheme = record {
   reg_name_lacks = refl;
   path_lacks = refl;
   query_lacks = refl;
@@ -47,15 +61,60 @@ uri_ref_separates = record {
   path_marks = refl;
   query_marks = refl;
   segment_marks = refl;
-  scheme_within = record { ascii = scheme_in_segment; pct_encoded = λ e. refl; ucschar = λ e. e; iprivate = λ e. e };
+  scheme_within = record { ascii = scheme_in_segment; pct_encoded = λ e. refl; ucschar = λ e. absurd (cc e); iprivate = λ e. e };
   within = record { ascii = segment_in_path; pct_encoded = λ e. e; ucschar = λ e. e; iprivate = λ e. e };
   octets = refl;
-  rest = first_rest;
+  rest = first_rest ucschar;
 }
 
--- the parser's reading at the sets of a kind
-pub uri_ref_reads : (text : List ℕ) → IsUtf8 text → reads segment_nz_nc_set uri_ref text ≡ is_of_kind uri_ref text
-uri_ref_reads text u = reads_of_kind segment_nz_nc_set uri_ref uri_ref_separates text u
+pub uri_separates : Separates segment_nz_nc_set uri
+uri_separates = separates false false true
 
-pub uri_ref_positions : (text : List ℕ) → IsUtf8 text → reads segment_nz_nc_set uri_ref text ≡ true → read_positions segment_nz_nc_set uri_ref text ≡ positions_of (components text)
-uri_ref_positions text u h = positions_read segment_nz_nc_set uri_ref uri_ref_separates text u h
+pub uri_ref_separates : Separates segment_nz_nc_set uri_ref
+uri_ref_separates = separates false false false
+
+pub iri_separates : Separates isegment_nz_nc_set iri
+iri_separates = separates true true true
+
+pub iri_ref_separates : Separates isegment_nz_nc_set iri_ref
+iri_ref_separates = separates true true false
+
+-- where a scheme is needed it is there, and a text that has one is a reference too
+with_scheme : (needed present other : Bool) → needed ≡ true → (present || (not needed && other)) ≡ true → present ≡ true
+with_scheme needed true other n h = refl
+with_scheme needed false other n h = absurd (cc (ap not n))
+
+needed_or_not : (needed present other : Bool) → (present || (not needed && other)) ≡ true → (present || other) ≡ true
+needed_or_not needed true other h = refl
+needed_or_not needed false other h = (and_parts (not needed) other h).1
+
+pub scheme_there : (kind : Kind) (text : List ℕ) → kind.needs_scheme ≡ true → IsOfKind kind text → is_some (components text).scheme ≡ true
+scheme_there kind text n h = with_scheme kind.needs_scheme (is_some (components text).scheme) _ n (and_parts _ _ h).1
+
+pub is_reference : (kind : Kind) (text : List ℕ) → IsOfKind kind text → IsOfKind (record kind { needs_scheme = false }) text
+is_reference kind text h =
+    let parts = and_parts _ _ h in
+    and_from _ _ parts.0 (needed_or_not kind.needs_scheme _ _ parts.1)
+
+pub uri_has_scheme : (text : List ℕ) → IsOfKind uri text → is_some (components text).scheme ≡ true
+uri_has_scheme text h = scheme_there uri text refl h
+
+pub uri_is_uri_ref : (text : List ℕ) → IsOfKind uri text → IsOfKind uri_ref text
+uri_is_uri_ref text h = is_reference uri text h
+
+pub iri_has_scheme : (text : List ℕ) → IsOfKind iri text → is_some (components text).scheme ≡ true
+iri_has_scheme text h = scheme_there iri text refl h
+
+pub iri_is_iri_ref : (text : List ℕ) → IsOfKind iri text → IsOfKind iri_ref text
+iri_is_iri_ref text h = is_reference iri text h
+
+-- the empty text is a reference
+pub empty_is_reference : (kind : Kind) → kind.needs_scheme ≡ false → IsOfKind kind []
+unfolding is_valid_for tokens_of chars
+empty_is_reference kind n = ap (λ needed. not needed && true) n
+
+pub empty_is_uri_ref : IsOfKind uri_ref []
+empty_is_uri_ref = empty_is_reference uri_ref refl
+
+pub empty_is_iri_ref : IsOfKind iri_ref []
+empty_is_iri_ref = empty_is_reference iri_ref refl

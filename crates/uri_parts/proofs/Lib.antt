@@ -4,6 +4,8 @@ pub mod Splits
 pub mod Recompose
 pub mod Next
 pub mod AuthorityCuts
+pub mod LiteralFaults
+pub mod AuthorityPlaces
 pub mod WholeAuthorities
 pub mod Separations
 pub mod Stops
@@ -22,5 +24,7 @@ pub mod Spelt
 pub mod Futures
 pub mod Hosts
 pub mod Parsed
+pub mod LiteralTexts
 pub mod Authority
+pub mod Literals
 mod AuthorityRows

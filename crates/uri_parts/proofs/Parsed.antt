@@ -1,5 +1,5 @@
 -- What std reads of the text of an address.
-use Rattle.std.proofs.Common.{◌≡◌, List, ℕ, Option, Some, None, sym, ap, ⊎_elim}
+use Rattle.std.proofs.Common.{◌≡◌, List, ℕ, Some, None, sym, ⊎_elim}
 use Rattle.std.specs.declared.net.ipv4_addr.Ipv4Addr.{Ipv4Addr}
 use Rattle.std.specs.declared.net.ipv6_addr.Ipv6Addr.{Ipv6Addr}
 use Rattle.std.specs.Net.Addr.{ipv4_octets, ipv6_segments}

@@ -24,7 +24,7 @@ pub record LiesAt (text : List ℕ) (start end : ℕ) (part : Option (List ℕ))
   pub ends : IsCharBoundary text end
   pub holds : Some (slice_range text start end) ≡ part
 
-get-seam : (before rest : List ℕ) (c : ℕ) → get_or (before ++ (c ∷ rest)) (length before) 0 ≡ c
+pub get-seam : (before rest : List ℕ) (c : ℕ) → get_or (before ++ (c ∷ rest)) (length before) 0 ≡ c
 get-seam [] rest c = refl
 get-seam (b ∷ before) rest c = get-seam before rest c
 
@@ -32,7 +32,7 @@ is_ascii_mark : (c : ℕ) → is_one_of (codes ":/?#") c ≡ true → c < 128
 is_ascii_mark c h = grind (arith, nat_tests)
 
 -- a text may be cut before a mark, and at its end
-before_mark : (before rest : List ℕ) → Begins (codes ":/?#") rest → IsCharBoundary (before ++ rest) (length before)
+pub before_mark : (before rest : List ℕ) → Begins (codes ":/?#") rest → IsCharBoundary (before ++ rest) (length before)
 before_mark before [] begins = rw (append-nil before) (IsCharBoundary-end before)
 before_mark before (c ∷ rest) begins =
     let ascii = is_ascii_mark c begins in
@@ -40,12 +40,12 @@ before_mark before (c ∷ rest) begins =
     IsCharBoundary-before_ascii (before ++ (c ∷ rest)) (length before) (omega (arith, length-append before (c ∷ rest))) at
 
 -- and behind one
-after_mark : (before rest : List ℕ) (c : ℕ) → c < 128 → IsUtf8 (before ++ (c ∷ rest)) → IsCharBoundary (before ++ (c ∷ rest)) (length before + 1)
+pub after_mark : (before rest : List ℕ) (c : ℕ) → c < 128 → IsUtf8 (before ++ (c ∷ rest)) → IsCharBoundary (before ++ (c ∷ rest)) (length before + 1)
 after_mark before rest c ascii utf8 =
     let at : get_or (before ++ (c ∷ rest)) (length before) 0 < 128 = rw (get-seam before rest c) ascii in
     IsCharBoundary-after_ascii (before ++ (c ∷ rest)) (length before) utf8 (omega (arith, length-append before (c ∷ rest))) at
 
-range-between : (before part behind : List ℕ) → slice_range (before ++ (part ++ behind)) (length before) (length before + length part) ≡ part
+pub range-between : (before part behind : List ℕ) → slice_range (before ++ (part ++ behind)) (length before) (length before + length part) ≡ part
 range-between before part behind =
     let n : (length before + length part) - length before ≡ length part = omega arith in
     ap (λ k. take k (drop (length before) (before ++ (part ++ behind)))) n

@@ -146,7 +146,7 @@ module _ (segment : TableSet) (kind : Kind) (w : Separates segment kind) (rest :
         accepts = or_left _ _ e ∙ sym (ap (reads_whole_authority kind.userinfo kind.reg_name) (sym (append-nil name)) ∙ reads_plain kind.userinfo kind.reg_name name [] plain);
         len = cond-true _ _ _ e ∙ n;
         found = λ place. cond-true _ _ _ e ∙ ap (λ k. name_at place (place + k) (place + k)) n
-          ∙ sym (ap (authority_at place) (sym (append-nil name)) ∙ plain_at kind.userinfo kind.reg_name name [] plain place ∙ ap (λ t. name_at place (place + length name) (place + length t)) (append-nil name));
+            ∙ sym (ap (authority_at place) (sym (append-nil name)) ∙ plain_at kind.userinfo kind.reg_name name [] plain place ∙ ap (λ t. name_at place (place + length name) (place + length t)) (append-nil name));
       }
 
   name_and_port : is_plain_name kind rest ≡ false → is_name_and_port kind rest ≡ true → IsFound kind rest
@@ -180,9 +180,9 @@ module _ (segment : TableSet) (kind : Kind) (w : Separates segment kind) (rest :
         port = valid_port;
       } in
       let whole : (name ++ behind) ++ end ≡ rest =
-        append_assoc name behind end ∙ ap (λ t. name ++ (58 ∷ t)) cut_port.whole ∙ ap (λ t. name ++ t) (sym tail_is) ∙ cut_name.whole in
+      append_assoc name behind end ∙ ap (λ t. name ++ (58 ∷ t)) cut_port.whole ∙ ap (λ t. name ++ t) (sym tail_is) ∙ cut_name.whole in
       let ends_lack : Lacks (codes "/?#") (name ++ behind) =
-        lacks_append (codes "/?#") name behind (fewer (codes "/?#") (codes ":/?#") (λ c e. grind (arith, nat_tests)) name cut_name.lacks) (lacks_first (codes "/?#") 58 digits refl cut_port.lacks) in
+      lacks_append (codes "/?#") name behind (fewer (codes "/?#") (codes ":/?#") (λ c e. grind (arith, nat_tests)) name cut_name.lacks) (lacks_first (codes "/?#") 58 digits refl cut_port.lacks) in
       let cut = cut-append (codes "/?#") (name ++ behind) end ends_lack cut_port.begins in
       let text_is : before_any (codes "/?#") rest ≡ name ++ behind = ap (before_any (codes "/?#")) (sym whole) ∙ cut.0 in
       let n : front kind.reg_name rest ≡ length name = m ∙ sym (length-before (codes ":/?#") rest) in
@@ -192,9 +192,9 @@ module _ (segment : TableSet) (kind : Kind) (w : Separates segment kind) (rest :
         accepts = or_right _ _ (or_left _ _ e) ∙ sym (ap (reads_whole_authority kind.userinfo kind.reg_name) text_is ∙ reads_plain kind.userinfo kind.reg_name name behind plain);
         len = cond-false _ _ _ not_plain ∙ cond-true _ _ _ e ∙ l ∙ sym (ap length text_is);
         found = λ place.
-          let f : place + front kind.reg_name rest + 1 + front digit_set (drop 1 (after kind.reg_name rest)) ≡ place + length (name ++ behind) = omega arith in
-          cond-false _ _ _ not_plain ∙ cond-true _ _ _ e ∙ ap (λ j. name_at place (place + front kind.reg_name rest) j) f ∙ ap (λ j. name_at place (place + j) (place + length (name ++ behind))) n
-          ∙ sym (ap (authority_at place) text_is ∙ plain_at kind.userinfo kind.reg_name name behind plain place);
+            let f : place + front kind.reg_name rest + 1 + front digit_set (drop 1 (after kind.reg_name rest)) ≡ place + length (name ++ behind) = omega arith in
+            cond-false _ _ _ not_plain ∙ cond-true _ _ _ e ∙ ap (λ j. name_at place (place + front kind.reg_name rest) j) f ∙ ap (λ j. name_at place (place + j) (place + length (name ++ behind))) n
+            ∙ sym (ap (authority_at place) text_is ∙ plain_at kind.userinfo kind.reg_name name behind plain place);
       }
 
   other_case : is_plain_name kind rest ≡ false → is_name_and_port kind rest ≡ false → IsFound kind rest

@@ -58,12 +58,12 @@ module _ (segment : TableSet) (kind : Kind) (w : Separates segment kind) where
   unfolding reads_end query_end_at
   query_case end r u h = ⊎_elim
       (λ q.
-        let r1 = drop 1 r in
-        let h1 : (not (is_stray kind.query (after kind.query r1)) && reads_fragment kind (after kind.query r1)) ≡ true = sym (cond-true _ _ _ q) ∙ h in
-        let stuck = λ (b : ℕ) (rest : List ℕ) (o : is_one_of (codes "#") b ≡ false). fragment_stuck segment kind w b rest (no_hash b o) in
-        let m : front kind.query r1 ≡ length (before_any (codes "#") r1) =
-          front_true (codes "#") kind.query w.query_lacks w.query_marks (reads_fragment kind) stuck r1 (utf8_past 63 (lit< tt) r q u) (and_parts _ _ h1).1 ∙ sym (length-before (codes "#") r1) in
-        cond-true _ _ _ q ∙ ap (λ n. Some (end + 1 + n)) m ∙ sym (ap (λ t. option_map (λ q. end + 1 + length q) (when t (before_any (codes "#") r1))) q))
+      let r1 = drop 1 r in
+      let h1 : (not (is_stray kind.query (after kind.query r1)) && reads_fragment kind (after kind.query r1)) ≡ true = sym (cond-true _ _ _ q) ∙ h in
+      let stuck = λ (b : ℕ) (rest : List ℕ) (o : is_one_of (codes "#") b ≡ false). fragment_stuck segment kind w b rest (no_hash b o) in
+      let m : front kind.query r1 ≡ length (before_any (codes "#") r1) =
+      front_true (codes "#") kind.query w.query_lacks w.query_marks (reads_fragment kind) stuck r1 (utf8_past 63 (lit< tt) r q u) (and_parts _ _ h1).1 ∙ sym (length-before (codes "#") r1) in
+      cond-true _ _ _ q ∙ ap (λ n. Some (end + 1 + n)) m ∙ sym (ap (λ t. option_map (λ q. end + 1 + length q) (when t (before_any (codes "#") r1))) q))
       (λ q. cond-false _ _ _ q ∙ sym (ap (λ t. option_map (λ q. end + 1 + length q) (when t (before_any (codes "#") (drop 1 r)))) q))
       (cases_Bool (starts 63 r))
 
@@ -85,8 +85,8 @@ module _ (segment : TableSet) (kind : Kind) (w : Separates segment kind) where
       let r : after kind.path tail ≡ rest = ap (λ k. drop k tail) m in
       let end : start + front kind.path tail ≡ start + length (before_any (codes "?#") tail) = ap (λ k. start + k) n in
       let q : query_end_at kind (start + front kind.path tail) (after kind.path tail) ≡ option_map (λ q. start + length (before_any (codes "?#") tail) + 1 + length q) (when (starts 63 rest) (before_any (codes "#") (drop 1 rest))) =
-        ap (λ e. query_end_at kind e (after kind.path tail)) end ∙ ap (query_end_at kind (start + length (before_any (codes "?#") tail))) r
-        ∙ query_case (start + length (before_any (codes "?#") tail)) rest (utf8_from (codes "?#") tail (ascii_marks (codes "?#") refl) u) (sym (ap (reads_end kind) r) ∙ path_end tail h) in
+      ap (λ e. query_end_at kind e (after kind.path tail)) end ∙ ap (query_end_at kind (start + length (before_any (codes "?#") tail))) r
+      ∙ query_case (start + length (before_any (codes "?#") tail)) rest (utf8_from (codes "?#") tail (ascii_marks (codes "?#") refl) u) (sym (ap (reads_end kind) r) ∙ path_end tail h) in
       λ i. record { scheme_end = scheme_end; authority = authority; path_start = start; path_end = end i; query_end = q i }
 
   authority_case : (scheme_end : Option ℕ) (place : ℕ) (rest : List ℕ) → IsUtf8 rest → reads_authority kind rest ≡ true →
@@ -102,7 +102,7 @@ module _ (segment : TableSet) (kind : Kind) (w : Separates segment kind) where
       ∙ ap (λ k. at (authority_at place host) k (drop (found_length kind rest) rest)) f.len
       ∙ ap (at (authority_at place host) (length host)) r
       ∙ path_case scheme_end (Some (authority_at place host)) (place + length host) (from_any (codes "/?#") rest)
-        (utf8_from (codes "/?#") rest (ascii_marks (codes "/?#") refl) u) (sym (ap (reads_path kind) r) ∙ p)
+      (utf8_from (codes "/?#") rest (ascii_marks (codes "/?#") refl) u) (sym (ap (reads_path kind) r) ∙ p)
 
   slashes_case : (scheme_end : Option ℕ) (place : ℕ) (rest : List ℕ) → IsUtf8 rest → has_authority rest ≡ true → reads_authority kind (drop 2 rest) ≡ true →
       authority_positions kind scheme_end (place + 2) (drop 2 rest) ≡ hier_layout scheme_end place rest
@@ -150,12 +150,12 @@ module _ (segment : TableSet) (kind : Kind) (w : Separates segment kind) where
   unfolding reads_schemeless schemeless_positions
   schemeless_case text u h = ⊎_elim
       (λ a.
-        let e = slashes_read text ∙ a in
-        let d : drop 2 (after scheme_set text) ≡ drop 2 text = ap (λ n. drop 2 (drop n text)) (slashes_front text a) in
-        cond-true _ _ _ e ∙ ap (authority_positions kind None 2) d ∙ slashes_case None 0 text u a (sym (ap (reads_authority kind) d) ∙ sym (cond-true _ _ _ e) ∙ h))
+      let e = slashes_read text ∙ a in
+      let d : drop 2 (after scheme_set text) ≡ drop 2 text = ap (λ n. drop 2 (drop n text)) (slashes_front text a) in
+      cond-true _ _ _ e ∙ ap (authority_positions kind None 2) d ∙ slashes_case None 0 text u a (sym (ap (reads_authority kind) d) ∙ sym (cond-true _ _ _ e) ∙ h))
       (λ a.
-        let e = slashes_read text ∙ a in
-        cond-false _ _ _ e ∙ relative_same text ∙ none_case None 0 text u a (relative_path text (sym (relative_within segment kind w text) ∙ sym (cond-false _ _ _ e) ∙ h)))
+      let e = slashes_read text ∙ a in
+      cond-false _ _ _ e ∙ relative_same text ∙ none_case None 0 text u a (relative_path text (sym (relative_within segment kind w text) ∙ sym (cond-false _ _ _ e) ∙ h)))
       (cases_Bool (has_authority text))
 
   -- where there is no colon behind the characters of a scheme, there is no scheme
@@ -200,6 +200,6 @@ module _ (segment : TableSet) (kind : Kind) (w : Separates segment kind) where
   positions_read text u h = ⊎_elim
       (λ s. cond-true _ _ _ s ∙ scheme_case text u s (sym (cond-true _ _ _ s) ∙ h))
       (λ s.
-        let h1 = (and_parts (not kind.needs_scheme) _ (sym (cond-false _ _ _ s) ∙ h)).1 in
-        cond-false _ _ _ s ∙ schemeless_case text u h1 ∙ sym (layout_none text (no_scheme text u s h1)))
+      let h1 = (and_parts (not kind.needs_scheme) _ (sym (cond-false _ _ _ s) ∙ h)).1 in
+      cond-false _ _ _ s ∙ schemeless_case text u h1 ∙ sym (layout_none text (no_scheme text u s h1)))
       (cases_Bool (starts 58 (after scheme_set text)))

@@ -68,15 +68,15 @@ any_colon [] = refl
 any_colon (b ∷ rest) =
     let F = before_any (codes "?#") rest in
     ⊎_elim
-      (λ q. ap has_colon_first (before_mark (codes "?#") b rest q) ∙ sym (ap (starts 58) (at_mark (codes ":/?#") b rest (four_of_two b q)) ∙ no_colon_two b q))
-      (λ q. ap has_colon_first (before_other (codes "?#") b rest q) ∙ ⊎_elim
-        (λ s. ap (list_any (λ c. eqb c 58)) (before_mark (codes "/") b F s) ∙ sym (ap (starts 58) (at_mark (codes ":/?#") b rest (four_of_slash b s)) ∙ no_colon_slash b s))
-        (λ s. ap (list_any (λ c. eqb c 58)) (before_other (codes "/") b F s) ∙ ⊎_elim
-          (λ c. or_left _ _ c ∙ sym (ap (starts 58) (at_mark (codes ":/?#") b rest (ap (is_one_of (codes ":/?#")) (eqb-true b 58 c))) ∙ c))
-          (λ c. ap (λ t. t || has_colon_first F) c ∙ any_colon rest ∙ sym (ap (starts 58) (from_other (codes ":/?#") b rest (no_four b q s c))))
-          (cases_Bool (eqb b 58)))
-        (cases_Bool (is_one_of (codes "/") b)))
-      (cases_Bool (is_one_of (codes "?#") b))
+    (λ q. ap has_colon_first (before_mark (codes "?#") b rest q) ∙ sym (ap (starts 58) (at_mark (codes ":/?#") b rest (four_of_two b q)) ∙ no_colon_two b q))
+    (λ q. ap has_colon_first (before_other (codes "?#") b rest q) ∙ ⊎_elim
+    (λ s. ap (list_any (λ c. eqb c 58)) (before_mark (codes "/") b F s) ∙ sym (ap (starts 58) (at_mark (codes ":/?#") b rest (four_of_slash b s)) ∙ no_colon_slash b s))
+    (λ s. ap (list_any (λ c. eqb c 58)) (before_other (codes "/") b F s) ∙ ⊎_elim
+    (λ c. or_left _ _ c ∙ sym (ap (starts 58) (at_mark (codes ":/?#") b rest (ap (is_one_of (codes ":/?#")) (eqb-true b 58 c))) ∙ c))
+    (λ c. ap (λ t. t || has_colon_first F) c ∙ any_colon rest ∙ sym (ap (starts 58) (from_other (codes ":/?#") b rest (no_four b q s c))))
+    (cases_Bool (eqb b 58)))
+    (cases_Bool (is_one_of (codes "/") b)))
+    (cases_Bool (is_one_of (codes "?#") b))
 
 from_colon : (bs : List ℕ) → starts 58 bs ≡ true → from_any (codes ":/?#") bs ≡ bs
 from_colon [] e = refl
@@ -101,8 +101,8 @@ module _ (segment : TableSet) (kind : Kind) (w : Separates segment kind) where
   colon_same : (bs : List ℕ) → IsUtf8 bs → has_scheme bs ≡ false → starts 58 (after segment bs) ≡ starts 58 bs
   colon_same bs u e = ⊎_elim
       (λ s. s ∙ sym (⊎_elim
-        (λ f. absurd (both_ways _ f (sym (ap (λ n. starts 58 (drop n bs)) (stops_at_colon segment w.segment_lacks w.segment_marks bs u s)) ∙ s)))
-        (λ f. not-false _ f) (and_cases (starts 58 (from_any (codes ":/?#") bs)) _ e)))
+      (λ f. absurd (both_ways _ f (sym (ap (λ n. starts 58 (drop n bs)) (stops_at_colon segment w.segment_lacks w.segment_marks bs u s)) ∙ s)))
+      (λ f. not-false _ f) (and_cases (starts 58 (from_any (codes ":/?#") bs)) _ e)))
       (λ s. s ∙ sym (false_from_ne_true _ (λ t. both_ways _ s (ap (starts 58) (at_colon segment w.segment_lacks w.segment_marks bs t) ∙ t))))
       (cases_Bool (starts 58 (after segment bs)))
 
@@ -113,13 +113,13 @@ module _ (segment : TableSet) (kind : Kind) (w : Separates segment kind) where
       front_cons kind.path b rest
       ∙ ap (λ t. cond (t && eqb b 37) (cond (begins_hex rest) (front_from kind.path 2 rest + 1) 0) (cond (allows_first kind.path b rest) (front_from kind.path (continuation_len b) rest + 1) 0)) w.octets
       ∙ ⊎_elim
-        (λ o. cond-true _ _ _ o ∙ ⊎_elim
-          (λ h. absurd (nothing_read (front_from segment 2 rest) (sym (cond-true _ _ _ h) ∙ sym (cond-true _ _ _ o) ∙ sym c ∙ z)))
-          (λ h. cond-false _ _ _ h) (cases_Bool (begins_hex rest)))
-        (λ o. cond-false _ _ _ o ∙ ⊎_elim
-          (λ a. absurd (nothing_read (front_from segment (continuation_len b) rest) (sym (cond-true _ _ _ a) ∙ sym (cond-false _ _ _ o) ∙ sym c ∙ z)))
-          (λ a. cond-false _ _ _ (w.rest b rest e a)) (cases_Bool (allows_first segment b rest)))
-        (cases_Bool (segment.pct_encoded && eqb b 37))
+      (λ o. cond-true _ _ _ o ∙ ⊎_elim
+      (λ h. absurd (nothing_read (front_from segment 2 rest) (sym (cond-true _ _ _ h) ∙ sym (cond-true _ _ _ o) ∙ sym c ∙ z)))
+      (λ h. cond-false _ _ _ h) (cases_Bool (begins_hex rest)))
+      (λ o. cond-false _ _ _ o ∙ ⊎_elim
+      (λ a. absurd (nothing_read (front_from segment (continuation_len b) rest) (sym (cond-true _ _ _ a) ∙ sym (cond-false _ _ _ o) ∙ sym c ∙ z)))
+      (λ a. cond-false _ _ _ (w.rest b rest e a)) (cases_Bool (allows_first segment b rest)))
+      (cases_Bool (segment.pct_encoded && eqb b 37))
 
   path_stuck : (b : ℕ) (rest : List ℕ) → is_one_of (codes ":/?#") b ≡ false → front segment (b ∷ rest) ≡ 0 → reads_path kind (b ∷ rest) ≡ false
   unfolding reads_path
@@ -162,9 +162,9 @@ module _ (segment : TableSet) (kind : Kind) (w : Separates segment kind) where
   relative_false bs u e =
       no_matter bs (not (starts 58 (after segment bs)))
       ∙ ⊎_elim
-        (λ h. and_left _ _ (not_from_true _ (ap (λ n. starts 58 (drop n bs)) h ∙ (and_parts _ _ e).0)))
-        (λ s. and_right _ _ (ap (reads_path kind) s.left ∙ path_stuck s.byte s.rest s.other s.stuck))
-        (stop_cases (codes ":/?#") segment w.segment_lacks w.segment_marks bs u)
+      (λ h. and_left _ _ (not_from_true _ (ap (λ n. starts 58 (drop n bs)) h ∙ (and_parts _ _ e).0)))
+      (λ s. and_right _ _ (ap (reads_path kind) s.left ∙ path_stuck s.byte s.rest s.other s.stuck))
+      (stop_cases (codes ":/?#") segment w.segment_lacks w.segment_marks bs u)
 
   -- what might have been a scheme is the beginning of the segment
   pub segment_within : (bs : List ℕ) → after segment (after scheme_set bs) ≡ after segment bs

@@ -50,18 +50,18 @@ module _ (marks : List ℕ) (set : TableSet) (lacks : LacksPercent set) (outside
       let n = front set bs in
       let le = front_le_mark marks set lacks outside bs u in
       ⊎_elim (λ e. inl e)
-        (λ d.
-          let lt : n < length bs = omega (arith, le, prefix_len-le-length (λ c. not (is_one_of marks c)) bs) in
-          let more = drop_more bs n 0 lt in
-          inr (record {
-            byte = get_or bs n 0;
-            rest = _;
-            other = not-true _ (prefix_len_passes (λ c. not (is_one_of marks c)) bs n 0 (omega (arith, le)));
-            left = more;
-            stuck = ap (front set) (sym more) ∙ front-after set bs;
-            apart = d;
-          }))
-        (cases_eq n m)
+      (λ d.
+      let lt : n < length bs = omega (arith, le, prefix_len-le-length (λ c. not (is_one_of marks c)) bs) in
+      let more = drop_more bs n 0 lt in
+      inr (record {
+        byte = get_or bs n 0;
+        rest = _;
+        other = not-true _ (prefix_len_passes (λ c. not (is_one_of marks c)) bs n 0 (omega (arith, le)));
+        left = more;
+        stuck = ap (front set) (sym more) ∙ front-after set bs;
+        apart = d;
+      }))
+      (cases_eq n m)
 
   pub no_stray : (bs : List ℕ) → is_stray set (from_any marks bs) ≡ false
   no_stray bs = from_mark marks (λ r. is_stray set r ≡ false) (and_right _ _ refl) (λ b rest m. and_right _ _ (mark_percent set marks outside b m)) bs
@@ -70,10 +70,10 @@ module _ (marks : List ℕ) (set : TableSet) (lacks : LacksPercent set) (outside
   pub piece : (test : List ℕ → Bool) → ((b : ℕ) (rest : List ℕ) → is_one_of marks b ≡ false → front set (b ∷ rest) ≡ 0 → test (b ∷ rest) ≡ false) → (bs : List ℕ) → IsUtf8 bs → reads_after set test bs ≡ (is_valid_for set (before_any marks bs) && test (from_any marks bs))
   piece test stuck bs u = ⊎_elim
       (λ e.
-        ap (λ n. not (is_stray set (drop n bs)) && test (drop n bs)) e
-        ∙ ap (λ t. not t && test (from_any marks bs)) (no_stray bs)
-        ∙ sym (ap (λ t. t && test (from_any marks bs)) (cut marks set lacks outside bs u ∙ eq-eqb _ _ e)))
+      ap (λ n. not (is_stray set (drop n bs)) && test (drop n bs)) e
+      ∙ ap (λ t. not t && test (from_any marks bs)) (no_stray bs)
+      ∙ sym (ap (λ t. t && test (from_any marks bs)) (cut marks set lacks outside bs u ∙ eq-eqb _ _ e)))
       (λ w.
-        and_right _ _ (ap test w.left ∙ stuck w.byte w.rest w.other w.stuck)
-        ∙ sym (and_left _ _ (cut marks set lacks outside bs u ∙ ne_eqb _ _ w.apart)))
+      and_right _ _ (ap test w.left ∙ stuck w.byte w.rest w.other w.stuck)
+      ∙ sym (and_left _ _ (cut marks set lacks outside bs u ∙ ne_eqb _ _ w.apart)))
       (stop_cases bs u)

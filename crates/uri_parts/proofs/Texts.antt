@@ -56,9 +56,9 @@ pub slashes_read : (text : List ℕ) → (eqb (front scheme_set text) 0 && has_a
 slashes_read text = ⊎_elim
     (λ a. let z = slashes_front text a in and_from _ _ (eq-eqb _ 0 z) (ap (λ n. has_authority (drop n text)) z ∙ a) ∙ sym a)
     (λ a. ⊎_elim
-      (λ z. and_right _ _ (ap (λ n. has_authority (drop n text)) (eqb-true _ 0 z) ∙ a) ∙ sym a)
-      (λ z. and_left _ _ z ∙ sym a)
-      (cases_Bool (eqb (front scheme_set text) 0)))
+    (λ z. and_right _ _ (ap (λ n. has_authority (drop n text)) (eqb-true _ 0 z) ∙ a) ∙ sym a)
+    (λ z. and_left _ _ z ∙ sym a)
+    (cases_Bool (eqb (front scheme_set text) 0)))
     (cases_Bool (has_authority text))
 
 pub alpha_colon : (text : List ℕ) → starts 58 text ≡ true → is_ascii_alphabetic (get_or text 0 0) ≡ false
@@ -117,7 +117,7 @@ module _ (segment : TableSet) (kind : Kind) (w : Separates segment kind) where
   by_parts text u =
       regroup (scheme_ok text) (if_some (components text).authority (is_authority kind)) (is_valid_for kind.path (components text).path) (if_some (components text).query (is_valid_for kind.query)) (if_some (components text).fragment (is_valid_for kind.fragment)) (unmixed text)
       ∙ ap (λ t. scheme_ok text && (unmixed text && (if_some (when (has_authority (after_scheme text)) (before_any (codes "/?#") (drop 2 (after_scheme text)))) (is_authority kind) && t)))
-        (sym (path_lemma segment kind w (after_authority (after_scheme text)) (utf8_authority _ (utf8_scheme text u))))
+      (sym (path_lemma segment kind w (after_authority (after_scheme text)) (utf8_authority _ (utf8_scheme text u))))
 
   unmixed_scheme : (text : List ℕ) → has_scheme text ≡ true → unmixed text ≡ true
   unfolding unmixed
@@ -158,17 +158,17 @@ module _ (segment : TableSet) (kind : Kind) (w : Separates segment kind) where
       let eq = stops_at_colon scheme_set scheme_lacks scheme_marks text u s in
       let back : after scheme_set text ≡ from_any (codes ":/?#") text = ap (λ n. drop n text) eq in
       ⊎_elim
-        (λ c.
-          let h : has_scheme text ≡ false = and_right _ _ (not_from_true _ c) in
-          let a : has_authority text ≡ false = false_from_ne_true _ (λ t. both_ways _ (slashes_colon text t) c) in
-          and_left _ _ (alpha_colon text c) ∙ sym (and_right _ _ (and_left _ _ (unmixed_none text h a ∙ and_right _ _ (not_from_true _ c)))))
-        (λ c.
-          let h : has_scheme text ≡ true = and_from _ _ (sym (ap (starts 58) back) ∙ s) (not_from_false _ c) in
-          let valid : is_scheme (before_any (codes ":/?#") text) ≡ is_ascii_alphabetic (get_or text 0 0) = ap (λ t. is_ascii_alphabetic (get_or (before_any (codes ":/?#") text) 0 0) && t) (cut_scheme text u ∙ eq-eqb _ _ eq) ∙ and_true _ ∙ scheme_head text h in
-          ap (λ t. is_ascii_alphabetic (get_or text 0 0) && t) (ap (λ r. reads_hier kind (drop 1 r)) back ∙ ap (reads_hier kind) (sym (behind_some text h)) ∙ hier_lemma segment kind w (after_scheme text) (utf8_scheme text u))
-          ∙ ap (λ t. t && tail_ok text) (sym (scheme_some text h ∙ valid))
-          ∙ ap (λ t. scheme_ok text && (t && tail_ok text)) (sym (unmixed_scheme text h)))
-        (cases_Bool (starts 58 text))
+      (λ c.
+      let h : has_scheme text ≡ false = and_right _ _ (not_from_true _ c) in
+      let a : has_authority text ≡ false = false_from_ne_true _ (λ t. both_ways _ (slashes_colon text t) c) in
+      and_left _ _ (alpha_colon text c) ∙ sym (and_right _ _ (and_left _ _ (unmixed_none text h a ∙ and_right _ _ (not_from_true _ c)))))
+      (λ c.
+      let h : has_scheme text ≡ true = and_from _ _ (sym (ap (starts 58) back) ∙ s) (not_from_false _ c) in
+      let valid : is_scheme (before_any (codes ":/?#") text) ≡ is_ascii_alphabetic (get_or text 0 0) = ap (λ t. is_ascii_alphabetic (get_or (before_any (codes ":/?#") text) 0 0) && t) (cut_scheme text u ∙ eq-eqb _ _ eq) ∙ and_true _ ∙ scheme_head text h in
+      ap (λ t. is_ascii_alphabetic (get_or text 0 0) && t) (ap (λ r. reads_hier kind (drop 1 r)) back ∙ ap (reads_hier kind) (sym (behind_some text h)) ∙ hier_lemma segment kind w (after_scheme text) (utf8_scheme text u))
+      ∙ ap (λ t. t && tail_ok text) (sym (scheme_some text h ∙ valid))
+      ∙ ap (λ t. scheme_ok text && (t && tail_ok text)) (sym (unmixed_scheme text h)))
+      (cases_Bool (starts 58 text))
 
   schemeless_authority : (text : List ℕ) → has_authority text ≡ true → reads_schemeless segment kind (front scheme_set text) (after scheme_set text) ≡ reads_authority kind (drop 2 text)
   unfolding reads_schemeless
@@ -181,21 +181,21 @@ module _ (segment : TableSet) (kind : Kind) (w : Separates segment kind) where
   without_colon : (text : List ℕ) → IsUtf8 text → starts 58 (after scheme_set text) ≡ false → (not kind.needs_scheme && reads_schemeless segment kind (front scheme_set text) (after scheme_set text)) ≡ (scheme_ok text && (unmixed text && tail_ok text))
   without_colon text u s = ⊎_elim
       (λ h.
-        let a : has_authority text ≡ false = false_from_ne_true _ (λ t. both_ways _ (slashes_colon text t) (sym (ap (starts 58) (slashes_first text t)) ∙ (and_parts _ _ h).0)) in
-        let ne : eqb (front scheme_set text) (to_mark (codes ":/?#") text) ≡ false = ne_eqb _ _ (λ e. both_ways _ s (ap (λ n. starts 58 (drop n text)) e ∙ (and_parts _ _ h).0)) in
-        and_right _ _ (schemeless_relative text a ∙ relative_false segment kind w text u h) ∙ sym (and_left _ _ (scheme_some text h ∙ and_right _ _ (cut_scheme text u ∙ ne))))
+      let a : has_authority text ≡ false = false_from_ne_true _ (λ t. both_ways _ (slashes_colon text t) (sym (ap (starts 58) (slashes_first text t)) ∙ (and_parts _ _ h).0)) in
+      let ne : eqb (front scheme_set text) (to_mark (codes ":/?#") text) ≡ false = ne_eqb _ _ (λ e. both_ways _ s (ap (λ n. starts 58 (drop n text)) e ∙ (and_parts _ _ h).0)) in
+      and_right _ _ (schemeless_relative text a ∙ relative_false segment kind w text u h) ∙ sym (and_left _ _ (scheme_some text h ∙ and_right _ _ (cut_scheme text u ∙ ne))))
       (λ h. ⊎_elim
-        (λ a.
-          ap (λ t. not kind.needs_scheme && t) (schemeless_authority text a ∙ sym (tail_authority text u h a))
-          ∙ ap (λ t. t && tail_ok text) (sym (unmixed_authority text h a))
-          ∙ ap (λ t. t && (unmixed text && tail_ok text)) (sym (scheme_none text h)))
-        (λ a.
-          ap (λ t. not kind.needs_scheme && t) (schemeless_relative text a ∙ relative_lemma segment kind w text u h)
-          ∙ and_assoc (not kind.needs_scheme) (not (starts 58 text)) (reads_path kind text)
-          ∙ ap (λ t. (not kind.needs_scheme && not (starts 58 text)) && t) (sym (tail_path text h a))
-          ∙ ap (λ t. t && tail_ok text) (sym (unmixed_none text h a))
-          ∙ ap (λ t. t && (unmixed text && tail_ok text)) (sym (scheme_none text h)))
-        (cases_Bool (has_authority text)))
+      (λ a.
+      ap (λ t. not kind.needs_scheme && t) (schemeless_authority text a ∙ sym (tail_authority text u h a))
+      ∙ ap (λ t. t && tail_ok text) (sym (unmixed_authority text h a))
+      ∙ ap (λ t. t && (unmixed text && tail_ok text)) (sym (scheme_none text h)))
+      (λ a.
+      ap (λ t. not kind.needs_scheme && t) (schemeless_relative text a ∙ relative_lemma segment kind w text u h)
+      ∙ and_assoc (not kind.needs_scheme) (not (starts 58 text)) (reads_path kind text)
+      ∙ ap (λ t. (not kind.needs_scheme && not (starts 58 text)) && t) (sym (tail_path text h a))
+      ∙ ap (λ t. t && tail_ok text) (sym (unmixed_none text h a))
+      ∙ ap (λ t. t && (unmixed text && tail_ok text)) (sym (scheme_none text h)))
+      (cases_Bool (has_authority text)))
       (cases_Bool (has_scheme text))
 
   pub reads_of_kind : (text : List ℕ) → IsUtf8 text → reads segment kind text ≡ is_of_kind kind text

@@ -35,13 +35,13 @@ unfolding port_of ends_in_port
 port_ends [] = refl
 port_ends (b ∷ rest) = ⊎_elim
     (λ e.
-      let p : when (starts 58 (b ∷ rest)) rest ≡ Some rest = cond-true _ _ _ e in
-      let t : (codes ":" ++ rest) ++ [] ≡ b ∷ rest = append-nil (58 ∷ rest) ∙ ap (λ c. c ∷ rest) (sym (eqb-true b 58 e)) in
-      ap (λ o. bytes_eq (marked (codes ":") o []) (b ∷ rest) && option_map_or (is_valid_for digit_set) o true) p
-      ∙ ap (λ x. x && is_valid_for digit_set rest) (same _ _ t)
-      ∙ sym (ap (λ x. x && is_valid_for digit_set rest) e))
+    let p : when (starts 58 (b ∷ rest)) rest ≡ Some rest = cond-true _ _ _ e in
+    let t : (codes ":" ++ rest) ++ [] ≡ b ∷ rest = append-nil (58 ∷ rest) ∙ ap (λ c. c ∷ rest) (sym (eqb-true b 58 e)) in
+    ap (λ o. bytes_eq (marked (codes ":") o []) (b ∷ rest) && option_map_or (is_valid_for digit_set) o true) p
+    ∙ ap (λ x. x && is_valid_for digit_set rest) (same _ _ t)
+    ∙ sym (ap (λ x. x && is_valid_for digit_set rest) e))
     (λ e. ap (λ x. bytes_eq (marked (codes ":") (when x rest) []) (b ∷ rest) && option_map_or (is_valid_for digit_set) (when x rest) true) e
-      ∙ sym (and_left _ _ e))
+    ∙ sym (and_left _ _ e))
     (cases_Bool (eqb b 58))
 
 -- the host and the port of what stands behind the userinfo
@@ -127,7 +127,7 @@ closed_lemma names rest e =
     let behind : List ℕ = drop 1 (from_any (codes "]") rest) in
     let f : from_any (codes "]") rest ≡ 93 ∷ behind = begins_bracket (from_any (codes "]") rest) cut.begins e in
     let whole : bracketed address ++ behind ≡ 91 ∷ rest =
-      append_assoc (91 ∷ address) (codes "]") behind ∙ ap (λ t. 91 ∷ (address ++ t)) (sym f) ∙ ap (λ t. 91 ∷ t) cut.whole in
+    append_assoc (91 ∷ address) (codes "]") behind ∙ ap (λ t. 91 ∷ (address ++ t)) (sym f) ∙ ap (λ t. 91 ∷ t) cut.whole in
     let h : host_before (91 ∷ rest) ≡ bracketed address = ap (λ t. t ++ codes "]") (before_bracket rest) in
     let b : behind_host (91 ∷ rest) ≡ behind = ap (drop 1) (from_bracket rest) in
     by_cut names (bracketed address) behind (91 ∷ rest) whole h b
@@ -146,7 +146,7 @@ open_lemma names rest e =
     let h : host_before (91 ∷ rest) ≡ bracketed rest = ap (λ t. t ++ codes "]") (before_bracket rest ∙ ap (λ t. 91 ∷ t) all) in
     let b : behind_host (91 ∷ rest) ≡ [] = ap (drop 1) (from_bracket rest ∙ none) in
     let text : host_before (91 ∷ rest) ++ marked (codes ":") (port_of (behind_host (91 ∷ rest))) [] ≡ bracketed rest ++ [] =
-      ap (λ t. t ++ marked (codes ":") (port_of (behind_host (91 ∷ rest))) []) h ∙ ap (λ t. bracketed rest ++ marked (codes ":") (port_of t) []) b in
+    ap (λ t. t ++ marked (codes ":") (port_of (behind_host (91 ∷ rest))) []) h ∙ ap (λ t. bracketed rest ++ marked (codes ":") (port_of t) []) b in
     and_left _ _ (other (host_before (91 ∷ rest) ++ marked (codes ":") (port_of (behind_host (91 ∷ rest))) []) (91 ∷ rest) (λ d. too_long rest (sym text ∙ d)))
     ∙ sym (and_left _ _ e)
 
@@ -177,16 +177,16 @@ authority_reads users names text =
     let tests = λ (r : List ℕ). is_host names (host_before r) && option_map_or (is_valid_for digit_set) (port_of (behind_host r)) true in
     let form = λ (t : Bool). bytes_eq (marked [] (when t user) (codes "@") ++ tail (cond t (drop 1 from) text)) text && (option_map_or (is_valid_for users) (when t user) true && tests (cond t (drop 1 from) text)) in
     ⊎_elim
-      (λ e.
-        let rest : List ℕ = drop 1 from in
-        let whole : user ++ (64 ∷ rest) ≡ text = ap (λ t. user ++ t) (sym (begins_at from cut.begins e)) ∙ cut.whole in
-        let text_is : bytes_eq ((user ++ codes "@") ++ tail rest) text ≡ bytes_eq (tail rest) rest =
-          ap (λ t. bytes_eq t text) (append_assoc user (codes "@") (tail rest)) ∙ ap (bytes_eq (user ++ (64 ∷ tail rest))) (sym whole)
-          ∙ bytes_eq-front user (64 ∷ tail rest) (64 ∷ rest) in
-        ap form e
-        ∙ ap (λ t. t && (is_valid_for users user && tests rest)) text_is
-        ∙ four (bytes_eq (tail rest) rest) (is_valid_for users user) (is_host names (host_before rest)) (option_map_or (is_valid_for digit_set) (port_of (behind_host rest)) true)
-        ∙ ap (λ t. is_valid_for users user && t) (host_lemma names rest)
-        ∙ sym (cond-true _ _ _ e))
-      (λ e. ap form e ∙ host_lemma names text ∙ sym (cond-false _ _ _ e))
-      (cases_Bool (starts 64 from))
+    (λ e.
+    let rest : List ℕ = drop 1 from in
+    let whole : user ++ (64 ∷ rest) ≡ text = ap (λ t. user ++ t) (sym (begins_at from cut.begins e)) ∙ cut.whole in
+    let text_is : bytes_eq ((user ++ codes "@") ++ tail rest) text ≡ bytes_eq (tail rest) rest =
+    ap (λ t. bytes_eq t text) (append_assoc user (codes "@") (tail rest)) ∙ ap (bytes_eq (user ++ (64 ∷ tail rest))) (sym whole)
+    ∙ bytes_eq-front user (64 ∷ tail rest) (64 ∷ rest) in
+    ap form e
+    ∙ ap (λ t. t && (is_valid_for users user && tests rest)) text_is
+    ∙ four (bytes_eq (tail rest) rest) (is_valid_for users user) (is_host names (host_before rest)) (option_map_or (is_valid_for digit_set) (port_of (behind_host rest)) true)
+    ∙ ap (λ t. is_valid_for users user && t) (host_lemma names rest)
+    ∙ sym (cond-true _ _ _ e))
+    (λ e. ap form e ∙ host_lemma names text ∙ sym (cond-false _ _ _ e))
+    (cases_Bool (starts 64 from))

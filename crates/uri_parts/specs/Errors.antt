@@ -1,5 +1,5 @@
 -- What a refusal of the parser tells.
-use Rattle.std.specs.Prelude.{ℕ, List, ⊤}
+use Rattle.std.specs.Prelude.{◌≡◌, ℕ, ◌<◌, ◌-◌, List, ⊤, slice_index}
 use Rattle.std.specs.Str.{IsCharBoundary}
 use Rattle.uri_pct.specs.Fronts.{IsStrayPercent}
 use Rattle.uri_parts.specs.declared.error.ParseError.{ParseError}
@@ -12,11 +12,11 @@ index_of e = e.index
 abbrev pub kind_of : ParseError → ParseErrorKind
 kind_of e = e.kind
 
--- what is wrong at the place
+-- what is wrong at the place: an IPv6 address is refused just behind its `[`
 abbrev pub IsFault : List ℕ → ParseErrorKind → ℕ → Type 0
 IsFault text InvalidPctEncodedOctet index = IsStrayPercent text index
 IsFault text UnexpectedChar index = ⊤
-IsFault text InvalidIpv6Addr index = ⊥
+IsFault text InvalidIpv6Addr index = (0 < index) × (slice_index text (index - 1) ≡ 91)
 
 -- the index lies on a character boundary of the text, and the kind says what is wrong there
 pub record IsErrorIn (text : List ℕ) (e : ParseError) : Type 0 where

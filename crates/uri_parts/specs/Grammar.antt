@@ -2,7 +2,7 @@
 use Rattle.std.specs.Prelude.{◌≡◌, ◌==◌, ℕ, Bool, true, false, not, ◌&&◌, ◌||◌, List, codes, slice_index, Option, Some, None, is_some}
 use Rattle.std.specs.List.{list_any}
 use Rattle.std.specs.Char.{is_ascii_alphabetic}
-use Rattle.uri_pct.specs.Sets.{TableSet, scheme_set, userinfo_set, reg_name_set, path_set, query_set, fragment_set}
+use Rattle.uri_pct.specs.Sets.{TableSet, scheme_set, userinfo_set, reg_name_set, path_set, query_set, fragment_set, iuserinfo_set, ireg_name_set, ipath_set, iquery_set, ifragment_set}
 use Rattle.uri_pct.specs.Tokens.{is_valid_for}
 use Rattle.uri_parts.specs.Authority.{is_authority_for}
 use Rattle.uri_parts.specs.Components.{Components, components, before_any}
@@ -26,6 +26,24 @@ uri_ref = record {
   fragment = fragment_set;
   needs_scheme = false;
 }
+
+-- RFC 3986, section 3: a URI is a reference with a scheme
+abbrev pub uri : Kind
+uri = record uri_ref { needs_scheme = true }
+
+-- RFC 3987, section 2.2: an IRI reference, and an IRI
+abbrev pub iri_ref : Kind
+iri_ref = record {
+  userinfo = iuserinfo_set;
+  reg_name = ireg_name_set;
+  path = ipath_set;
+  query = iquery_set;
+  fragment = ifragment_set;
+  needs_scheme = false;
+}
+
+abbrev pub iri : Kind
+iri = record iri_ref { needs_scheme = true }
 
 -- section 3.1: a letter, and then letters, digits, `+`, `-` and `.`
 abbrev pub is_scheme : List ℕ → Bool

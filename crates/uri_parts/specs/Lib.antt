@@ -9,6 +9,8 @@ pub mod Errors
 pub mod Grammar
 pub mod Grammars
 pub mod Hosts
+pub mod HostTexts
+pub mod Literals
 pub mod Positions
 pub mod Readers
 pub mod Reading

@@ -1,12 +1,17 @@
 //! The components of a reference that are more than percent-encoded texts.
-ghost use Rattle.std.specs.Prelude.{◌≡◌, ◌↔◌, IsSome, IfSome, true};
-ghost use Rattle.uri_parts.specs.Authority.{is_authority_for};
+ghost use Rattle.std.specs.Prelude.{◌≡◌, ◌↔◌, IsSome, IfSome, is_some, option_map, true};
+ghost use Rattle.uri_parts.specs.Authority.{authority_parts, is_authority_for};
+ghost use Rattle.uri_parts.specs.Hosts.{host_kind};
 ghost use Rattle.uri_parts.specs.Grammar.{is_scheme};
 ghost use Rattle.uri_parts.specs.Positions.{host_start_of, host_end_of};
 
+use crate::net::{Ipv4Addr, Ipv6Addr};
+use crate::slicing::{after_mark, cut_before};
 use std::alloc::AllocError;
+use std::fmt;
 use std::marker::PhantomData;
-use uri_pct::encoder::{Encoder, RegName, Userinfo};
+use uri_pct::encoder::{Encoder, Port, RegName, Userinfo};
+use uri_pct::pct_enc::EStr;
 use uri_pct::table::SCHEME;
 
 /// A scheme (RFC 3986, section 3.1).
@@ -74,7 +79,9 @@ impl<'a, U: Encoder, R: Encoder> Clone for Authority<'a, U, R> {
 impl<'a, U: Encoder, R: Encoder> Copy for Authority<'a, U, R> {}
 
 impl<'a, U: Encoder, R: Encoder> Authority<'a, U, R> {
+    ghost use Rattle.uri_pct.specs.EStrs.{text_of};
     ghost use Rattle.uri_parts.specs.AuthorityTexts.{authority_text};
+    ghost use Rattle.uri_parts.specs.HostTexts.{host_kind_of, IsNamed};
 
     #[doc(hidden)]
     pub fn new_unchecked(text: &'a str, host_start: usize, host_end: usize) -> Self
@@ -91,6 +98,14 @@ impl<'a, U: Encoder, R: Encoder> Authority<'a, U, R> {
         }
     }
 
+    /// The empty authority: an empty host alone.
+    pub const EMPTY: Authority<'static, U, R> = Authority {
+        text: "",
+        host_start: 0,
+        host_end: 0,
+        encoders: PhantomData,
+    };
+
     /// The text, without the `//` before it, for as long as it was borrowed.
     pub fn as_str(self) -> &'a str
         ensures text { result.now ≡ authority_text self.entry }
@@ -98,4 +113,97 @@ impl<'a, U: Encoder, R: Encoder> Authority<'a, U, R> {
     {
         self.text
     }
+
+    /// The userinfo without its `@`, if there is one (RFC 3986, section 3.2.1).
+    pub fn userinfo(self) -> Option<EStr<'a, U>>
+        ensures { option_map text_of result ≡ (authority_parts (authority_text self.entry)).userinfo }
+    {
+        if self.host_start == 0 {
+            return None;
+        }
+        Some(EStr::new_unchecked(&self.text[..self.host_start - 1]))
+    }
+
+    /// The host, with its brackets where it has some; it may be empty (RFC 3986, section 3.2.2).
+    pub fn host(self) -> &'a str
+        ensures { result.now ≡ (authority_parts (authority_text self.entry)).host }
+    {
+        let text = self.as_str();
+        &text[self.host_start..self.host_end]
+    }
+
+    /// The port without its `:`, if there is one, which may be empty (RFC 3986, section 3.2.3).
+    pub fn port(self) -> Option<EStr<'a, Port>>
+        ensures { option_map text_of result ≡ (authority_parts (authority_text self.entry)).port }
+    {
+        let text = self.as_str();
+        if self.host_end == text.len() {
+            return None;
+        }
+        Some(EStr::new_unchecked(&text[self.host_end + 1..]))
+    }
+
+    /// Whether there is a userinfo.
+    #[tactic(auto, using(crate::proofs::AuthorityPlaces::some_user))]
+    pub fn has_userinfo(self) -> bool
+        ensures { result ≡ is_some (authority_parts (authority_text self.entry)).userinfo }
+    {
+        self.host_start != 0
+    }
+
+    /// Whether there is a port.
+    pub fn has_port(self) -> bool
+        ensures { result ≡ is_some (authority_parts (authority_text self.entry)).port }
+    {
+        let text = self.as_str();
+        self.host_end != text.len()
+    }
+
+    /// The host by its kind: an address with its numbers, or a registered name.
+    pub fn host_parsed(self) -> Host<'a, R>
+        ensures kind { host_kind_of result ≡ host_kind (authority_parts (authority_text self.entry)).host }
+        ensures name { IsNamed result (authority_parts (authority_text self.entry)).host }
+    {
+        let host = self.host();
+        match after_mark(host, b'[') {
+            Some(rest) => {
+                let (address, _) = cut_before(rest, b"]");
+                match Ipv6Addr::read(address) {
+                    Some(address) => Host::Ipv6(address),
+                    None => Host::IpvFuture,
+                }
+            }
+            None => match Ipv4Addr::read(host) {
+                Some(address) => Host::Ipv4(address),
+                None => Host::RegName(EStr::new_unchecked(host)),
+            },
+        }
+    }
 }
+
+impl<'a, U: Encoder, R: Encoder> fmt::Display for Authority<'a, U, R> {
+    ghost use Rattle.std.specs.Prelude.{Some};
+    ghost use Rattle.uri_parts.specs.AuthorityTexts.{authority_text};
+
+    ghost output = { λ a. Some (authority_text a) };
+
+    fn fmt<W: fmt::Write>(&self, f: &mut fmt::Formatter<W>) -> fmt::Result {
+        f.write_str(self.text)
+    }
+}
+
+/// A host (RFC 3986, section 3.2.2), whose registered name is an `N`.
+#[derive(Clone, Copy)]
+pub enum HostOf<N> {
+    /// An IPv4 address.
+    Ipv4(Ipv4Addr),
+    /// An IPv6 address, in brackets.
+    Ipv6(Ipv6Addr),
+    /// An address of a version to come, in brackets.
+    IpvFuture,
+    /// A registered name, which may be empty.
+    RegName(N),
+}
+
+/// A host of an authority over the encoder of its registered names.
+pub type Host<'a, R = RegName> = HostOf<EStr<'a, R>>;

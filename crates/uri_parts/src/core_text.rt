@@ -1,12 +1,10 @@
 //! A text of a kind with the positions of its components: what every value of a kind holds.
-ghost use Rattle.std.specs.Prelude.{◌≡◌, ◌↔◌, IsOk, IfOk, IfErr, is_some, option_map};
+ghost use Rattle.std.specs.Prelude.{◌≡◌, is_some, option_map, Some, true};
 ghost use Rattle.uri_parts.specs.Components.{components};
-ghost use Rattle.uri_parts.specs.Errors.{IsErrorIn};
 ghost use Rattle.uri_parts.specs.Grammar.{IsOfKind};
 ghost use Rattle.uri_parts.specs.Positions.{AreAt};
 
 use crate::component::{Authority, Scheme};
-use crate::error::ParseError;
 use crate::positions::Positions;
 use crate::rules::{Encoders, Rules};
 use std::alloc::AllocError;
@@ -51,6 +49,20 @@ impl<'a, K: Encoders> CoreText<'a, K> {
         }
     }
 
+    /// The text.
+    pub fn as_str(self) -> &'a str
+        ensures { result.now ≡ core_text self.entry }
+    {
+        self.text
+    }
+
+    /// Where its components lie.
+    pub fn positions(self) -> Positions
+        ensures { AreAt (core_text self.entry) result }
+    {
+        self.positions
+    }
+
     /// Whether there is a scheme.
     pub fn has_scheme(self) -> bool
         ensures { result ≡ is_some (components (core_text self.entry)).scheme }
@@ -86,6 +98,17 @@ impl<'a, K: Encoders> CoreText<'a, K> {
         match self.positions.scheme(self.text) {
             Some(scheme) => Some(Scheme::new_unchecked(scheme)),
             None => None,
+        }
+    }
+
+    /// The scheme, of which it is known that there is one.
+    pub fn needed_scheme(self) -> Scheme<'a>
+        requires { is_some (components (core_text self)).scheme ≡ true }
+        ensures { Some (scheme_text result) ≡ (components (core_text self.entry)).scheme }
+    {
+        match self.scheme() {
+            Some(scheme) => scheme,
+            None => unreachable!(),
         }
     }
 

@@ -1,12 +1,15 @@
 //! The tables of a kind.
 ghost use Rattle.std.specs.Prelude.{◌≡◌};
-ghost use Rattle.uri_pct.specs.Sets.{segment_nz_nc_set};
+ghost use Rattle.uri_pct.specs.Sets.{segment_nz_nc_set, isegment_nz_nc_set};
 ghost use Rattle.uri_pct.specs.Tables.{set_of};
-ghost use Rattle.uri_parts.specs.Grammar.{uri_ref};
+ghost use Rattle.uri_parts.specs.Grammar.{uri_ref, iri_ref};
 ghost use Rattle.uri_parts.specs.Grammars.{kind_of};
 
-use uri_pct::encoder::{Encoder, Fragment, Path, Query, RegName, Userinfo};
-use uri_pct::table::{SEGMENT_NZ_NC, Table};
+use uri_pct::encoder::{
+    Encoder, Fragment, IFragment, IPath, IQuery, IRegName, IUserinfo, Path, Query, RegName,
+    Userinfo,
+};
+use uri_pct::table::{ISEGMENT_NZ_NC, SEGMENT_NZ_NC, Table};
 
 /// The tables that tell the kinds apart, and whether a scheme is needed.
 #[doc(hidden)]
@@ -22,11 +25,12 @@ pub struct Grammar {
     pub needs_scheme: bool,
 }
 
-/// The tables of URI references (RFC 3986, section 4.1).
+/// The tables of URIs, where a scheme is needed (RFC 3986, section 3), and else of URI references
+/// (section 4.1).
 #[tactic(auto, using(uri_pct::proofs::Constants::segment_nz_nc_table))]
 #[doc(hidden)]
-pub fn uri_ref_grammar() -> Grammar
-    ensures kind { kind_of result ≡ uri_ref }
+pub fn uri_grammar(needs_scheme: bool) -> Grammar
+    ensures kind { kind_of result ≡ record uri_ref { needs_scheme = needs_scheme } }
     ensures segment { set_of result.segment_nz_nc ≡ segment_nz_nc_set }
 {
     Grammar {
@@ -36,6 +40,24 @@ pub fn uri_ref_grammar() -> Grammar
         segment_nz_nc: SEGMENT_NZ_NC,
         query: Query::table(),
         fragment: Fragment::table(),
-        needs_scheme: false,
+        needs_scheme,
+    }
+}
+
+/// The tables of IRIs, where a scheme is needed, and else of IRI references (RFC 3987, section 2.2).
+#[tactic(auto, using(uri_pct::proofs::Constants::isegment_nz_nc_table))]
+#[doc(hidden)]
+pub fn iri_grammar(needs_scheme: bool) -> Grammar
+    ensures kind { kind_of result ≡ record iri_ref { needs_scheme = needs_scheme } }
+    ensures segment { set_of result.segment_nz_nc ≡ isegment_nz_nc_set }
+{
+    Grammar {
+        userinfo: IUserinfo::table(),
+        reg_name: IRegName::table(),
+        path: IPath::table(),
+        segment_nz_nc: ISEGMENT_NZ_NC,
+        query: IQuery::table(),
+        fragment: IFragment::table(),
+        needs_scheme,
     }
 }

@@ -3,13 +3,13 @@ ghost use Rattle.std.specs.Prelude.{◌≡◌, ◌≤◌, ◌+◌, IfSome, is_so
 ghost use Rattle.uri_pct.specs.Tables.{set_of};
 ghost use Rattle.uri_parts.specs.Authority.{host_before};
 ghost use Rattle.uri_parts.specs.AuthorityReading.{is_literal, is_name, ends_in_port, reads_host_and_port, reads_whole_authority};
-ghost use Rattle.uri_parts.specs.Hosts.{is_ipv_future, ipv4_value, ipv6_value};
 ghost use Rattle.uri_parts.specs.Positions.{host_start_of, host_end_of};
 
-use crate::slicing::{after_mark, cut_before};
 use crate::grammar::Grammar;
-use std::net::{Ipv4Addr, Ipv6Addr};
-use uri_pct::table::{DIGIT, HEXDIG, IPV_FUTURE, Table};
+use crate::literal::is_ipv_future;
+use crate::net::{Ipv4Addr, Ipv6Addr};
+use crate::slicing::{after_mark, cut_before};
+use uri_pct::table::{DIGIT, Table};
 
 /// Where a host begins and ends: byte offsets.
 #[doc(hidden)]
@@ -19,48 +19,13 @@ pub struct HostPlaces {
     pub end: usize,
 }
 
-/// Whether a text is that of an address in a version to come.
-#[doc(hidden)]
-#[tactic(auto, using(uri_pct::proofs::Constants::hexdig_table, uri_pct::proofs::Constants::ipv_future_table, crate::proofs::AuthorityCuts::future_is))]
-pub fn is_ipv_future(text: &str) -> bool
-    ensures { result ≡ is_ipv_future text.now }
-{
-    let Some(rest) = after_mark(text, b'v').or(after_mark(text, b'V')) else {
-        return false;
-    };
-    let (version, behind) = cut_before(rest, b".");
-    let Some(address) = after_mark(behind, b'.') else {
-        return false;
-    };
-    !version.is_empty()
-        && HEXDIG.allows_text(version)
-        && !address.is_empty()
-        && IPV_FUTURE.allows_text(address)
-}
-
-/// Whether a text is that of an IPv6 address.
-#[tactic(auto, using(crate::proofs::AuthorityCuts::ipv6_parses))]
-fn is_ipv6(text: &str) -> bool
-    ensures { result ≡ is_some (ipv6_value text.now) }
-{
-    Ipv6Addr::parse_ascii(text.as_bytes()).is_ok()
-}
-
-/// Whether a text is that of an IPv4 address.
-#[tactic(auto, using(crate::proofs::AuthorityCuts::ipv4_parses))]
-fn is_ipv4(text: &str) -> bool
-    ensures { result ≡ is_some (ipv4_value text.now) }
-{
-    Ipv4Addr::parse_ascii(text.as_bytes()).is_ok()
-}
-
 /// Whether a text may stand between the brackets of a host.
 #[doc(hidden)]
 #[tactic(auto, unfolding(crate::specs::AuthorityReading::is_literal))]
 pub fn is_literal(text: &str) -> bool
     ensures { result ≡ is_literal text.now }
 {
-    is_ipv6(text) || is_ipv_future(text)
+    Ipv6Addr::read(text).is_some() || is_ipv_future(text)
 }
 
 /// Whether a text is a host in no brackets.
@@ -68,7 +33,7 @@ pub fn is_literal(text: &str) -> bool
 fn is_name(table: &Table, text: &str) -> bool
     ensures { result ≡ is_name (set_of table.now) text.now }
 {
-    is_ipv4(text) || table.allows_text(text)
+    Ipv4Addr::read(text).is_some() || table.allows_text(text)
 }
 
 /// Whether nothing is left behind a host, or `:` and a port.

@@ -13,6 +13,8 @@ pub mod grammar;
 pub mod host_places;
 #[doc(hidden)]
 pub mod laws;
+#[doc(hidden)]
+pub mod literal;
 pub mod net;
 #[doc(hidden)]
 pub mod parse;

@@ -2,16 +2,16 @@
 ghost use Rattle.std.specs.Prelude.{◌≡◌, ◌↔◌, ◌+◌, drop, IfErr, IfOk, IsOk, OnOk, is_ok, Some, None};
 ghost use Rattle.uri_pct.specs.Tables.{set_of};
 ghost use Rattle.uri_parts.specs.Errors.{IsErrorIn};
-ghost use Rattle.uri_parts.specs.Grammar.{IsOfKind, uri_ref};
+ghost use Rattle.uri_parts.specs.Grammar.{IsOfKind, uri, uri_ref, iri, iri_ref};
 ghost use Rattle.uri_parts.specs.Grammars.{kind_of};
 ghost use Rattle.uri_parts.specs.Positions.{AreAt};
 ghost use Rattle.uri_parts.specs.Readers.{rest_of, text_of, place_of};
 ghost use Rattle.uri_parts.specs.Reading.{reads_fragment, reads_end, reads_path, finds_authority, found_length, found_authority, reads_authority, reads_relative, reads_hier, reads_schemeless, reads, query_end_at, path_positions, authority_positions, relative_positions, hier_positions, schemeless_positions, read_positions};
 
-use crate::host_places::find_host;
 use crate::error::ParseError;
 use crate::fault::authority_fault;
-use crate::grammar::{Grammar, uri_ref_grammar};
+use crate::grammar::{Grammar, iri_grammar, uri_grammar};
+use crate::host_places::find_host;
 use crate::positions::{AuthorityPositions, Positions};
 use crate::reader::Reader;
 use uri_pct::table::{DIGIT, SCHEME};
@@ -210,12 +210,42 @@ fn read_text(grammar: &Grammar, text: &str) -> Result<Positions, ParseError>
     read_schemeless(&mut reader, grammar)
 }
 
+/// Where the components of a URI lie (RFC 3986, section 3), or why the text is none.
+#[tactic(auto, using(crate::proofs::Texts::reads_of_kind, crate::proofs::ReadPositions::positions_read, crate::proofs::KindLemmas::uri_separates))]
+pub fn parse_uri(text: &str) -> Result<Positions, ParseError>
+    ensures accepts { IsOk result ↔ IsOfKind uri text.now }
+    ensures positions { IfOk result (AreAt text.now) }
+    ensures err { IfErr result (IsErrorIn text.now) }
+{
+    read_text(&uri_grammar(true), text)
+}
+
 /// Where the components of a URI reference lie (RFC 3986, section 4.1), or why the text is none.
-#[tactic(auto, using(crate::proofs::KindLemmas::uri_ref_reads, crate::proofs::KindLemmas::uri_ref_positions))]
+#[tactic(auto, using(crate::proofs::Texts::reads_of_kind, crate::proofs::ReadPositions::positions_read, crate::proofs::KindLemmas::uri_ref_separates))]
 pub fn parse_uri_ref(text: &str) -> Result<Positions, ParseError>
     ensures accepts { IsOk result ↔ IsOfKind uri_ref text.now }
     ensures positions { IfOk result (AreAt text.now) }
     ensures err { IfErr result (IsErrorIn text.now) }
 {
-    read_text(&uri_ref_grammar(), text)
+    read_text(&uri_grammar(false), text)
+}
+
+/// Where the components of an IRI lie (RFC 3987, section 2.2), or why the text is none.
+#[tactic(auto, using(crate::proofs::Texts::reads_of_kind, crate::proofs::ReadPositions::positions_read, crate::proofs::KindLemmas::iri_separates))]
+pub fn parse_iri(text: &str) -> Result<Positions, ParseError>
+    ensures accepts { IsOk result ↔ IsOfKind iri text.now }
+    ensures positions { IfOk result (AreAt text.now) }
+    ensures err { IfErr result (IsErrorIn text.now) }
+{
+    read_text(&iri_grammar(true), text)
+}
+
+/// Where the components of an IRI reference lie (RFC 3987, section 2.2), or why the text is none.
+#[tactic(auto, using(crate::proofs::Texts::reads_of_kind, crate::proofs::ReadPositions::positions_read, crate::proofs::KindLemmas::iri_ref_separates))]
+pub fn parse_iri_ref(text: &str) -> Result<Positions, ParseError>
+    ensures accepts { IsOk result ↔ IsOfKind iri_ref text.now }
+    ensures positions { IfOk result (AreAt text.now) }
+    ensures err { IfErr result (IsErrorIn text.now) }
+{
+    read_text(&iri_grammar(false), text)
 }

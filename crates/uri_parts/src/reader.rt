@@ -2,8 +2,8 @@
 ghost use Rattle.std.specs.Prelude.{◌≡◌, ◌≤◌, ◌<◌, ◌+◌, ◌==◌, not, length, drop, codes, OnOk, IfErr, is_ok, if◌then◌else◌};
 ghost use Rattle.std.specs.Str.{IsCharBoundary};
 
-use crate::slicing::cut_before;
 use crate::error::{ParseError, ParseErrorKind};
+use crate::slicing::cut_before;
 use std::alloc::AllocError;
 use uri_pct::table::Table;
 

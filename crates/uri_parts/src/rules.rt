@@ -7,7 +7,10 @@ ghost use Rattle.uri_parts.specs.Positions.{AreAt};
 use crate::error::ParseError;
 use crate::parse;
 use crate::positions::Positions;
-use uri_pct::encoder::{Encoder, Fragment, Path, PathEncoder, Query, RegName, Userinfo};
+use uri_pct::encoder::{
+    Encoder, Fragment, IFragment, IPath, IQuery, IRegName, IUserinfo, Path, PathEncoder, Query,
+    RegName, Userinfo,
+};
 
 /// The grammar of a kind, with the encoders of its components.
 #[doc(hidden)]
@@ -73,6 +76,44 @@ impl Encoders for UriRefRules {
     type QueryE = Query;
 
     type FragmentE = Fragment;
+
+    ghost userinfo_set = { refl };
+
+    ghost reg_name_set = { refl };
+
+    ghost path_set = { refl };
+
+    ghost query_set = { refl };
+
+    ghost fragment_set = { refl };
+}
+
+/// The grammar of IRI references (RFC 3987, section 2.2).
+#[doc(hidden)]
+pub struct IriRefRules;
+
+impl Rules for IriRefRules {
+    ghost use Rattle.uri_parts.specs.Grammar.{iri_ref};
+
+    ghost kind = { iri_ref };
+
+    fn parse(text: &str) -> Result<Positions, ParseError> {
+        parse::parse_iri_ref(text)
+    }
+}
+
+impl Encoders for IriRefRules {
+    ghost use Rattle.std.specs.Prelude.{refl};
+
+    type UserinfoE = IUserinfo;
+
+    type RegNameE = IRegName;
+
+    type PathE = IPath;
+
+    type QueryE = IQuery;
+
+    type FragmentE = IFragment;
 
     ghost userinfo_set = { refl };
 

@@ -41,5 +41,9 @@ pub fn after_mark(text: &str, mark: u8) -> Option<&str>
     let [first, ..] = text.as_bytes() else {
         return None;
     };
-    if *first == mark { Some(&text[1..]) } else { None }
+    if *first == mark {
+        Some(&text[1..])
+    } else {
+        None
+    }
 }

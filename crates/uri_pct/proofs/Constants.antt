@@ -1,9 +1,9 @@
 -- The constants are the sets of their rules.
-use Rattle.std.proofs.Common.{◌≡◌, ℕ, ◌≤◌, Bool, true, false, refl, arith}
+use Rattle.std.proofs.Common.{◌≡◌, ℕ, ◌≤◌, Bool, true, false, refl, ap, arith}
 use Rattle.std.specs.Char.{is_ascii_alphabetic, is_ascii_digit, is_ascii_hexdigit}
 use Rattle.std.proofs.lemmas.Bool.{agree_below}
 use Rattle.std.proofs.lemmas.Bool.Decides.{nat_tests}
-use Rattle.uri_pct.specs.Sets.{is_unreserved, is_gen_delim, is_sub_delim, is_reserved, is_scheme_char, is_reg_name_char, is_userinfo_char, is_pchar, is_segment_nz_nc_char, is_path_char, is_query_char, alpha_set, digit_set, hexdig_set, scheme_set, userinfo_set, ipv_future_set, reg_name_set, path_set, segment_nz_nc_set, pchar_set, query_set, fragment_set, unreserved_set, reserved_set, gen_delims_set, sub_delims_set}
+use Rattle.uri_pct.specs.Sets.{TableSet, is_unreserved, is_gen_delim, is_sub_delim, is_reserved, is_scheme_char, is_reg_name_char, is_userinfo_char, is_pchar, is_segment_nz_nc_char, is_path_char, is_query_char, alpha_set, digit_set, hexdig_set, scheme_set, userinfo_set, ipv_future_set, reg_name_set, path_set, segment_nz_nc_set, pchar_set, query_set, fragment_set, unreserved_set, reserved_set, gen_delims_set, sub_delims_set, iuserinfo_set, ireg_name_set, ipath_set, isegment_nz_nc_set, iquery_set, ifragment_set}
 use Rattle.uri_pct.specs.Masks.{has_bit}
 use Rattle.uri_pct.proofs.Masks.{has_bit_is}
 use Rattle.uri_pct.proofs.Tables.{same_set, record_set, set_of_masks}
@@ -130,5 +130,27 @@ pub sub_delims_table : set_of_masks 0x28001FD200000000 0x0000000000000000 false 
 unfolding has_bit is_sub_delim
 sub_delims_table = by_masks 0x28001FD200000000 0x0000000000000000 false is_sub_delim refl sub_delim_past
 
+-- an IRI's tables are those of a URI with flags
+flagged : (low high : ℕ) (set : TableSet) (ucschar iprivate : Bool) → set_of_masks low high true false false ≡ set → set_of_masks low high true ucschar iprivate ≡ record set { ucschar = ucschar; iprivate = iprivate }
+flagged low high set ucschar iprivate e = ap (λ (s : TableSet). record s { ucschar = ucschar; iprivate = iprivate }) e
+
+pub iuserinfo_table : set_of_masks 0x2FFF7FD200000000 0x47FFFFFE87FFFFFE true true false ≡ iuserinfo_set
+iuserinfo_table = flagged 0x2FFF7FD200000000 0x47FFFFFE87FFFFFE userinfo_set true false userinfo_table
+
+pub ireg_name_table : set_of_masks 0x2BFF7FD200000000 0x47FFFFFE87FFFFFE true true false ≡ ireg_name_set
+ireg_name_table = flagged 0x2BFF7FD200000000 0x47FFFFFE87FFFFFE reg_name_set true false reg_name_table
+
+pub ipath_table : set_of_masks 0x2FFFFFD200000000 0x47FFFFFE87FFFFFF true true false ≡ ipath_set
+ipath_table = flagged 0x2FFFFFD200000000 0x47FFFFFE87FFFFFF path_set true false path_table
+
+pub isegment_nz_nc_table : set_of_masks 0x2BFF7FD200000000 0x47FFFFFE87FFFFFF true true false ≡ isegment_nz_nc_set
+isegment_nz_nc_table = flagged 0x2BFF7FD200000000 0x47FFFFFE87FFFFFF segment_nz_nc_set true false segment_nz_nc_table
+
+pub iquery_table : set_of_masks 0xAFFFFFD200000000 0x47FFFFFE87FFFFFF true true true ≡ iquery_set
+iquery_table = flagged 0xAFFFFFD200000000 0x47FFFFFE87FFFFFF query_set true true query_table
+
+pub ifragment_table : set_of_masks 0xAFFFFFD200000000 0x47FFFFFE87FFFFFF true true false ≡ ifragment_set
+ifragment_table = flagged 0xAFFFFFD200000000 0x47FFFFFE87FFFFFF fragment_set true false fragment_table
+
 -- each constant is the set of its rule
-pub ruleset constant_tables = (alpha_table, digit_table, hexdig_table, scheme_table, userinfo_table, ipv_future_table, reg_name_table, path_table, segment_nz_nc_table, pchar_table, query_table, fragment_table, unreserved_table, reserved_table, gen_delims_table, sub_delims_table)
+pub ruleset constant_tables = (alpha_table, digit_table, hexdig_table, scheme_table, userinfo_table, ipv_future_table, reg_name_table, path_table, segment_nz_nc_table, pchar_table, query_table, fragment_table, unreserved_table, reserved_table, gen_delims_table, sub_delims_table, iuserinfo_table, ireg_name_table, ipath_table, isegment_nz_nc_table, iquery_table, ifragment_table)

@@ -159,3 +159,25 @@ query_set = encoded is_query_char
 
 abbrev pub fragment_set : TableSet
 fragment_set = encoded is_query_char
+
+-- RFC 3987, section 2.2: the same with the characters of `ucschar`; in a query those of `iprivate` too
+abbrev pub international : TableSet → TableSet
+international set = record set { ucschar = true }
+
+abbrev pub iuserinfo_set : TableSet
+iuserinfo_set = international userinfo_set
+
+abbrev pub ireg_name_set : TableSet
+ireg_name_set = international reg_name_set
+
+abbrev pub isegment_nz_nc_set : TableSet
+isegment_nz_nc_set = international segment_nz_nc_set
+
+abbrev pub ipath_set : TableSet
+ipath_set = international path_set
+
+abbrev pub iquery_set : TableSet
+iquery_set = record (international query_set) { iprivate = true }
+
+abbrev pub ifragment_set : TableSet
+ifragment_set = international fragment_set

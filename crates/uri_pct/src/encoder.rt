@@ -1,4 +1,4 @@
-//! The encoders of a URI's components: which characters and octets each component consists of.
+//! The encoders of the components of URIs and IRIs: which characters and octets each consists of.
 ghost use Rattle.std.specs.Prelude.{◌≡◌};
 
 use crate::table::{self, Table};
@@ -110,5 +110,82 @@ impl Encoder for Fragment {
     #[tactic(auto, using(crate::proofs::Constants::fragment_table))]
     fn table() -> Table {
         table::FRAGMENT
+    }
+}
+
+/// The encoder of an IRI's userinfo (RFC 3987, section 2.2).
+#[derive(Clone, Copy)]
+pub struct IUserinfo;
+
+impl Encoder for IUserinfo {
+    ghost use Rattle.uri_pct.specs.Sets.{iuserinfo_set};
+
+    ghost set = { iuserinfo_set };
+
+    #[tactic(auto, using(crate::proofs::Constants::iuserinfo_table))]
+    fn table() -> Table {
+        table::IUSERINFO
+    }
+}
+
+/// The encoder of an IRI's registered name (RFC 3987, section 2.2).
+#[derive(Clone, Copy)]
+pub struct IRegName;
+
+impl Encoder for IRegName {
+    ghost use Rattle.uri_pct.specs.Sets.{ireg_name_set};
+
+    ghost set = { ireg_name_set };
+
+    #[tactic(auto, using(crate::proofs::Constants::ireg_name_table))]
+    fn table() -> Table {
+        table::IREG_NAME
+    }
+}
+
+/// The encoder of an IRI's path (RFC 3987, section 2.2).
+#[derive(Clone, Copy)]
+pub struct IPath;
+
+impl Encoder for IPath {
+    ghost use Rattle.uri_pct.specs.Sets.{ipath_set};
+
+    ghost set = { ipath_set };
+
+    #[tactic(auto, using(crate::proofs::Constants::ipath_table))]
+    fn table() -> Table {
+        table::IPATH
+    }
+}
+
+impl PathEncoder for IPath {}
+
+/// The encoder of an IRI's query (RFC 3987, section 2.2).
+#[derive(Clone, Copy)]
+pub struct IQuery;
+
+impl Encoder for IQuery {
+    ghost use Rattle.uri_pct.specs.Sets.{iquery_set};
+
+    ghost set = { iquery_set };
+
+    #[tactic(auto, using(crate::proofs::Constants::iquery_table))]
+    fn table() -> Table {
+        table::IQUERY
+    }
+}
+
+/// The encoder of an IRI's fragment (RFC 3987, section 2.2).
+#[derive(Clone, Copy)]
+pub struct IFragment;
+
+impl Encoder for IFragment {
+    ghost use Rattle.uri_pct.specs.Sets.{ifragment_set};
+
+    ghost set = { ifragment_set };
+
+    #[tactic(auto, using(crate::proofs::Constants::ifragment_table))]
+    fn table() -> Table {
+        table::IFRAGMENT
     }
 }

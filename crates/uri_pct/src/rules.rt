@@ -1,11 +1,12 @@
 //! Laws of the constants: a contract names such a value only where a function returns it.
 ghost use Rattle.std.specs.Prelude.{◌≡◌};
-ghost use Rattle.uri_pct.specs.Sets.{alpha_set, digit_set, hexdig_set, scheme_set, userinfo_set, ipv_future_set, reg_name_set, path_set, segment_nz_nc_set, pchar_set, query_set, fragment_set, unreserved_set, reserved_set, gen_delims_set, sub_delims_set};
+ghost use Rattle.uri_pct.specs.Sets.{alpha_set, digit_set, hexdig_set, scheme_set, userinfo_set, ipv_future_set, reg_name_set, path_set, segment_nz_nc_set, pchar_set, query_set, fragment_set, unreserved_set, reserved_set, gen_delims_set, sub_delims_set, iuserinfo_set, ireg_name_set, ipath_set, isegment_nz_nc_set, iquery_set, ifragment_set};
 ghost use Rattle.uri_pct.specs.Tables.{set_of};
 
 use crate::table::{
-    ALPHA, DIGIT, FRAGMENT, GEN_DELIMS, HEXDIG, IPV_FUTURE, PATH, PCHAR, QUERY, REG_NAME, RESERVED,
-    SCHEME, SEGMENT_NZ_NC, SUB_DELIMS, Table, UNRESERVED, USERINFO,
+    ALPHA, DIGIT, FRAGMENT, GEN_DELIMS, HEXDIG, IFRAGMENT, IPATH, IPV_FUTURE, IQUERY, IREG_NAME,
+    ISEGMENT_NZ_NC, IUSERINFO, PATH, PCHAR, QUERY, REG_NAME, RESERVED, SCHEME, SEGMENT_NZ_NC,
+    SUB_DELIMS, Table, UNRESERVED, USERINFO,
 };
 
 /// A table for each rule that has one.
@@ -26,6 +27,12 @@ pub struct Rules {
     pub reserved: Table,
     pub gen_delims: Table,
     pub sub_delims: Table,
+    pub iuserinfo: Table,
+    pub ireg_name: Table,
+    pub ipath: Table,
+    pub isegment_nz_nc: Table,
+    pub iquery: Table,
+    pub ifragment: Table,
 }
 
 /// The constants, each under the name of its rule: it is the set of that rule.
@@ -47,6 +54,12 @@ pub fn constants() -> Rules
     ensures reserved { set_of result.reserved ≡ reserved_set }
     ensures gen_delims { set_of result.gen_delims ≡ gen_delims_set }
     ensures sub_delims { set_of result.sub_delims ≡ sub_delims_set }
+    ensures iuserinfo { set_of result.iuserinfo ≡ iuserinfo_set }
+    ensures ireg_name { set_of result.ireg_name ≡ ireg_name_set }
+    ensures ipath { set_of result.ipath ≡ ipath_set }
+    ensures isegment_nz_nc { set_of result.isegment_nz_nc ≡ isegment_nz_nc_set }
+    ensures iquery { set_of result.iquery ≡ iquery_set }
+    ensures ifragment { set_of result.ifragment ≡ ifragment_set }
 {
     Rules {
         alpha: ALPHA,
@@ -65,5 +78,11 @@ pub fn constants() -> Rules
         reserved: RESERVED,
         gen_delims: GEN_DELIMS,
         sub_delims: SUB_DELIMS,
+        iuserinfo: IUSERINFO,
+        ireg_name: IREG_NAME,
+        ipath: IPATH,
+        isegment_nz_nc: ISEGMENT_NZ_NC,
+        iquery: IQUERY,
+        ifragment: IFRAGMENT,
     }
 }

@@ -315,6 +315,60 @@ pub const SUB_DELIMS: Table = Table {
     iprivate: false,
 };
 
+/// What `iuserinfo = *( iunreserved / pct-encoded / sub-delims / ":" )` consists of (RFC 3987, section 2.2).
+pub const IUSERINFO: Table = Table {
+    low: 0x2FFF_7FD2_0000_0000,
+    high: 0x47FF_FFFE_87FF_FFFE,
+    pct_encoded: true,
+    ucschar: true,
+    iprivate: false,
+};
+
+/// What `ireg-name = *( iunreserved / pct-encoded / sub-delims )` consists of (RFC 3987, section 2.2).
+pub const IREG_NAME: Table = Table {
+    low: 0x2BFF_7FD2_0000_0000,
+    high: 0x47FF_FFFE_87FF_FFFE,
+    pct_encoded: true,
+    ucschar: true,
+    iprivate: false,
+};
+
+/// What a path of an IRI consists of: `ipchar / "/"` (RFC 3987, section 2.2).
+pub const IPATH: Table = Table {
+    low: 0x2FFF_FFD2_0000_0000,
+    high: 0x47FF_FFFE_87FF_FFFF,
+    pct_encoded: true,
+    ucschar: true,
+    iprivate: false,
+};
+
+/// What `isegment-nz-nc = 1*( iunreserved / pct-encoded / sub-delims / "@" )` consists of (RFC 3987, section 2.2).
+pub const ISEGMENT_NZ_NC: Table = Table {
+    low: 0x2BFF_7FD2_0000_0000,
+    high: 0x47FF_FFFE_87FF_FFFF,
+    pct_encoded: true,
+    ucschar: true,
+    iprivate: false,
+};
+
+/// What `iquery = *( ipchar / iprivate / "/" / "?" )` consists of (RFC 3987, section 2.2).
+pub const IQUERY: Table = Table {
+    low: 0xAFFF_FFD2_0000_0000,
+    high: 0x47FF_FFFE_87FF_FFFF,
+    pct_encoded: true,
+    ucschar: true,
+    iprivate: true,
+};
+
+/// What `ifragment = *( ipchar / "/" / "?" )` consists of (RFC 3987, section 2.2).
+pub const IFRAGMENT: Table = Table {
+    low: 0xAFFF_FFD2_0000_0000,
+    high: 0x47FF_FFFE_87FF_FFFF,
+    pct_encoded: true,
+    ucschar: true,
+    iprivate: false,
+};
+
 #[cfg(test)]
 mod tests {
     use super::{ALPHA, DIGIT, UNRESERVED};

@@ -14,5 +14,5 @@ invariant_of-self c =
     let rest = drop place text in
     let cut = mark_boundary (codes "/?#") (ascii_marks (codes "/?#") refl) rest in
     let same : to_mark (codes "/?#") rest ≡ length c.cut_before.result.0.now =
-      sym (length-before (codes "/?#") rest) ∙ ap length (sym (c.cut_before.ensures.before ∙ ap (λ t. before_any (codes "/?#") t) c.range_from.ensures.value)) in
+    sym (length-before (codes "/?#") rest) ∙ ap length (sym (c.cut_before.ensures.before ∙ ap (λ t. before_any (codes "/?#") t) c.range_from.ensures.value)) in
     record { boundary = IsCharBoundary-from_rest text place (length c.cut_before.result.0.now) (omega arith) (subst (IsCharBoundary rest) same cut) }

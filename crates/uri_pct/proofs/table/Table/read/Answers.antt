@@ -1,8 +1,8 @@
-use Rattle.std.proofs.Common.{◌≡◌, ℕ, ◌+◌, ◌<◌, ◌≤◌, Bool, true, false, cond, eqb, length, drop, get_or, arith, rules, ◌&&◌, ◌++◌, encode_utf8, sym, ◌∙◌, ap}
+use Rattle.std.proofs.Common.{◌≡◌, ◌+◌, ◌<◌, true, false, length, drop, get_or, arith, rules, ◌++◌, encode_utf8, sym, ◌∙◌}
 use Rattle.std.proofs.lemmas.Bool.{and_left, and_right, ne_eqb, cond-true, cond-false}
 use Rattle.std.proofs.lemmas.Str.{IsCharBoundary-after_ascii, IsCharBoundary-past_char, IsUtf8-drop}
 use Rattle.std.specs.Char.{len_utf8}
-use Rattle.uri_pct.specs.Sets.{TableSet, allows_past_ascii}
+use Rattle.uri_pct.specs.Sets.{allows_past_ascii}
 use Rattle.uri_pct.specs.Fronts.{front, has_digits}
 use Rattle.uri_pct.specs.Tables.{set_of}
 use Rattle.uri_pct.proofs.Fronts.{front-end, front-char, front-stop, front-stray, front-octet, front-past-at, digits-ascii}

@@ -1,0 +1,6 @@
+use Rattle.std.specs.Prelude.{ℕ, List}
+use Rattle.fluent_uri.specs.declared.iri_ref.IriRef.{IriRef}
+
+-- the text of a value
+abbrev pub iri_ref_text : {T : _} {g : _} → IriRef T g → List ℕ
+iri_ref_text {g = g} value = g.text value.text

@@ -1,0 +1,101 @@
+//! What the four kinds have in common.
+ghost use Rattle.std.specs.Prelude.{◌≡◌, IfOk, false, string_bytes};
+ghost use Rattle.uri_parts.specs.CoreTexts.{core_text};
+ghost use Rattle.uri_parts.specs.Grammar.{IsOfKind};
+ghost use Rattle.uri_parts.specs.Positions.{AreAt};
+
+use std::alloc::{AllocError, Global};
+use uri_parts::core_text::CoreText;
+use uri_parts::positions::Positions;
+use uri_parts::rules::Encoders;
+use uri_pct::encoder::{Encoder, PathEncoder};
+
+/// A URI, a URI reference, an IRI or an IRI reference, over borrowed or owned text.
+///
+/// It is implemented for the four kinds alone. Its encoders are those of the kind's components
+/// (RFC 3986, section 3; RFC 3987, section 2.2).
+pub trait RiMaybeRef {
+    ghost use Rattle.std.specs.Prelude.{ℕ, List};
+    ghost use Rattle.uri_parts.specs.Grammar.{Kind};
+
+    /// The kind over a text of its own.
+    type Owned: Drop;
+
+    /// The encoder of userinfo.
+    type UserinfoE: Encoder;
+
+    /// The encoder of registered names.
+    type RegNameE: Encoder;
+
+    /// The encoder of paths.
+    type PathE: PathEncoder;
+
+    /// The encoder of queries.
+    type QueryE: Encoder;
+
+    /// The encoder of fragments.
+    type FragmentE: Encoder;
+
+    #[doc(hidden)]
+    type Rules: Encoders;
+
+    ghost kind: { Kind };
+
+    ghost text: { Self → List ℕ };
+
+    ghost owned_text: { Self.Owned → List ℕ };
+
+    /// The text as it stands.
+    fn as_str(&self) -> &str
+        ensures text { result.now ≡ text self.now }
+        ensures of_kind { IsOfKind kind result.now };
+
+    /// The text with the positions of its components.
+    #[doc(hidden)]
+    fn core(&self) -> CoreText<'_, Self::Rules>
+        ensures text { core_text result ≡ text self.now }
+        ensures of_kind { IsOfKind kind (text self.now) };
+
+    /// The value whose text this is, with the positions of its own components.
+    #[doc(hidden)]
+    fn make_owned(owned: String, positions: Positions) -> Self::Owned
+        requires of_kind { IsOfKind kind (string_bytes owned) }
+        requires at { AreAt (string_bytes owned) positions }
+        ensures { owned_text result ≡ string_bytes owned };
+
+    ghost rules_of_kind: { Self.Rules.kind ≡ record kind { needs_scheme = false } };
+
+    ghost userinfo_set: { Self.UserinfoE.set ≡ kind.userinfo };
+
+    ghost reg_name_set: { Self.RegNameE.set ≡ kind.reg_name };
+
+    ghost path_set: { Self.PathE.set ≡ kind.path };
+
+    ghost query_set: { Self.QueryE.set ≡ kind.query };
+
+    ghost fragment_set: { Self.FragmentE.set ≡ kind.fragment };
+}
+
+/// A kind whose texts have a scheme: a URI or an IRI.
+pub trait Ri: RiMaybeRef {
+    ghost use Rattle.std.specs.Prelude.{true};
+
+    ghost needs_scheme: { Self.kind.needs_scheme ≡ true };
+}
+
+/// A kind of reference that is resolved against `B`: of URIs, or of IRIs.
+pub trait RefOf<B: Ri>: RiMaybeRef {
+    ghost use Rattle.std.specs.Prelude.{false};
+
+    ghost same_tables: { Self.kind ≡ record B.kind { needs_scheme = false } };
+}
+
+/// A copy of the value in memory of its own.
+#[doc(hidden)]
+pub fn copied<R: RiMaybeRef>(alloc: Global, value: &R) -> Result<R::Owned, AllocError>
+    ensures { IfOk result (λ copy. R.owned_text copy ≡ R.text value.now) }
+{
+    let core = value.core();
+    let text = String::from_str(alloc, core.as_str())?;
+    Ok(R::make_owned(text, core.positions()))
+}

@@ -1,0 +1,42 @@
+use Rattle.std.proofs.Common.{◌≡◌, ℕ, ◌∙◌, List, ap, sym, true, false, Some, None, Bool, drop}
+use Rattle.std.specs.Prelude.{codes, option_map, is_some}
+use Rattle.uri_parts.specs.Addresses.{ipv4_octets, ipv6_segments}
+use Rattle.uri_parts.specs.Authority.{authority_parts}
+use Rattle.uri_parts.specs.Components.{starts, before_any}
+use Rattle.uri_parts.specs.Hosts.{host_kind, ipv4_value, ipv6_value}
+use Rattle.uri_parts.proofs.AuthorityPlaces.{holds, name_valid, name_kind_of, literal_kind_of}
+use Rattle.uri_parts.proofs.component.Authority.host_parsed.Goals as goal
+
+pub new_unchecked-requires : goal.new_unchecked-requires
+new_unchecked-requires g c =
+    let host = c.host-host.result.now in
+    let s : starts 91 host ≡ false = sym c.in-None.ensures.begins in
+    let v : ipv4_value host ≡ None = sym c.in-None-read-2.ensures in
+    let w = (holds g.U.Encoder.set g.R.Encoder.set c.args.self.text.now c.args.self.valid).host in
+    name_valid g.R.Encoder.set host (rw c.host-host.ensures w) s v
+
+pub returns-in-Some-read-clause-kind : goal.returns-in-Some-read-clause-kind
+returns-in-Some-read-clause-kind g c =
+    let host = c.host-host.result.now in
+    let s : starts 91 host ≡ true = sym c.in-Some.ensures.begins in
+    let a : c.cut_before.result.0.now ≡ before_any (codes "]") (drop 1 host) = c.cut_before.ensures.before ∙ ap (before_any (codes "]")) c.in-Some.ensures.rest in
+    literal_kind_of host c.cut_before.result.0.now (Some (ipv6_segments c.in-Some-read.address)) s a c.in-Some-read.ensures ∙ ap host_kind c.host-host.ensures
+
+pub returns-in-None-read-clause-kind : goal.returns-in-None-read-clause-kind
+returns-in-None-read-clause-kind g c =
+    let host = c.host-host.result.now in
+    let s : starts 91 host ≡ true = sym c.in-Some.ensures.begins in
+    let a : c.cut_before.result.0.now ≡ before_any (codes "]") (drop 1 host) = c.cut_before.ensures.before ∙ ap (before_any (codes "]")) c.in-Some.ensures.rest in
+    literal_kind_of host c.cut_before.result.0.now None s a c.in-None-read.ensures ∙ ap host_kind c.host-host.ensures
+
+pub returns-in-Some-read-2-clause-kind : goal.returns-in-Some-read-2-clause-kind
+returns-in-Some-read-2-clause-kind g c =
+    let host = c.host-host.result.now in
+    let s : starts 91 host ≡ false = sym c.in-None.ensures.begins in
+    name_kind_of host (Some (ipv4_octets c.in-Some-read-2.address)) s c.in-Some-read-2.ensures ∙ ap host_kind c.host-host.ensures
+
+pub returns-in-None-read-2-clause-kind : goal.returns-in-None-read-2-clause-kind
+returns-in-None-read-2-clause-kind g c =
+    let host = c.host-host.result.now in
+    let s : starts 91 host ≡ false = sym c.in-None.ensures.begins in
+    name_kind_of host None s c.in-None-read-2.ensures ∙ ap host_kind c.host-host.ensures

@@ -1,0 +1,21 @@
+use Rattle.std.specs.Prelude.{◌≡◌, ℕ, List, ⊤}
+use Rattle.uri_pct.specs.declared.pct_enc.EStr.{EStr}
+use Rattle.uri_pct.specs.EStrs.{text_of}
+use Rattle.uri_parts.specs.declared.component.HostOf.{HostOf}
+use Rattle.uri_parts.specs.declared.component.HostOf.TheVariants as Of
+use Rattle.uri_parts.specs.Addresses.{ipv4_octets, ipv6_segments}
+use Rattle.uri_parts.specs.Hosts as Hosts
+
+-- which host it is, an address with its numbers
+abbrev pub host_kind_of : {N : Type 0} → HostOf N → Hosts.HostKind
+host_kind_of (Of.Ipv4 a) = Hosts.Ipv4 (ipv4_octets a)
+host_kind_of (Of.Ipv6 a) = Hosts.Ipv6 (ipv6_segments a)
+host_kind_of Of.IpvFuture = Hosts.IpvFuture
+host_kind_of (Of.RegName name) = Hosts.RegName
+
+-- a registered name has this text
+abbrev pub IsNamed : {R : _} {g : _} → HostOf (EStr R g) → List ℕ → Type 0
+IsNamed (Of.Ipv4 a) text = ⊤
+IsNamed (Of.Ipv6 a) text = ⊤
+IsNamed Of.IpvFuture text = ⊤
+IsNamed (Of.RegName name) text = text_of name ≡ text

@@ -1,0 +1,38 @@
+-- What the parser reads of an address in brackets, behind the `[`: RFC 3986, section 3.2.2.
+use Rattle.std.specs.Prelude.{◌≡◌, ℕ, ◌+◌, Bool, ◌&&◌, ◌||◌, List, length, codes, is_some, ⊤}
+use Rattle.std.specs.Str.{IsCharBoundary}
+use Rattle.uri_parts.specs.declared.error.ParseError.{ParseError}
+use Rattle.uri_parts.specs.declared.error.ParseErrorKind.{ParseErrorKind}
+use Rattle.uri_parts.specs.declared.error.ParseErrorKind.TheVariants.{InvalidPctEncodedOctet, UnexpectedChar, InvalidIpv6Addr}
+use Rattle.uri_parts.specs.declared.literal.Literal.{Literal}
+use Rattle.uri_parts.specs.declared.literal.Literal.TheVariants as Lit
+use Rattle.uri_parts.specs.Addresses.{ipv6_segments}
+use Rattle.uri_parts.specs.Components.{starts, before_any, from_any}
+use Rattle.uri_parts.specs.Hosts.{HostKind, Ipv6, IpvFuture, ipv6_value, is_ipv_future}
+
+-- the text before the first `]`
+abbrev pub literal_before : List ℕ → List ℕ
+literal_before rest = before_any (codes "]") rest
+
+-- an address and `]` come first
+unfoldable pub reads_literal : List ℕ → Bool
+reads_literal rest = starts 93 (from_any (codes "]") rest) && (is_some (ipv6_value (literal_before rest)) || is_ipv_future (literal_before rest))
+
+-- the length of both
+unfoldable pub literal_length : List ℕ → ℕ
+literal_length rest = length (literal_before rest) + 1
+
+abbrev pub kind_of_literal : Literal → HostKind
+kind_of_literal (Lit.Ipv6 address) = Ipv6 (ipv6_segments address)
+kind_of_literal Lit.IpvFuture = IpvFuture
+
+-- an IPv6 address is refused where it begins
+abbrev pub IsLiteralFault : ℕ → ParseErrorKind → ℕ → Type 0
+IsLiteralFault start InvalidPctEncodedOctet index = ⊥
+IsLiteralFault start UnexpectedChar index = ⊤
+IsLiteralFault start InvalidIpv6Addr index = index ≡ start
+
+-- the refusal of what begins there
+pub record IsLiteralRefusal (text : List ℕ) (start : ℕ) (e : ParseError) : Type 0 where
+  pub boundary : IsCharBoundary text e.index
+  pub fault : IsLiteralFault start e.kind e.index

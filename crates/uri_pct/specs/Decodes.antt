@@ -1,0 +1,21 @@
+use Rattle.std.specs.Prelude.{ℕ, List}
+use Rattle.uri_pct.specs.Chunks.{Chunk, Text, Byte, chunks}
+use Rattle.uri_pct.specs.Tokens.{tokens, token_bytes}
+use Rattle.uri_pct.specs.declared.decode.Decode.{Decode}
+use Rattle.uri_pct.specs.declared.decode.DecodedChunk.{DecodedChunk}
+use Rattle.uri_pct.specs.declared.decode.DecodedChunk.TheVariants.{Unencoded, PctDecoded}
+
+-- what an item stands for
+abbrev pub chunk_of : DecodedChunk → Chunk
+chunk_of (Unencoded text) = Text text.now
+chunk_of (PctDecoded value) = Byte value
+
+-- the text that is left to decode, its chunks, and what it decodes to
+abbrev pub undecoded : Decode → List ℕ
+undecoded d = d.rest.now
+
+abbrev pub chunks_left : Decode → List Chunk
+chunks_left d = chunks (undecoded d)
+
+abbrev pub decoded : Decode → List ℕ
+decoded d = token_bytes (tokens (undecoded d))
