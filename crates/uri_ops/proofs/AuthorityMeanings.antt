@@ -49,10 +49,10 @@ keeps_apart kind sets = record {
 }
 
 -- the parts of an authority in UTF-8 are
-record PartsUtf8 (p : AuthorityParts) : Type 0 where
-  userinfo : IfSome p.userinfo IsUtf8
-  host : IsUtf8 p.host
-  port : IfSome p.port IsUtf8
+pub record PartsUtf8 (p : AuthorityParts) : Type 0 where
+  pub userinfo : IfSome p.userinfo IsUtf8
+  pub host : IsUtf8 p.host
+  pub port : IfSome p.port IsUtf8
 
 utf8_behind : (host : List ℕ) (port : Option (List ℕ)) → IsUtf8 (host ++ marked (codes ":") port []) → IsUtf8 host × IfSome port IsUtf8
 utf8_behind host None u = (subst IsUtf8 (append-nil host) u, tt)
@@ -60,7 +60,7 @@ utf8_behind host (Some digits) u =
     let apart = utf8_apart host 58 (digits ++ []) (omega arith) u in
     (apart.0, subst IsUtf8 (append-nil digits) apart.1)
 
-utf8_parts : (userinfo port : Option (List ℕ)) (host : List ℕ) → IsUtf8 (marked [] userinfo (codes "@") ++ (host ++ marked (codes ":") port [])) → PartsUtf8 (record { userinfo = userinfo; host = host; port = port })
+pub utf8_parts : (userinfo port : Option (List ℕ)) (host : List ℕ) → IsUtf8 (marked [] userinfo (codes "@") ++ (host ++ marked (codes ":") port [])) → PartsUtf8 (record { userinfo = userinfo; host = host; port = port })
 utf8_parts None port host u = let behind = utf8_behind host port u in record { userinfo = tt; host = behind.0; port = behind.1 }
 utf8_parts (Some user) port host u =
     let apart = utf8_apart user 64 (host ++ marked (codes ":") port []) (omega arith) (subst IsUtf8 (append_assoc user (codes "@") (host ++ marked (codes ":") port [])) u) in
@@ -106,11 +106,11 @@ lacks_text p user host port =
     (lacks_append (codes "/?#") p.host (marked (codes ":") p.port []) host (lacks_port p.port port))
 
 -- a part that may be absent
-each_some : (o : Option (List ℕ)) (P Q : List ℕ → Type 0) → ((x : List ℕ) → P x → Q x) → IfSome o P → IfSome o Q
+pub each_some : (o : Option (List ℕ)) (P Q : List ℕ → Type 0) → ((x : List ℕ) → P x → Q x) → IfSome o P → IfSome o Q
 each_some None P Q f h = tt
 each_some (Some x) P Q f h = f x h
 
-two_some : (o : Option (List ℕ)) (P Q R : List ℕ → Type 0) → ((x : List ℕ) → P x → Q x → R x) → IfSome o P → IfSome o Q → IfSome o R
+pub two_some : (o : Option (List ℕ)) (P Q R : List ℕ → Type 0) → ((x : List ℕ) → P x → Q x → R x) → IfSome o P → IfSome o Q → IfSome o R
 two_some None P Q R f p q = tt
 two_some (Some x) P Q R f p q = f x p q
 

@@ -24,7 +24,7 @@ use Rattle.uri_ops.proofs.Segments.{Passes, cleaned, parent}
 use Rattle.uri_ops.proofs.Slashed.{slashed, NoSlashes, first_lacks, remove_slashed, underflows_slashed, directory_slashed}
 use Rattle.uri_ops.proofs.DotLaws.{by_segments, rooted}
 use Rattle.uri_ops.proofs.Characters.{lacks_test, test_lacks}
-use Rattle.uri_ops.proofs.Lacking.{has, has_lacks, lacks_has}
+use Rattle.uri_ops.proofs.Lacking.{has_lacks, lacks_has}
 use Rattle.uri_ops.proofs.SegmentMaps.{KeepsDots, cleaned_map, parent_map, sinks_map}
 use Rattle.uri_ops.proofs.DotBytes.{same_single_dot, same_double_dot}
 use Rattle.uri_ops.proofs.ReadStarts.{authority_slash, no_authority_first}
@@ -169,7 +169,6 @@ keeps s e =
     record { single = same_single_dot (encoded_text s) s v u same; double = same_double_dot (encoded_text s) s v u same }
 
 no_slash : (s : List ℕ) → is_utf8 s ≡ true → has_slash s ≡ false → has_slash (encoded_text s) ≡ false
-unfolding has
 no_slash s e f = has_lacks 47 (encoded_text s) (lacks_test (codes "/") (encoded_text s) (Lacks-encoded (codes "/") refl s (IsUtf8-from_is_utf8 s e) (test_lacks (codes "/") s (lacks_has 47 s f))))
 
 no_slashes : (segs : List (List ℕ)) → Passes is_utf8 segs → NoSlashes segs → NoSlashes (map encoded_text segs)

@@ -63,7 +63,7 @@ address_plain : (c : ℕ) → is_address_char c ≡ true → ltb c 128 ≡ true
 unfolding is_address_char
 address_plain c e = grind (arith, nat_tests)
 
-plain_addresses : (text : List ℕ) → list_all is_address_char text ≡ true → list_all (is_plain_char is_address_char) text ≡ true
+pub plain_addresses : (text : List ℕ) → list_all is_address_char text ≡ true → list_all (is_plain_char is_address_char) text ≡ true
 plain_addresses [] e = refl
 plain_addresses (c ∷ text) e =
     let p = and_parts (is_address_char c) (list_all is_address_char text) e in
@@ -100,11 +100,11 @@ dot_userinfo : is_plain_char is_userinfo_char 46 ≡ true
 unfolding is_userinfo_char is_reg_name_char is_unreserved is_sub_delim
 dot_userinfo = refl
 
-record PlainParts (text : List ℕ) (h : IsIpvFuture text) : Type 0 where
-  version : list_all (is_plain_char is_ascii_hexdigit) h.version ≡ true
-  address : list_all (is_plain_char is_userinfo_char) h.address ≡ true
+pub record PlainParts (text : List ℕ) (h : IsIpvFuture text) : Type 0 where
+  pub version : list_all (is_plain_char is_ascii_hexdigit) h.version ≡ true
+  pub address : list_all (is_plain_char is_userinfo_char) h.address ≡ true
 
-plain_future : (text : List ℕ) → IsUtf8 text → (h : IsIpvFuture text) → PlainParts text h
+pub plain_future : (text : List ℕ) → IsUtf8 text → (h : IsIpvFuture text) → PlainParts text h
 plain_future text u h =
     let tail : List ℕ = h.version ++ 46 ∷ h.address in
     let low : h.letter < 128 = ltb-true h.letter 128 (and_parts (ltb h.letter 128) (is_userinfo_char h.letter) (letter_userinfo h.letter h.is_v)).0 in
@@ -114,7 +114,7 @@ plain_future text u h =
       address = sym (valid_plain is_userinfo_char no_percent h.address apart.1) ∙ h.address_chars.1;
     }
 
-future_chars : (text : List ℕ) (h : IsIpvFuture text) → PlainParts text h → list_all (is_plain_char is_userinfo_char) text ≡ true
+pub future_chars : (text : List ℕ) (h : IsIpvFuture text) → PlainParts text h → list_all (is_plain_char is_userinfo_char) text ≡ true
 future_chars text h w =
     ap (list_all (is_plain_char is_userinfo_char)) h.whole
     ∙ and_from _ _ (letter_userinfo h.letter h.is_v) (list_all-append (is_plain_char is_userinfo_char) h.version (46 ∷ h.address)
@@ -150,7 +150,7 @@ four_fit a b c d p q r s (suc (suc (suc zero))) = s
 four_fit a b c d p q r s (suc (suc (suc (suc k)))) = omega arith
 
 -- an IPv4 address is digits and dots
-ipv4_chars : (text octets : List ℕ) → IsDotted text octets → All IsDigitOrDot text
+pub ipv4_chars : (text octets : List ℕ) → IsDotted text octets → All IsDigitOrDot text
 ipv4_chars text octets h =
     subst (All IsDigitOrDot) (sym h.spelled) (All-ipv4_text (h.a ∷ h.b ∷ h.c ∷ h.d ∷ []) (four_fit h.a h.b h.c h.d h.fit.0 h.fit.1 h.fit.2 h.fit.3))
 
@@ -159,11 +159,11 @@ module _ (names : TableSet) (w : IsComponentSet (codes "/?#[]@:") names) (apart 
   outside = excludes_front (codes "/?#") (codes "[]@:") names (ends_outside (codes "/?#[]@:") names refl w.ends)
 
   -- a name, or an IPv4 address, which is one of its texts
-  name_meaning : (text : List ℕ) (value : Option (List ℕ)) → host_meaning names text (name_kind value) ≡ Name (map lower_token (read names text))
+  pub name_meaning : (text : List ℕ) (value : Option (List ℕ)) → host_meaning names text (name_kind value) ≡ Name (map lower_token (read names text))
   name_meaning text None = refl
   name_meaning text (Some octets) = refl
 
-  at_name : (text : List ℕ) → starts 91 text ≡ false → is_valid_for names text ≡ true → (host_kind text ≡ name_kind (ipv4_value text)) × (is_host names text ≡ true)
+  pub at_name : (text : List ℕ) → starts 91 text ≡ false → is_valid_for names text ≡ true → (host_kind text ≡ name_kind (ipv4_value text)) × (is_host names text ≡ true)
   unfolding host_kind is_host
   at_name text e valid = (cond-false _ _ _ e, cond-false _ _ _ e ∙ or_right _ _ valid)
 

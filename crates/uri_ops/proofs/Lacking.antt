@@ -28,7 +28,8 @@ part_lacks marks set lacks outside text e =
 abbrev pub without : ℕ → TableSet → TableSet
 without m set = record { ascii = λ c. not (eqb c m) && set.ascii c; pct_encoded = set.pct_encoded; ucschar = set.ucschar; iprivate = set.iprivate }
 
-unfoldable pub has : ℕ → List ℕ → Bool
+-- the text has the character
+abbrev pub has : ℕ → List ℕ → Bool
 has m text = list_any (λ c. eqb c m) text
 
 allows_without : (m : ℕ) (set : TableSet) (b : ℕ) (rest : List ℕ) → eqb b m ≡ false → allows_first (without m set) b rest ≡ allows_first set b rest
@@ -39,7 +40,7 @@ allows_without m set b rest e = ⊎_elim
     (cases_lt b 128)
 
 valid_without : (m : ℕ) (set : TableSet) (k : ℕ) (bs : List ℕ) → has m bs ≡ false → valid_from (without m set) k bs ≡ valid_from set k bs
-unfolding valid_from has
+unfolding valid_from
 valid_without m set zero [] e = refl
 valid_without m set (suc k) [] e = refl
 valid_without m set (suc k) (b ∷ rest) e = valid_without m set k rest (or_parts (eqb b m) (has m rest) e).1
@@ -90,22 +91,20 @@ one_mark : (c m : ℕ) → is_one_of (m ∷ []) c ≡ eqb c m
 one_mark c m = grind (arith, nat_tests)
 
 pub has_lacks : (m : ℕ) (text : List ℕ) → lacks_any (m ∷ []) text ≡ true → has m text ≡ false
-unfolding has
 has_lacks m [] e = refl
 has_lacks m (c ∷ text) e =
     let p = and_parts (not (is_one_of (m ∷ []) c)) (lacks_any (m ∷ []) text) e in
     or_from _ _ (sym (one_mark c m) ∙ not-true _ p.0) (has_lacks m text p.1)
 
-pub lacks_has : (m : ℕ) (text : List ℕ) → list_any (λ c. eqb c m) text ≡ false → lacks_any (m ∷ []) text ≡ true
+pub lacks_has : (m : ℕ) (text : List ℕ) → has m text ≡ false → lacks_any (m ∷ []) text ≡ true
 lacks_has m [] e = refl
 lacks_has m (c ∷ text) e =
-    let p = or_parts (eqb c m) (list_any (λ c. eqb c m) text) e in
+    let p = or_parts (eqb c m) (has m text) e in
     and_from _ _ (not_from_false _ (one_mark c m ∙ p.0)) (lacks_has m text p.1)
 
 module _ (m : ℕ) (set : TableSet) (lacks : LacksPercent set) (wide : IsSubset unreserved_set set) (reserved : is_unreserved m ≡ false) (outside : excludes (without m set) (m ∷ []) ≡ true) where
   -- a character that is not unreserved is not printed of the reading of a text that lacks it
-  pub reprinted_lacks : (text : List ℕ) → is_part set text ≡ true → list_any (λ c. eqb c m) text ≡ false → list_any (λ c. eqb c m) (reprinted set text) ≡ false
-  unfolding has
+  pub reprinted_lacks : (text : List ℕ) → is_part set text ≡ true → has m text ≡ false → has m (reprinted set text) ≡ false
   reprinted_lacks text e f =
       let part = part_without m set lacks text e f in
       let again = part_reprinted (without m set) (lacks_without m set lacks) (wide_without m set reserved wide) text part in

@@ -32,3 +32,5 @@ pub mod EncodedReadings
 pub mod EncodedPaths
 pub mod EncodedComponents
 pub mod EncodedTargets
+pub mod EncodedAuthorities
+pub mod EncodedMeanings

@@ -2,6 +2,8 @@
 #![tactic(auto)]
 
 #[doc(hidden)]
+pub mod across;
+#[doc(hidden)]
 pub mod canonical;
 #[doc(hidden)]
 pub mod laws;
