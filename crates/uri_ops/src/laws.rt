@@ -1,6 +1,10 @@
 //! Laws of the definitions that contracts cite, each the contract of a function that does nothing.
 ghost use Rattle.std.specs.Prelude.{◌≡◌, ◌≤◌, ◌++◌, ◌||◌, ℕ, List, true, false, length, is_some};
+ghost use Rattle.std.specs.Str.{IsUtf8};
 ghost use Rattle.uri_parts.specs.Components.{IsRooted, IsSplitOf, starts, components, recompose};
+ghost use Rattle.uri_pct.specs.Reading.{read};
+ghost use Rattle.uri_pct.specs.Sets.{TableSet, LacksPercent, IsSubset, unreserved_set};
+ghost use Rattle.uri_pct.specs.Tokens.{print, IsValidFor};
 ghost use Rattle.uri_ops.specs.Dots.{is_empty, remove_dot_segments, underflows, directory, lacks_dot_segments, IsAbsolute, EndsInSlash};
 ghost use Rattle.uri_ops.specs.Target.{is_fragment_only, target_of};
 
@@ -26,6 +30,14 @@ pub fn nothing_to_remove()
 #[tactic(auto, using(crate::proofs::DotLaws::removed_twice))]
 pub fn removed_twice()
     ensures { (path : List ℕ) → IsAbsolute path → remove_dot_segments (remove_dot_segments path) ≡ remove_dot_segments path }
+{}
+
+/// Dot segments may be removed before what is read is printed or after, and it underflows alike.
+#[doc(hidden)]
+#[tactic(auto, using(crate::proofs::ReadPaths::removed_read, crate::proofs::ReadPaths::underflows_read))]
+pub fn of_what_is_read()
+    ensures removed { (set : TableSet) (path : List ℕ) → LacksPercent set → IsSubset unreserved_set set → IsAbsolute path → IsUtf8 path → IsValidFor set path → remove_dot_segments (print (read set path)) ≡ print (read set (remove_dot_segments path)) }
+    ensures underflow { (set : TableSet) (path : List ℕ) → LacksPercent set → IsSubset unreserved_set set → IsAbsolute path → IsUtf8 path → IsValidFor set path → underflows (print (read set path)) ≡ underflows path }
 {}
 
 /// A directory begins with and ends in `/`, and its dot segments may be removed before it is taken or after.
