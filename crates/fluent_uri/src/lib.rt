@@ -13,11 +13,19 @@ pub use uri_parts::error::{ParseError, ParseErrorKind};
 
 /// The components of a reference that are more than percent-encoded texts.
 pub mod component {
-    pub use uri_parts::component::{Authority, Scheme};
+    pub use uri_parts::component::{Authority, Host, Scheme};
     use uri_pct::encoder::{IRegName, IUserinfo};
 
     /// An authority of an IRI (RFC 3987, section 2.2).
     pub type IAuthority<'a> = Authority<'a, IUserinfo, IRegName>;
+
+    /// A host of an IRI (RFC 3987, section 2.2).
+    pub type IHost<'a> = Host<'a, IRegName>;
+}
+
+/// The addresses that a host may be.
+pub mod net {
+    pub use uri_parts::net::{IpAddr, Ipv4Addr, Ipv6Addr};
 }
 
 /// Texts that are percent-encoded over an encoder's set.
