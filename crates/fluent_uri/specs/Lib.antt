@@ -6,10 +6,15 @@ pub use Rattle.uri_pct.specs.Masks
 pub use Rattle.uri_pct.specs.Sets
 pub use Rattle.uri_pct.specs.Tables
 pub use Rattle.uri_pct.specs.Tokens
+pub use Rattle.uri_parts.specs.Addresses
+pub use Rattle.uri_parts.specs.Authorities
+pub use Rattle.uri_parts.specs.Authority
 pub use Rattle.uri_parts.specs.AuthorityTexts
 pub use Rattle.uri_parts.specs.Components
 pub use Rattle.uri_parts.specs.Errors
 pub use Rattle.uri_parts.specs.Grammar
+pub use Rattle.uri_parts.specs.Hosts
+pub use Rattle.uri_parts.specs.HostTexts
 pub use Rattle.uri_parts.specs.Positions
 pub use Rattle.uri_parts.specs.Schemes
 pub use Rattle.uri_ascii.specs.Parses
