@@ -28,6 +28,7 @@ use Rattle.uri_ops.proofs.Characters.{test_lacks}
 use Rattle.uri_ops.proofs.Ends.{ends_outside, excludes_front}
 use Rattle.uri_ops.proofs.HostMeanings.{IsHostOf, host_printed}
 use Rattle.uri_ops.proofs.NormalComponents.{KeepsAuthorities, printed_part, printed_read, part_cut_at}
+use Rattle.uri_ops.proofs.Tests.{both_some, each_some}
 
 -- fewer marks are lacked too
 some_end : (set : TableSet) (marks : List ℕ) → list_any set.ascii marks ≡ false → list_all (λ c. not (set.ascii c)) marks ≡ true
@@ -106,14 +107,6 @@ lacks_text p user host port =
     (lacks_append (codes "/?#") p.host (marked (codes ":") p.port []) host (lacks_port p.port port))
 
 -- a part that may be absent
-pub each_some : (o : Option (List ℕ)) (P Q : List ℕ → Type 0) → ((x : List ℕ) → P x → Q x) → IfSome o P → IfSome o Q
-each_some None P Q f h = tt
-each_some (Some x) P Q f h = f x h
-
-pub two_some : (o : Option (List ℕ)) (P Q R : List ℕ → Type 0) → ((x : List ℕ) → P x → Q x → R x) → IfSome o P → IfSome o Q → IfSome o R
-two_some None P Q R f p q = tt
-two_some (Some x) P Q R f p q = f x p q
-
 port_kept : (default : Option ℕ) (port : Option (List ℕ)) (P : List ℕ → Type 0) → IfSome port P → IfSome (port_meaning default port) P
 port_kept default None P h = tt
 port_kept default (Some digits) P h = kept (is_empty digits || is_default default digits)
@@ -160,7 +153,7 @@ module _ (kind : Kind) (sets : HasComponentSets kind) (default : Option ℕ) (a 
       found text h v is_h = subst (IsHost names text) (sym (is_host-complete names apart.names_percent (names_outside users names apart) text h v is_h).kind) is_h
 
   user : IfSome parts.userinfo (λ x. is_part users x ≡ true)
-  user = two_some parts.userinfo IsUtf8 (IsValidFor users) (λ x. is_part users x ≡ true) (λ x v h. part_from users x v h) utf8.userinfo grammar.userinfo
+  user = both_some parts.userinfo IsUtf8 (IsValidFor users) (λ x. is_part users x ≡ true) (λ x v h. part_from users x v h) utf8.userinfo grammar.userinfo
 
   normal_user : IfSome normal.userinfo (λ x. is_part users x ≡ true)
   normal_user = printed_part users (codes "/?#[]@") sets.userinfo parts.userinfo user
@@ -201,7 +194,7 @@ module _ (kind : Kind) (sets : HasComponentSets kind) (default : Option ℕ) (a 
   pub printed_lacks : Lacks (codes "/?#") (authority_text normal)
   printed_lacks =
       lacks_text normal (part_cut_at users (codes "/?#[]@") sets.userinfo (codes "/?#") user_outside normal.userinfo normal_user) host.lacks
-      (two_some normal.port IsUtf8 (IsValidFor digit_set) (Lacks (codes "/?#")) (λ x v h. valid_lacks digit_set (codes "/?#") refl refl x v h) normal_utf8.port normal_grammar.port)
+      (both_some normal.port IsUtf8 (IsValidFor digit_set) (Lacks (codes "/?#")) (λ x v h. valid_lacks digit_set (codes "/?#") refl refl x v h) normal_utf8.port normal_grammar.port)
 
 pub keeps_authorities : (kind : Kind) → HasComponentSets kind → KeepsAuthorities kind
 keeps_authorities kind sets = record {

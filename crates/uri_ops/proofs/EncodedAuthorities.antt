@@ -29,11 +29,12 @@ use Rattle.uri_ops.specs.Meaning.{AuthorityMeaning, Name, host_meaning, port_mea
 use Rattle.uri_ops.proofs.Parts.{is_part, part_from, part_utf8, part_valid}
 use Rattle.uri_ops.proofs.PlainTexts.{is_plain_char, valid_plain}
 use Rattle.uri_ops.proofs.HostMeanings.{plain_addresses, plain_future, future_chars, ipv4_chars, name_meaning, at_name}
-use Rattle.uri_ops.proofs.AuthorityMeanings.{PartsUtf8, utf8_parts, two_some, keeps_apart}
+use Rattle.uri_ops.proofs.AuthorityMeanings.{PartsUtf8, utf8_parts, keeps_apart}
 use Rattle.uri_ops.proofs.EncodedTokens.{IsUtf8-encoded}
 use Rattle.uri_ops.proofs.EncodedReadings.{part_encoded, read-encoded}
 use Rattle.uri_ops.proofs.EncodedPaths.{encoded-append, encoded-ascii, starts_encoded}
 use Rattle.uri_ops.proofs.EncodedComponents.{marked_encoded}
+use Rattle.uri_ops.proofs.Tests.{both_some}
 
 -- the sets of the URIs that go with a kind of IRIs
 ascii_component : (marks : List ℕ) (set : TableSet) → IsComponentSet marks set → IsComponentSet marks (ascii_set set)
@@ -163,7 +164,7 @@ module _ (kind : Kind) (sets : HasComponentSets kind) (a : List ℕ) (u : IsUtf8
   host = host_kept names sets.reg_name (names_outside users names apart) parts.host grammar.host.0 utf8.host grammar.host.1
 
   user : IfSome parts.userinfo (λ x. is_part users x ≡ true)
-  user = two_some parts.userinfo IsUtf8 (IsValidFor users) (λ x. is_part users x ≡ true) (λ x v h. part_from users x v h) utf8.userinfo grammar.userinfo
+  user = both_some parts.userinfo IsUtf8 (IsValidFor users) (λ x. is_part users x ≡ true) (λ x v h. part_from users x v h) utf8.userinfo grammar.userinfo
 
   encoded_grammar : IsAuthorityFor (ascii_set users) (ascii_set names) (encoded_text a) (encoded_parts parts)
   encoded_grammar = record {

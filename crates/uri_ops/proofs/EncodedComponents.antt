@@ -1,6 +1,6 @@
 -- The components of a text without characters past ASCII are those of the text, without them.
-use Rattle.std.proofs.Common.{◌≡◌, ℕ, ◌<◌, Bool, true, false, not, ltb, List, [], ◌∷◌, ◌++◌, length, refl, sym, ap, ◌∙◌, arith, ◌&&◌, ⊎_elim, inl, inr, rules, option_map}
-use Rattle.std.specs.Prelude.{codes, Option, Some, None, IfSome, IfNone, IsTrue}
+use Rattle.std.proofs.Common.{◌≡◌, ℕ, ◌<◌, Bool, true, false, not, ltb, List, [], ◌∷◌, ◌++◌, length, refl, sym, ap, ◌∙◌, arith, ◌&&◌, ⊎_elim, inl, inr, option_map}
+use Rattle.std.specs.Prelude.{codes, Option, Some, None, IfSome, IfNone}
 use Rattle.std.specs.List.{list_all}
 use Rattle.std.specs.Str.{IsUtf8}
 use Rattle.std.proofs.lemmas.Bool.{false≢true}
@@ -11,12 +11,7 @@ use Rattle.uri_ops.specs.Dots.{is_empty}
 use Rattle.uri_ops.specs.Encoded.{encoded_text}
 use Rattle.uri_ops.proofs.TextParts.{AreUtf8, utf8_before, scheme_ascii, components_utf8}
 use Rattle.uri_ops.proofs.EncodedPaths.{encoded-append, encoded-nil, encoded-ascii, Lacks-encoded, starts_encoded, empty_encoded, has_authority_encoded, cut_encoded}
-
-true_to : (b : Bool) → b ≡ true → IsTrue b
-true_to b h = search rules
-
-true_of : (b : Bool) → IsTrue b → b ≡ true
-true_of b h = search rules
+use Rattle.uri_ops.proofs.Tests.{true_of, true_to}
 
 abbrev pub encoded_components : Components → Components
 encoded_components p = record {

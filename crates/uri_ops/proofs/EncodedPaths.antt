@@ -1,6 +1,6 @@
 -- Without characters past ASCII a text has the same marks, and a path the same dot segments.
-use Rattle.std.proofs.Common.{◌≡◌, ℕ, ◌/◌, ◌%◌, ◌<◌, ◌≤◌, nat_lt, rules, Bool, true, false, eqb, ltb, not, List, [], ◌∷◌, ◌++◌, map, refl, sym, ap, subst, ◌∙◌, arith, ◌&&◌, ⊎_elim, append-nil, lit<}
-use Rattle.std.specs.Prelude.{codes, Option, IsTrue}
+use Rattle.std.proofs.Common.{◌≡◌, ℕ, ◌/◌, ◌%◌, ◌<◌, ◌≤◌, nat_lt, Bool, true, false, eqb, ltb, not, List, [], ◌∷◌, ◌++◌, map, refl, sym, ap, subst, ◌∙◌, arith, ◌&&◌, ⊎_elim, append-nil, lit<}
+use Rattle.std.specs.Prelude.{codes, Option}
 use Rattle.std.specs.Prelude.{is_none as is_absent}
 use Rattle.std.specs.Char.{is_ascii_hexdigit}
 use Rattle.std.specs.Fmt.{digit_glyph}
@@ -30,9 +30,7 @@ use Rattle.uri_ops.proofs.DotBytes.{same_single_dot, same_double_dot}
 use Rattle.uri_ops.proofs.ReadStarts.{authority_slash, no_authority_first}
 use Rattle.uri_ops.proofs.Ends.{is_plain_mark}
 use Rattle.uri_ops.proofs.EncodedTokens.{octet_text, is_byte, digits_of, are_bytes, IsUtf8-encoded, token_bytes-encoded}
-
-true_to : (b : Bool) → b ≡ true → IsTrue b
-true_to b h = search rules
+use Rattle.uri_ops.proofs.Tests.{true_to}
 
 pub encoded-append : (x y : List ℕ) → encoded_text (x ++ y) ≡ encoded_text x ++ encoded_text y
 unfolding encoded_text

@@ -1,6 +1,6 @@
 -- Without characters past ASCII a base and a reference come to the same target without them.
-use Rattle.std.proofs.Common.{◌≡◌, ℕ, Bool, true, false, cond, not, List, [], ◌∷◌, ◌++◌, refl, sym, ap, subst, ◌∙◌, ◌&&◌, ◌||◌, ⊎_elim, rules, option_map}
-use Rattle.std.specs.Prelude.{Option, Some, None, Result, Ok, Err, IsTrue, is_some, is_none}
+use Rattle.std.proofs.Common.{◌≡◌, ℕ, Bool, true, false, cond, not, List, [], ◌∷◌, ◌++◌, refl, sym, ap, subst, ◌∙◌, ◌&&◌, ◌||◌, ⊎_elim, option_map}
+use Rattle.std.specs.Prelude.{Option, Some, None, Result, Ok, Err, is_some, is_none}
 use Rattle.std.specs.Result.{result_map_both}
 use Rattle.std.specs.List.{list_all}
 use Rattle.std.specs.Str.{IsUtf8, is_utf8}
@@ -16,15 +16,12 @@ use Rattle.uri_ops.proofs.Slashed.{slashed, directory_slashed, parent_passes}
 use Rattle.uri_ops.proofs.DotLaws.{by_segments, rooted}
 use Rattle.uri_ops.proofs.ReadPaths.{utf8_join}
 use Rattle.uri_ops.proofs.TextParts.{AreUtf8, components_utf8}
-use Rattle.uri_ops.proofs.NormalComponents.{some_map}
 use Rattle.uri_ops.proofs.JoinedMeanings.{of_parts}
 use Rattle.uri_ops.proofs.Swaps.{not_opaque, rooted_base}
 use Rattle.uri_ops.proofs.TargetTexts.{absent, accepted}
 use Rattle.uri_ops.proofs.EncodedPaths.{encoded-append, starts_encoded, empty_encoded, utf8_slashed, underflows_encoded, directory_encoded, cleaned_encoded, guarded_encoded}
 use Rattle.uri_ops.proofs.EncodedComponents.{encoded_components, recompose-encoded, components-encoded}
-
-true_to : (b : Bool) → b ≡ true → IsTrue b
-true_to b h = search rules
+use Rattle.uri_ops.proofs.Tests.{none_map, some_map, true_to}
 
 -- a merged path in UTF-8
 utf8_join_behind : (s : List ℕ) (rest : List (List ℕ)) → Passes is_utf8 (s ∷ rest) → IsUtf8 (s ++ slashed rest)
@@ -90,17 +87,13 @@ utf8_joined base r u v rooted =
     (λ _. IsUtf8-append (directory base.path) r.path (utf8_directory base.path (rooted (absent r.scheme s) e) u.path) v.path))))
 
 -- the target
-none_kept : {A B : Type 0} (f : A → B) (o : Option A) → is_none (option_map f o) ≡ is_none o
-none_kept f None = refl
-none_kept f (Some x) = refl
-
 finished : Components → Components
 finished t = record t { path = guarded t.authority (cleaned_path t.path) }
 
 finished_encoded : (t : Components) → IsUtf8 t.path → finished (encoded_components t) ≡ encoded_components (finished t)
 unfolding finished
 finished_encoded t u =
-    let path = ap (guarded (option_map encoded_text t.authority)) (cleaned_encoded t.path u) ∙ guarded_encoded t.authority (option_map encoded_text t.authority) (cleaned_path t.path) (none_kept encoded_text t.authority) in
+    let path = ap (guarded (option_map encoded_text t.authority)) (cleaned_encoded t.path u) ∙ guarded_encoded t.authority (option_map encoded_text t.authority) (cleaned_path t.path) (none_map encoded_text t.authority) in
     λ i. record (encoded_components t) { path = path i }
 
 target_encoded : (base r : Components) → AreUtf8 base → AreUtf8 r → (is_none r.scheme ≡ true → is_empty r.path ≡ false → IsRooted base.path)
@@ -113,13 +106,13 @@ target_encoded base r u v rooted =
 refused_encoded : (base r : Components) → is_refused_as_opaque (encoded_components base) (encoded_components r) ≡ is_refused_as_opaque base r
 refused_encoded base r =
     let t = encoded_components r in
-    ap (λ x. (x && not (starts 47 (encoded_text base.path))) && not (is_some t.scheme || is_fragment_only t)) (none_kept encoded_text base.authority)
+    ap (λ x. (x && not (starts 47 (encoded_text base.path))) && not (is_some t.scheme || is_fragment_only t)) (none_map encoded_text base.authority)
     ∙ ap (λ x. (is_none base.authority && not x) && not (is_some t.scheme || is_fragment_only t)) (starts_encoded 47 refl base.path)
     ∙ ap (λ x. is_opaque base && not (x || is_fragment_only t)) (some_map encoded_text r.scheme)
-    ∙ ap (λ x. is_opaque base && not (is_some r.scheme || (((x && is_none t.authority) && is_empty t.path) && is_none t.query))) (none_kept encoded_text r.scheme)
-    ∙ ap (λ x. is_opaque base && not (is_some r.scheme || (((is_none r.scheme && x) && is_empty t.path) && is_none t.query))) (none_kept encoded_text r.authority)
+    ∙ ap (λ x. is_opaque base && not (is_some r.scheme || (((x && is_none t.authority) && is_empty t.path) && is_none t.query))) (none_map encoded_text r.scheme)
+    ∙ ap (λ x. is_opaque base && not (is_some r.scheme || (((is_none r.scheme && x) && is_empty t.path) && is_none t.query))) (none_map encoded_text r.authority)
     ∙ ap (λ x. is_opaque base && not (is_some r.scheme || (((is_none r.scheme && is_none r.authority) && x) && is_none t.query))) (empty_encoded r.path)
-    ∙ ap (λ x. is_opaque base && not (is_some r.scheme || (((is_none r.scheme && is_none r.authority) && is_empty r.path) && x))) (none_kept encoded_text r.query)
+    ∙ ap (λ x. is_opaque base && not (is_some r.scheme || (((is_none r.scheme && is_none r.authority) && is_empty r.path) && x))) (none_map encoded_text r.query)
 
 outcome : Bool → Bool → List ℕ → Result (List ℕ) Refusal
 outcome fragment opaque target = cond fragment (Err BaseWithFragment) (cond opaque (Err InvalidReferenceAgainstOpaqueBase) (Ok target))

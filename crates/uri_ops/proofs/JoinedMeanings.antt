@@ -1,6 +1,6 @@
 -- A target means the same where base and reference are replaced by their normal texts, and is refused alike.
-use Rattle.std.proofs.Common.{◌≡◌, ℕ, Bool, true, false, cond, not, List, [], ◌∷◌, ◌++◌, refl, sym, ap, ◌∙◌, ◌&&◌, ◌||◌, ⊎_elim, rules, option_map}
-use Rattle.std.specs.Prelude.{codes, Option, Some, None, IfSome, IsTrue, is_some, is_none}
+use Rattle.std.proofs.Common.{◌≡◌, ℕ, true, false, cond, not, List, [], ◌∷◌, ◌++◌, refl, sym, ap, ◌∙◌, ◌&&◌, ◌||◌, ⊎_elim, option_map}
+use Rattle.std.specs.Prelude.{codes, Option, Some, None, IfSome, is_some, is_none}
 use Rattle.std.specs.Str.{IsUtf8, str_to_ascii_lowercase}
 use Rattle.std.proofs.lemmas.Bool.{cases_Bool, and_parts, cond-true, cond-false, cond_both, false≢true}
 use Rattle.uri_pct.specs.Sets.{TableSet}
@@ -24,9 +24,7 @@ use Rattle.uri_ops.proofs.PlainTexts.{lower_twice}
 use Rattle.uri_ops.proofs.NormalComponents.{printed_read, normal_meaning}
 use Rattle.uri_ops.proofs.AuthorityMeanings.{keeps_authorities}
 use Rattle.uri_ops.proofs.MergedPaths.{cleaned_merged}
-
-true_of : (b : Bool) → IsTrue b → b ≡ true
-true_of b h = search rules
+use Rattle.uri_ops.proofs.Tests.{none_map}
 
 abbrev pub of_parts : Option (List ℕ) → Option (List ℕ) → List ℕ → Option (List ℕ) → Option (List ℕ) → Components
 of_parts scheme authority path query fragment = record { scheme = scheme; authority = authority; path = path; query = query; fragment = fragment }
@@ -160,10 +158,6 @@ module _ (kind : Kind) (sets : HasComponentSets kind) (ports : PortFunction) whe
   joined_normal b ba bp bq bf None None (c ∷ p) q f base r rooted = on_path b ba bp bq bf (c ∷ p) q f base r.path r.query r.fragment refl (λ h. rooted refl refl refl)
 
   -- an opaque base
-  none_map : {A B : Type 0} (f : A → B) (o : Option A) → is_none (option_map f o) ≡ is_none o
-  none_map f None = refl
-  none_map f (Some x) = refl
-
   starts_guarded : (authority : Option (List ℕ)) (path : List ℕ) → starts 47 (guarded authority path) ≡ starts 47 path
   starts_guarded authority path =
       cond_both (is_none authority && has_authority path) (codes "/." ++ path) path (λ t. starts 47 t ≡ starts 47 path)

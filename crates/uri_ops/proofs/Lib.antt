@@ -1,3 +1,4 @@
+pub mod Tests
 pub mod Rows
 pub mod TargetRows
 pub mod Characters

@@ -1,6 +1,6 @@
 -- A merged path is read alike where the base's path and the reference's are those of their normal texts.
-use Rattle.std.proofs.Common.{◌≡◌, ℕ, Bool, true, List, [], ◌∷◌, ◌++◌, sym, ap, subst, ◌∙◌, ◌&&◌, ⊎_elim, inr, append_assoc, rules}
-use Rattle.std.specs.Prelude.{codes, Option, IsTrue, is_none}
+use Rattle.std.proofs.Common.{◌≡◌, ℕ, true, List, [], ◌∷◌, ◌++◌, sym, ap, subst, ◌∙◌, ◌&&◌, ⊎_elim, inr, append_assoc, rules}
+use Rattle.std.specs.Prelude.{codes, Option, is_none}
 use Rattle.std.proofs.lemmas.Bool.{cond_both, cond-true}
 use Rattle.uri_pct.specs.Sets.{TableSet}
 use Rattle.uri_pct.specs.Reading.{read}
@@ -14,9 +14,7 @@ use Rattle.uri_ops.proofs.Parts.{is_part, part_utf8, reprinted, reprinted-nil, r
 use Rattle.uri_ops.proofs.ReadPaths.{part_cut, part_join, part_removed, part_directory, directory_reprinted, removed_reprinted}
 use Rattle.uri_ops.proofs.PathMeanings.{cleaned_guarded, part_cleaned}
 use Rattle.uri_ops.proofs.NormalComponents.{rooted_reprinted}
-
-true_of : (b : Bool) → IsTrue b → b ≡ true
-true_of b h = search rules
+use Rattle.uri_ops.proofs.Tests.{true_of}
 
 pub merged_absolute : (path y : List ℕ) → IsRooted path → IsAbsolute (directory path ++ y)
 merged_absolute path y h = absolute_append (directory path) y (directory_absolute path h)

@@ -1,6 +1,6 @@
 -- The components of a normal text: they meet the grammar, are cut apart where the text is, and have the meaning that the text was printed from.
-use Rattle.std.proofs.Common.{◌≡◌, ℕ, ◌<◌, Bool, true, false, cond, not, List, [], ◌∷◌, ◌++◌, length, refl, ap, ◌∙◌, ◌&&◌, ◌||◌, ⊎_elim, inl, inr, arith, rules, option_map}
-use Rattle.std.specs.Prelude.{codes, Option, Some, None, IsTrue, IfSome, IfNone, is_some, slice_index}
+use Rattle.std.proofs.Common.{◌≡◌, ℕ, ◌<◌, Bool, true, false, cond, not, List, [], ◌∷◌, ◌++◌, length, refl, ap, ◌∙◌, ◌&&◌, ◌||◌, ⊎_elim, inl, inr, arith, option_map}
+use Rattle.std.specs.Prelude.{codes, Option, Some, None, IfSome, IfNone, is_some, slice_index}
 use Rattle.std.specs.Option.{option_and_then}
 use Rattle.std.specs.Char.{is_ascii_alphabetic}
 use Rattle.std.specs.Str.{IsUtf8, str_to_ascii_lowercase}
@@ -27,12 +27,7 @@ use Rattle.uri_ops.proofs.ReadStarts.{starts_reprinted, has_authority_reprinted,
 use Rattle.uri_ops.proofs.PathMeanings.{part_guarded, part_cleaned, read_guarded}
 use Rattle.uri_ops.proofs.PlainTexts.{lower_twice, scheme_lower, utf8_scheme_lower}
 use Rattle.uri_ops.proofs.TextParts.{AreParts}
-
-true_to : (b : Bool) → b ≡ true → IsTrue b
-true_to b h = search rules
-
-true_of : (b : Bool) → IsTrue b → b ≡ true
-true_of b h = search rules
+use Rattle.uri_ops.proofs.Tests.{true_of, true_to}
 
 -- an authority that is printed from its meaning is one, lacks the marks that would end it, and has that meaning
 pub record KeepsAuthorities (kind : Kind) : Type 0 where
@@ -40,10 +35,6 @@ pub record KeepsAuthorities (kind : Kind) : Type 0 where
   pub meets : (default : Option ℕ) (a : List ℕ) → IsUtf8 a → is_authority kind a ≡ true → is_authority kind (normal_authority (authority_meaning kind default a)) ≡ true
   pub lacks : (default : Option ℕ) (a : List ℕ) → IsUtf8 a → is_authority kind a ≡ true → Lacks (codes "/?#") (normal_authority (authority_meaning kind default a))
   pub bare : (default : Option ℕ) (a : List ℕ) → IsUtf8 a → is_authority kind a ≡ true → authority_meaning kind None (normal_authority (authority_meaning kind default a)) ≡ authority_meaning kind default a
-
-pub some_map : {A B : Type 0} (f : A → B) (o : Option A) → is_some (option_map f o) ≡ is_some o
-some_map f None = refl
-some_map f (Some x) = refl
 
 -- the scheme
 abbrev IsSchemePart : List ℕ → Type 0

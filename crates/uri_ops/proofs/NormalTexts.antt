@@ -18,6 +18,7 @@ use Rattle.uri_ops.proofs.PortMeanings.{meaning_of-under}
 use Rattle.uri_ops.proofs.TextParts.{AreParts, components_utf8, meet_parts, parts_meet}
 use Rattle.uri_ops.proofs.NormalComponents.{normal_of, normal_parts, normal_split, normal_meaning}
 use Rattle.uri_ops.proofs.AuthorityMeanings.{keeps_authorities}
+use Rattle.uri_ops.proofs.Tests.{each_some}
 
 -- components in UTF-8 recompose to UTF-8
 any_char : ℕ → Bool
@@ -26,10 +27,6 @@ any_char c = true
 utf8_marked : (before behind : List ℕ) (o : Option (List ℕ)) → IsUtf8 before → IsUtf8 behind → IfSome o IsUtf8 → IsUtf8 (marked before o behind)
 utf8_marked before behind None u v h = IsUtf8-nil
 utf8_marked before behind (Some x) u v h = IsUtf8-append (before ++ x) behind (IsUtf8-append before x u h) v
-
-each_some : (o : Option (List ℕ)) (P Q : List ℕ → Type 0) → ((x : List ℕ) → P x → Q x) → IfSome o P → IfSome o Q
-each_some None P Q f h = tt
-each_some (Some x) P Q f h = f x h
 
 pub utf8_recompose : (kind : Kind) (p : Components) → AreParts kind p → IsUtf8 (recompose p)
 unfolding any_char

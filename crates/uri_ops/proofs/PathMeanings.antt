@@ -1,6 +1,6 @@
 -- The path of a meaning: without its dot segments, behind a guard and read again it is itself.
-use Rattle.std.proofs.Common.{◌≡◌, ℕ, Bool, true, eqb, List, [], ◌∷◌, ◌++◌, refl, sym, ap, subst, ◌∙◌, ◌&&◌, ⊎_elim, arith, lit<, rules}
-use Rattle.std.specs.Prelude.{codes, Option, IsTrue}
+use Rattle.std.proofs.Common.{◌≡◌, ℕ, true, eqb, List, [], ◌∷◌, ◌++◌, refl, sym, ap, subst, ◌∙◌, ◌&&◌, ⊎_elim, arith, lit<}
+use Rattle.std.specs.Prelude.{codes, Option}
 use Rattle.std.specs.Prelude.{is_none as is_absent}
 use Rattle.std.specs.Str.{IsUtf8, chars}
 use Rattle.std.proofs.Math.Utf8.{low_scalar}
@@ -20,12 +20,7 @@ use Rattle.uri_ops.proofs.DotLaws.{by_segments, removed_absolute, removed_twice}
 use Rattle.uri_ops.proofs.Parts.{is_part, part_from, part_nil, reprinted, read-reprinted}
 use Rattle.uri_ops.proofs.ReadPaths.{part_join, part_cut, removed_reprinted, part_removed}
 use Rattle.uri_ops.proofs.ReadStarts.{starts_reprinted}
-
-true_to : (b : Bool) → b ≡ true → IsTrue b
-true_to b h = search rules
-
-true_of : (b : Bool) → IsTrue b → b ≡ true
-true_of b h = search rules
+use Rattle.uri_ops.proofs.Tests.{true_of, true_to}
 
 -- a path with its dot segments removed begins as the path does
 pub starts_cleaned : (path : List ℕ) → starts 47 (cleaned_path path) ≡ starts 47 path

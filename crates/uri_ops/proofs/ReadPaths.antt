@@ -1,6 +1,5 @@
 -- What is printed of the reading of a path: its segments, and its dot segments, which may be removed before or after.
-use Rattle.std.proofs.Common.{◌≡◌, ℕ, Bool, true, false, List, [], ◌∷◌, ◌++◌, map, refl, sym, ap, subst, ◌∙◌, arith, lit<, rules}
-use Rattle.std.specs.Prelude.{IsTrue}
+use Rattle.std.proofs.Common.{◌≡◌, ℕ, true, false, List, [], ◌∷◌, ◌++◌, map, refl, sym, ap, subst, ◌∙◌, arith, lit<}
 use Rattle.std.specs.List.{list_all}
 use Rattle.std.specs.Str.{IsUtf8}
 use Rattle.std.proofs.lemmas.Str.{IsUtf8-append, IsUtf8-nil, IsUtf8-encode, encode_ascii}
@@ -76,12 +75,6 @@ pub reprinted_slashed : (set : TableSet) (segs : List (List ℕ)) → Passes (is
 unfolding slashed
 reprinted_slashed set [] e = reprinted-nil set
 reprinted_slashed set (s ∷ rest) e = reprinted_first set (s ++ slashed rest) ∙ ap (λ x. 47 ∷ x) (reprinted_behind set s rest e)
-
-true_to : (b : Bool) → b ≡ true → IsTrue b
-true_to b h = search rules
-
-true_of : (b : Bool) → IsTrue b → b ≡ true
-true_of b h = search rules
 
 module _ (set : TableSet) (lacks : LacksPercent set) (wide : IsSubset unreserved_set set) where
   keeps : (s : List ℕ) → is_part set s ≡ true → KeepsDots (reprinted set) s

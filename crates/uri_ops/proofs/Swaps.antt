@@ -1,6 +1,6 @@
 -- What a reference resolves to, against a base, is a function of the meanings of both.
-use Rattle.std.proofs.Common.{◌≡◌, ℕ, Bool, true, false, cond, not, List, refl, sym, ap, ◌∙◌, ◌&&◌, ◌||◌, ⊎_elim, inr, rules, option_map}
-use Rattle.std.specs.Prelude.{codes, Option, Some, None, IfSome, Result, Ok, Err, IsTrue, is_some, is_none}
+use Rattle.std.proofs.Common.{◌≡◌, ℕ, Bool, true, false, cond, not, List, refl, sym, ap, ◌∙◌, ◌&&◌, ◌||◌, ⊎_elim, inr, option_map}
+use Rattle.std.specs.Prelude.{codes, Option, Some, None, IfSome, Result, Ok, Err, is_some, is_none}
 use Rattle.std.specs.Result.{result_map_both}
 use Rattle.std.proofs.lemmas.Bool.{and_cases, and_left, and_right, or_from, cond_both, not-false, false≢true, both_ways}
 use Rattle.uri_pct.specs.Tokens.{print}
@@ -18,12 +18,9 @@ use Rattle.uri_ops.specs.Normal.{normal_text, normal_components}
 use Rattle.uri_ops.specs.References.{reference_kind, resolved_meaning}
 use Rattle.uri_ops.proofs.Targets.{target_components}
 use Rattle.uri_ops.proofs.TextParts.{AreParts}
-use Rattle.uri_ops.proofs.NormalComponents.{some_map}
 use Rattle.uri_ops.proofs.NormalTexts.{parts_of, normal_is_text, meaning_of-normal_text}
 use Rattle.uri_ops.proofs.JoinedMeanings.{of_parts, with_scheme, target_meaning, joined_normal, refused_normal}
-
-true_to : (b : Bool) → b ≡ true → IsTrue b
-true_to b h = search rules
+use Rattle.uri_ops.proofs.Tests.{some_map, true_to}
 
 -- the refusals in their order, or a meaning
 outcome : Bool → Bool → Meaning → Result Meaning Refusal

@@ -1,6 +1,6 @@
 -- The text of a target has the components that were put into it.
-use Rattle.std.proofs.Common.{◌≡◌, ℕ, ◌<◌, Bool, true, false, cond, List, [], ◌∷◌, ◌++◌, length, refl, sym, ap, subst, ◌∙◌, ◌&&◌, ◌||◌, inr, ⊎_elim, rules}
-use Rattle.std.specs.Prelude.{codes, Option, Some, None, IfSome, IfNone, IsTrue, is_some, is_none}
+use Rattle.std.proofs.Common.{◌≡◌, ℕ, ◌<◌, true, false, cond, List, [], ◌∷◌, ◌++◌, length, refl, sym, ap, subst, ◌∙◌, ◌&&◌, ◌||◌, inr, ⊎_elim, rules}
+use Rattle.std.specs.Prelude.{codes, Option, Some, None, IfSome, IfNone, is_some, is_none}
 use Rattle.std.proofs.lemmas.Bool.{cond_both, and_parts, eqb-true, cases_Bool, false≢true, false_from_ne_true}
 use Rattle.std.proofs.lemmas.List.Elements.{All-append}
 use Rattle.uri_pct.specs.Sets.{is_one_of}
@@ -11,6 +11,7 @@ use Rattle.uri_ops.specs.Dots.{is_empty, remove_dot_segments, directory, IsAbsol
 use Rattle.uri_ops.specs.Target.{is_fragment_only, merged, joined, cleaned_path, guarded, target_of}
 use Rattle.uri_ops.proofs.DotLaws.{removed_absolute, directory_absolute}
 use Rattle.uri_ops.proofs.Characters.{test_lacks, removed_Lacks, directory_Lacks}
+use Rattle.uri_ops.proofs.Tests.{true_to}
 
 -- components with a scheme, each of which lacks the characters that end it
 pub record Fits (c : Components) : Type 0 where
@@ -19,9 +20,6 @@ pub record Fits (c : Components) : Type 0 where
   pub authority : IfSome c.authority (λ a. Lacks (codes "/?#") a × IsRooted c.path)
   pub path : Lacks (codes "?#") c.path
   pub query : IfSome c.query (λ q. Lacks (codes "#") q)
-
-true_to : (b : Bool) → b ≡ true → IsTrue b
-true_to b h = search rules
 
 pub absolute_append : (path q : List ℕ) → IsAbsolute path → IsAbsolute (path ++ q)
 absolute_append [] q h = absurd (false≢true (search rules))

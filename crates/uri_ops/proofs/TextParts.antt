@@ -10,6 +10,7 @@ use Rattle.uri_parts.specs.Components.{Components, starts, before_any, from_any,
 use Rattle.uri_parts.specs.Grammar.{Kind, if_some, is_scheme, has_colon_first, is_authority, are_components}
 use Rattle.uri_parts.proofs.Stops.{utf8_from, utf8_tail, utf8_slashes}
 use Rattle.uri_ops.proofs.Parts.{is_part, part_from, part_valid}
+use Rattle.uri_ops.proofs.Tests.{both_some}
 
 -- the grammar of a kind, each component with its rule
 pub record AreParts (kind : Kind) (p : Components) : Type 0 where
@@ -27,10 +28,6 @@ some_if (Some x) test e = e
 pub if_from : (o : Option (List ℕ)) (P : List ℕ → Type 0) (test : List ℕ → Bool) → ((x : List ℕ) → P x → test x ≡ true) → IfSome o P → if_some o test ≡ true
 if_from None P test f h = refl
 if_from (Some x) P test f h = f x h
-
-pub if_both : (o : Option (List ℕ)) (P Q R : List ℕ → Type 0) → ((x : List ℕ) → P x → Q x → R x) → IfSome o P → IfSome o Q → IfSome o R
-if_both None P Q R f p q = tt
-if_both (Some x) P Q R f p q = f x p q
 
 -- such components meet the grammar
 pub parts_meet : (kind : Kind) (p : Components) → AreParts kind p → are_components kind p ≡ true
@@ -114,10 +111,10 @@ meet_parts kind p u e =
     let d = and_parts _ _ c.0 in
     let f = and_parts _ _ d.0 in
     record {
-      scheme = if_both p.scheme IsUtf8 (λ s. is_scheme s ≡ true) (λ s. IsUtf8 s × (is_scheme s ≡ true)) (λ s v h. (v, h)) u.scheme (some_if p.scheme is_scheme f.0);
-      authority = if_both p.authority IsUtf8 (λ s. is_authority kind s ≡ true) (λ s. IsUtf8 s × (is_authority kind s ≡ true)) (λ s v h. (v, h)) u.authority (some_if p.authority (is_authority kind) f.1);
+      scheme = both_some p.scheme IsUtf8 (λ s. is_scheme s ≡ true) (λ s. IsUtf8 s × (is_scheme s ≡ true)) (λ s v h. (v, h)) u.scheme (some_if p.scheme is_scheme f.0);
+      authority = both_some p.authority IsUtf8 (λ s. is_authority kind s ≡ true) (λ s. IsUtf8 s × (is_authority kind s ≡ true)) (λ s v h. (v, h)) u.authority (some_if p.authority (is_authority kind) f.1);
       path = part_from kind.path p.path u.path d.1;
-      query = if_both p.query IsUtf8 (λ q. is_valid_for kind.query q ≡ true) (λ q. is_part kind.query q ≡ true) (λ q v h. part_from kind.query q v h) u.query (some_if p.query (is_valid_for kind.query) c.1);
-      fragment = if_both p.fragment IsUtf8 (λ q. is_valid_for kind.fragment q ≡ true) (λ q. is_part kind.fragment q ≡ true) (λ q v h. part_from kind.fragment q v h) u.fragment (some_if p.fragment (is_valid_for kind.fragment) b.1);
+      query = both_some p.query IsUtf8 (λ q. is_valid_for kind.query q ≡ true) (λ q. is_part kind.query q ≡ true) (λ q v h. part_from kind.query q v h) u.query (some_if p.query (is_valid_for kind.query) c.1);
+      fragment = both_some p.fragment IsUtf8 (λ q. is_valid_for kind.fragment q ≡ true) (λ q. is_part kind.fragment q ≡ true) (λ q v h. part_from kind.fragment q v h) u.fragment (some_if p.fragment (is_valid_for kind.fragment) b.1);
       needs = a.1;
     }

@@ -7,6 +7,6 @@ pub mod across;
 pub mod canonical;
 #[doc(hidden)]
 pub mod laws;
-pub mod traits;
 #[doc(hidden)]
 pub mod swap;
+pub mod traits;
