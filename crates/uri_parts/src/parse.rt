@@ -18,6 +18,7 @@ use uri_pct::table::{DIGIT, SCHEME};
 
 /// A fragment if there is one, and then the end.
 #[tactic(auto, unfolding(crate::specs::Reading::reads_fragment))]
+#[inline(always)]
 fn read_fragment(reader: &mut Reader<'_>, grammar: &Grammar) -> Result<(), ParseError>
     ensures accepts { is_ok result ≡ reads_fragment (kind_of grammar.now) (rest_of reader.old) }
     ensures err { IfErr result (IsErrorIn (text_of reader.old)) }
@@ -33,6 +34,7 @@ fn read_fragment(reader: &mut Reader<'_>, grammar: &Grammar) -> Result<(), Parse
 
 /// A query if there is one, and what follows it. Answers where the query ends.
 #[tactic(auto, unfolding(crate::specs::Reading::reads_end, crate::specs::Reading::query_end_at))]
+#[inline(always)]
 fn read_end(reader: &mut Reader<'_>, grammar: &Grammar) -> Result<Option<usize>, ParseError>
     ensures accepts { is_ok result ≡ reads_end (kind_of grammar.now) (rest_of reader.old) }
     ensures place { IfOk result (λ end. end ≡ query_end_at (kind_of grammar.now) (place_of reader.old) (rest_of reader.old)) }
@@ -49,6 +51,7 @@ fn read_end(reader: &mut Reader<'_>, grammar: &Grammar) -> Result<Option<usize>,
 
 /// The rest of a path that begins at `path_start`, and what follows it.
 #[tactic(auto, unfolding(crate::specs::Reading::reads_path, crate::specs::Reading::path_positions))]
+#[inline(always)]
 fn read_path(
     reader: &mut Reader<'_>,
     grammar: &Grammar,
@@ -141,6 +144,7 @@ fn read_authority(
 
 /// What follows a scheme.
 #[tactic(auto, unfolding(crate::specs::Reading::reads_hier, crate::specs::Reading::hier_positions))]
+#[inline(always)]
 fn read_hier(
     reader: &mut Reader<'_>,
     grammar: &Grammar,
@@ -161,6 +165,7 @@ fn read_hier(
 /// A path that begins the text, so far as its first segment is read with no colon, and what
 /// follows it.
 #[tactic(auto, unfolding(crate::specs::Reading::reads_relative, crate::specs::Reading::relative_positions))]
+#[inline(always)]
 fn read_relative(reader: &mut Reader<'_>, grammar: &Grammar) -> Result<Positions, ParseError>
     ensures accepts { is_ok result ≡ reads_relative (set_of grammar.now.segment_nz_nc) (kind_of grammar.now) (rest_of reader.old) }
     ensures places { IfOk result (λ p. p ≡ relative_positions (set_of grammar.now.segment_nz_nc) (kind_of grammar.now) (place_of reader.old) (rest_of reader.old)) }
@@ -175,6 +180,7 @@ fn read_relative(reader: &mut Reader<'_>, grammar: &Grammar) -> Result<Positions
 
 /// A text that has no scheme, behind the characters that might have been one.
 #[tactic(auto, unfolding(crate::specs::Reading::reads_schemeless, crate::specs::Reading::schemeless_positions))]
+#[inline(always)]
 fn read_schemeless(reader: &mut Reader<'_>, grammar: &Grammar) -> Result<Positions, ParseError>
     ensures accepts { is_ok result ≡ reads_schemeless (set_of grammar.now.segment_nz_nc) (kind_of grammar.now) (place_of reader.old) (rest_of reader.old) }
     ensures places { IfOk result (λ p. p ≡ schemeless_positions (set_of grammar.now.segment_nz_nc) (kind_of grammar.now) (place_of reader.old) (rest_of reader.old)) }
@@ -189,6 +195,7 @@ fn read_schemeless(reader: &mut Reader<'_>, grammar: &Grammar) -> Result<Positio
 
 /// Reads a whole text.
 #[tactic(auto, using(uri_pct::proofs::Constants::scheme_table), unfolding(crate::specs::Reading::reads, crate::specs::Reading::read_positions))]
+#[inline(always)]
 fn read_text(grammar: &Grammar, text: &str) -> Result<Positions, ParseError>
     ensures accepts { is_ok result ≡ reads (set_of grammar.now.segment_nz_nc) (kind_of grammar.now) text.now }
     ensures places { IfOk result (λ p. p ≡ read_positions (set_of grammar.now.segment_nz_nc) (kind_of grammar.now) text.now) }

@@ -32,6 +32,7 @@ impl<'a> Reader<'a> {
     ghost use Rattle.uri_parts.specs.Readers.{rest_of, text_of, place_of};
 
     /// The text from its beginning.
+    #[inline]
     pub fn new(text: &'a str) -> Self
         ensures text { text_of result ≡ text.now }
         ensures place { place_of result ≡ 0 }
@@ -41,6 +42,7 @@ impl<'a> Reader<'a> {
     }
 
     /// The text from a place on.
+    #[inline]
     pub fn at(text: &'a str, position: usize) -> Self
         requires { IsCharBoundary text.now position }
         ensures text { text_of result ≡ text.now }
@@ -51,6 +53,7 @@ impl<'a> Reader<'a> {
     }
 
     /// The whole text, what was read of it too.
+    #[inline]
     pub fn text(&self) -> &'a str
         ensures { result.now ≡ text_of self.now }
     {
@@ -58,6 +61,7 @@ impl<'a> Reader<'a> {
     }
 
     /// How many bytes were read.
+    #[inline]
     pub fn position(&self) -> usize
         ensures place { result ≡ place_of self.now }
         ensures boundary { IsCharBoundary (text_of self.now) result }
@@ -66,6 +70,7 @@ impl<'a> Reader<'a> {
     }
 
     /// Passes the longest front of the rest that the table allows.
+    #[inline]
     pub fn read(&mut self, table: &Table)
         ensures text { text_of self.new ≡ text_of self.old }
         ensures place { place_of self.new ≡ place_of self.old + front (set_of table.now) (rest_of self.old) }
@@ -76,6 +81,7 @@ impl<'a> Reader<'a> {
 
     /// Whether one of `/?#` is next, or nothing is left: what may stand behind an authority.
     #[tactic(auto, using(crate::proofs::Next::ends_at, crate::proofs::Next::goes_on_at))]
+    #[inline]
     pub fn ends_authority(&self) -> bool
         ensures { result ≡ begins_any (codes "/?#") (rest_of self.now) }
     {
@@ -100,6 +106,7 @@ impl<'a> Reader<'a> {
     /// Passes the longest front of the rest that the table allows; a `%` behind it that begins no
     /// octet is refused, where the table allows octets.
     #[tactic(auto, using(crate::proofs::Next::stray_fault, crate::proofs::Next::starts_at))]
+    #[inline]
     pub fn pass(&mut self, table: &Table) -> Result<(), ParseError>
         ensures text { text_of self.new ≡ text_of self.old }
         ensures place { OnOk result (place_of self.new ≡ place_of self.old + front (set_of table.now) (rest_of self.old)) }
@@ -118,6 +125,7 @@ impl<'a> Reader<'a> {
 
     /// Nothing is left.
     #[tactic(auto, using(crate::proofs::Next::is_end_at))]
+    #[inline]
     pub fn is_at_end(&self) -> bool
         ensures { result ≡ is_end (rest_of self.now) }
     {
@@ -126,6 +134,7 @@ impl<'a> Reader<'a> {
 
     /// Whether this byte is next.
     #[tactic(auto, using(crate::proofs::Next::starts_at))]
+    #[inline]
     pub fn sees(&self, byte: u8) -> bool
         ensures { result ≡ starts byte (rest_of self.now) }
     {
@@ -135,6 +144,7 @@ impl<'a> Reader<'a> {
 
     /// Passes this ASCII character, if it is next.
     #[tactic(auto, using(crate::proofs::Next::starts_at))]
+    #[inline]
     pub fn skip(&mut self, byte: u8) -> bool
         requires { byte < 128 }
         ensures value { result ≡ starts byte (rest_of self.old) }
@@ -153,6 +163,7 @@ impl<'a> Reader<'a> {
     }
 
     /// Passes `//`, if it is next.
+    #[inline]
     pub fn skip_slashes(&mut self) -> bool
         ensures value { result ≡ has_authority (rest_of self.old) }
         ensures text { text_of self.new ≡ text_of self.old }
@@ -170,6 +181,7 @@ impl<'a> Reader<'a> {
     }
 
     /// The refusal of what is next.
+    #[inline]
     pub fn unexpected(&self) -> ParseError
         ensures { IsErrorIn (text_of self.now) result }
     {
