@@ -13,11 +13,16 @@ pub use uri_parts::error::{ParseError, ParseErrorKind};
 
 /// The components of a reference that are more than percent-encoded texts.
 pub mod component {
-    pub use uri_parts::component::{Authority, Scheme};
+    pub use uri_parts::component::{Authority, Host, HostOf, Scheme};
     use uri_pct::encoder::{IRegName, IUserinfo};
 
     /// An authority of an IRI (RFC 3987, section 2.2).
     pub type IAuthority<'a> = Authority<'a, IUserinfo, IRegName>;
+}
+
+/// IP addresses (RFC 3986, section 3.2.2), and their canonical texts (RFC 5952).
+pub mod net {
+    pub use uri_parts::net::{IpAddr, Ipv4Addr, Ipv6Addr};
 }
 
 /// Texts that are percent-encoded over an encoder's set.
