@@ -18,6 +18,14 @@ pub mod component {
 
     /// An authority of an IRI (RFC 3987, section 2.2).
     pub type IAuthority<'a> = Authority<'a, IUserinfo, IRegName>;
+
+    /// A host of an IRI's authority.
+    pub type IHost<'a> = Host<'a, IRegName>;
+}
+
+/// IP addresses.
+pub mod net {
+    pub use uri_parts::net::{IpAddr, Ipv4Addr, Ipv6Addr};
 }
 
 /// IP addresses (RFC 3986, section 3.2.2), and their canonical texts (RFC 5952).

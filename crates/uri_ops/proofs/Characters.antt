@@ -44,7 +44,7 @@ directory_passes p slash path e =
     (λ g. closed_passes p slash (before_last_slash path) (before_passes p path e)) (λ g. refl)))
 
 -- so none of some marks is in it, `/` not being one
-lacks_test : (marks text : List ℕ) → Lacks marks text → list_all (λ c. not (is_one_of marks c)) text ≡ true
+pub lacks_test : (marks text : List ℕ) → Lacks marks text → list_all (λ c. not (is_one_of marks c)) text ≡ true
 lacks_test marks text h = list_all-from_AllPass (λ c. not (is_one_of marks c)) text (All-weaker (λ c. is_one_of marks c ≡ false) (λ c. not (is_one_of marks c) ≡ true) (λ c e. not_from_false _ e) text h)
 
 pub test_lacks : (marks text : List ℕ) → list_all (λ c. not (is_one_of marks c)) text ≡ true → Lacks marks text

@@ -94,7 +94,7 @@ unfolding is_none
 directory_text [] e f = absurd (false≢true (sym e))
 directory_text (s ∷ rest) e f = directory_slashed s rest f
 
-rooted : (P : List ℕ → Type 0) → P [] → ((path : List ℕ) → IsAbsolute path → P path) → (path : List ℕ) → IsRooted path → P path
+pub rooted : (P : List ℕ → Type 0) → P [] → ((path : List ℕ) → IsAbsolute path → P path) → (path : List ℕ) → IsRooted path → P path
 rooted P none each path h = ⊎_elim (λ e. subst P (sym e) none) (each path) h
 
 pub directory_absolute : (path : List ℕ) → IsRooted path → IsAbsolute (directory path)

@@ -23,7 +23,7 @@ pub record Fits (c : Components) : Type 0 where
 true_to : (b : Bool) → b ≡ true → IsTrue b
 true_to b h = search rules
 
-absolute_append : (path q : List ℕ) → IsAbsolute path → IsAbsolute (path ++ q)
+pub absolute_append : (path q : List ℕ) → IsAbsolute path → IsAbsolute (path ++ q)
 absolute_append [] q h = absurd (false≢true (search rules))
 absolute_append (c ∷ path) q h = h
 
@@ -57,7 +57,7 @@ joined_fits b t base r some is_base is_reference =
     }))))
 
 -- the path's dot segments are removed
-cleaned_rooted : (path : List ℕ) → IsRooted path → IsRooted (cleaned_path path)
+pub cleaned_rooted : (path : List ℕ) → IsRooted path → IsRooted (cleaned_path path)
 cleaned_rooted path h = cond_both (starts 47 path) (remove_dot_segments path) path IsRooted (λ e. inr (removed_absolute path (true_to _ e))) (λ e. h)
 
 cleaned_lacks : (path : List ℕ) → Lacks (codes "?#") path → Lacks (codes "?#") (cleaned_path path)
@@ -73,7 +73,7 @@ guarded_lacks authority path h =
     cond_both (is_none authority && has_authority path) (codes "/." ++ path) path (Lacks (codes "?#"))
     (λ e. All-append (λ c. is_one_of (codes "?#") c ≡ false) (codes "/.") path (test_lacks (codes "?#") (codes "/.") refl) h) (λ e. h)
 
-guarded_plain : (authority : Option (List ℕ)) (path : List ℕ) → IfNone authority (has_authority (guarded authority path) ≡ false)
+pub guarded_plain : (authority : Option (List ℕ)) (path : List ℕ) → IfNone authority (has_authority (guarded authority path) ≡ false)
 guarded_plain None path = cond_both (has_authority path) (codes "/." ++ path) path (λ p. has_authority p ≡ false) (λ e. refl) (λ e. e)
 guarded_plain (Some a) path = tt
 

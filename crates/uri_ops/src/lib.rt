@@ -1,5 +1,12 @@
 //! What is done with references: building, normalising and resolving them.
 #![tactic(auto)]
 
+#[doc(hidden)]
+pub mod across;
+#[doc(hidden)]
+pub mod canonical;
+#[doc(hidden)]
 pub mod laws;
 pub mod traits;
+#[doc(hidden)]
+pub mod swap;

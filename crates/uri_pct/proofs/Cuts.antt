@@ -1,18 +1,18 @@
 -- What a set allows to its end, and what is cut at a mark: the two agree where the set excludes the marks.
-use Rattle.std.proofs.Common.{◌≡◌, ℕ, zero, suc, ◌+◌, ◌-◌, ◌*◌, ◌<◌, ◌≤◌, Bool, true, false, cond, eqb, not, List, [], ◌∷◌, ◌++◌, length, get_or, take, drop, refl, sym, subst, ap, ◌∙◌, arith, add-one, ◌||◌, ◌&&◌, ⊎_elim, inl, inr, ◌⊎◌, ltb}
+use Rattle.std.proofs.Common.{◌≡◌, ℕ, zero, suc, ◌+◌, ◌-◌, ◌*◌, ◌<◌, ◌≤◌, Bool, true, false, cond, eqb, not, List, [], ◌∷◌, ◌++◌, length, get_or, take, drop, refl, sym, subst, ap, ◌∙◌, arith, ◌&&◌, ⊎_elim}
 use Rattle.std.specs.Prelude.{nat_lt, slice_index}
-use Rattle.std.specs.List.{list_any, list_all, prefix_len}
+use Rattle.std.specs.List.{list_all, prefix_len}
 use Rattle.std.specs.Char.{is_ascii_hexdigit}
 use Rattle.std.specs.Str.{IsUtf8, IsCharBoundary, encode_utf8_all, continuation_len, lead_bits, chars, chars_after}
 use Rattle.std.proofs.lemmas.Str.{IsUtf8-take, IsCharBoundary-before_ascii, IsCharBoundary-end}
 use Rattle.std.proofs.lemmas.List.Sums.{prefix_len-le-length, prefix_len_stops, prefix_len_is}
 use Rattle.std.proofs.lemmas.List.{take_all, drop_all, drop_more}
-use Rattle.std.proofs.lemmas.Bool.{not-false, or_cases, cases_lt, cases_Bool, cond-true, cond-false, and_left, and_right, and_from, and_parts, or_left, or_right, lt-ltb, le-ltb, eqb-true, ltb-true, ne_eqb, not_from_true, not_from_false, not-true, both_ways, false≢true}
+use Rattle.std.proofs.lemmas.Bool.{not-false, or_cases, cases_lt, cases_Bool, cond-true, cond-false, and_left, and_right, and_from, and_parts, lt-ltb, eqb-true, ltb-true, not_from_true, not_from_false, not-true, both_ways, false≢true}
 use Rattle.std.proofs.lemmas.Bool.Decides.{nat_tests}
 use Rattle.uri_pct.specs.Sets.{TableSet, LacksPercent, is_one_of}
 use Rattle.uri_pct.specs.Tokens.{is_valid_for}
 use Rattle.uri_pct.specs.Fronts.{begins_hex, first_char, allows_first, front_from, front}
-use Rattle.uri_pct.proofs.Characters.{IsSpelt, bytes_of_char, is_high}
+use Rattle.uri_pct.proofs.Characters.{bytes_of_char, is_high}
 use Rattle.uri_pct.proofs.Validity.{valid_from, valid_cons, is_valid_for-bytes, allows_first-ascii}
 
 -- the length of the front before the first mark
@@ -159,7 +159,7 @@ pub from_mark : (marks : List ℕ) (P : List ℕ → Type 0) → P [] → ((b : 
 from_mark marks P none some bs =
     let m = to_mark marks bs in
     ⊎_elim (λ h. subst P (sym (drop_more bs m 0 h)) (some _ _ (at_mark marks bs h)))
-      (λ h. subst P (sym (drop_all m bs h)) none) (cases_lt m (length bs))
+    (λ h. subst P (sym (drop_all m bs h)) none) (cases_lt m (length bs))
 
 pub ascii_marks : (marks : List ℕ) → list_all (λ b. nat_lt b 128) marks ≡ true → AreAscii marks
 ascii_marks marks h b m = ltb-true b 128 (of_each (λ b. nat_lt b 128) marks h b m)

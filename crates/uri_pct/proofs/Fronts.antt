@@ -1,16 +1,13 @@
 -- The longest front that a set allows, step by step.
-use Rattle.std.proofs.Common.{◌≡◌, ℕ, zero, suc, ◌+◌, ◌-◌, ◌<◌, ◌≤◌, Bool, true, false, cond, eqb, List, [], ◌∷◌, ◌++◌, length, get_or, drop, refl, sym, subst, ap, ◌∙◌, arith, ◌&&◌, ⊎_elim, add-one, zero-add}
-use Rattle.std.specs.Prelude.{nat_lt}
-use Rattle.std.specs.Char.{is_ascii_hexdigit}
+use Rattle.std.proofs.Common.{◌≡◌, ℕ, zero, suc, ◌+◌, ◌<◌, ◌≤◌, true, false, cond, eqb, List, [], ◌∷◌, ◌++◌, length, get_or, drop, refl, sym, subst, ap, ◌∙◌, arith, ◌&&◌, ⊎_elim, add-one, zero-add}
 use Rattle.std.specs.Char.{encode_utf8, len_utf8}
 use Rattle.std.specs.Str.{continuation_len, IsUtf8, IsCharBoundary}
 use Rattle.std.proofs.lemmas.Str.{length-encode, chars_past_char, IsUtf8-drop}
-use Rattle.std.proofs.lemmas.List.{at_drop_more, get_or-drop, drop-drop, drop_more, drop_all, length-drop}
-use Rattle.std.proofs.lemmas.Bool.{cases_Bool, cases_lt, cond-true, cond-false, and_from, and_left, and_right, and_parts, or_left, or_right, or_cases, eq-eqb, eqb-true, ne_eqb, lt-ltb, le-ltb, both_ways, false≢true}
-use Rattle.std.proofs.lemmas.Bool.Decides.{nat_tests}
+use Rattle.std.proofs.lemmas.List.{at_drop_more, get_or-drop, drop_all}
+use Rattle.std.proofs.lemmas.Bool.{cases_Bool, cases_lt, cond-true, cond-false, and_from, and_left, and_right, and_parts, or_left, or_right, or_cases, eq-eqb, eqb-true, ne_eqb, lt-ltb, le-ltb, both_ways}
 use Rattle.uri_pct.specs.Sets.{TableSet, LacksPercent, IsSubset, allows_past_ascii}
 use Rattle.uri_pct.specs.Fronts.{begins_hex, first_char, allows_first, front_from, front, after, has_digits}
-use Rattle.uri_pct.proofs.Characters.{IsSpelt, bytes_of_char, hex_ascii}
+use Rattle.uri_pct.proofs.Characters.{bytes_of_char, hex_ascii}
 use Rattle.uri_pct.proofs.Validity.{allows_first-ascii, allows_first-past}
 use Rattle.uri_pct.proofs.Cuts.{front_cons}
 

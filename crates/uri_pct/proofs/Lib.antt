@@ -8,6 +8,11 @@ pub mod Tables
 pub mod Percent
 pub mod Constants
 pub mod EStrs
+pub mod TokenCuts
+pub mod Delimiters
+pub mod Splits
+pub mod Decoding
+pub mod OctetTexts
 pub mod Pieces
 pub mod CharacterPieces
 pub mod Printing
@@ -18,3 +23,4 @@ pub mod Octets
 pub mod ReadingLaws
 mod ReadingRows
 pub mod Lossy
+pub mod Runs

@@ -15,11 +15,11 @@ use Rattle.uri_pct.specs.Pieces.{Piece, WellFormed, IllFormed, ByteRange, IsOfCh
 use Rattle.uri_pct.proofs.Pieces.{bytes_of_pieces-utf8_pieces, pieces_from-drop, first_bytes, taken_le, take_two}
 use Rattle.uri_pct.proofs.CharacterPieces.{utf8_pieces-are, utf8_pieces-encode_first, is_piece, row_1, row_2, row_3, row_4, row_5, row_6, row_7, row_8, row_9}
 
-of_char : ℕ → Piece
+pub of_char : ℕ → Piece
 of_char c = WellFormed (encode_utf8 c)
 
 -- the pieces of a text are its characters
-text_first : (cs rest : List ℕ) → all_scalars cs ≡ true → utf8_pieces (encode_utf8_all cs ++ rest) ≡ map of_char cs ++ utf8_pieces rest
+pub text_first : (cs rest : List ℕ) → all_scalars cs ≡ true → utf8_pieces (encode_utf8_all cs ++ rest) ≡ map of_char cs ++ utf8_pieces rest
 unfolding of_char
 text_first [] rest e = refl
 text_first (c ∷ cs) rest e =
@@ -141,7 +141,7 @@ ill_formed_short b ranges rest bytes e = ⊎_elim
     (cases_eq (fitting ranges rest) (length ranges))
 
 -- an ill-formed part at the front is as long as std takes it
-abbrev IsAsLong : ℕ → Option (List ByteRange) → Type 0
+abbrev pub IsAsLong : ℕ → Option (List ByteRange) → Type 0
 IsAsLong b row = (rest bytes : List ℕ) → first_piece row b rest ≡ IllFormed bytes → suc (taken row rest) ≡ utf8_invalid_len (b ∷ rest)
 
 std_lead : (b : ℕ) (second : ByteRange) (rest : List ℕ) → 0xC2 ≤ b → b ≤ 0xF4 → second_byte_min b ≡ second.0 → second_byte_max b ≡ second.1
@@ -199,15 +199,15 @@ long_high b low = ⊎_elim (λ h. subst (IsAsLong b) (sym (row_7 b (omega arith)
     (λ l3. subst (IsAsLong b) (sym (no_row_high b (omega arith))) (long_0 b (inr (omega arith))))
     (cases_lt b 0xF5)) (cases_lt b 0xF4)) (cases_lt b 0xF1)
 
-ill_formed_len : (b : ℕ) → IsAsLong b (following b)
+pub ill_formed_len : (b : ℕ) → IsAsLong b (following b)
 ill_formed_len b = ⊎_elim (λ h. long_low b h) (λ l1. ⊎_elim (λ h. long_mid b l1 h) (λ l2. long_high b l2) (cases_lt b 0xF0)) (cases_lt b 0xE1)
 
-first_of : (text : List ℕ) → 0 < length text → (b : ℕ) × (rest : List ℕ) × (text ≡ b ∷ rest)
+pub first_of : (text : List ℕ) → 0 < length text → (b : ℕ) × (rest : List ℕ) × (text ≡ b ∷ rest)
 first_of [] h = absurd (omega arith)
 first_of (b ∷ rest) h = (b, rest, refl)
 
 -- behind the longest front that is UTF-8 stands an ill-formed part
-fault_first : (bs : List ℕ) (b : ℕ) (rest : List ℕ) (p : Piece) → drop (utf8_valid_len bs) bs ≡ b ∷ rest → first_piece (following b) b rest ≡ p → (bytes : List ℕ) × (p ≡ IllFormed bytes)
+pub fault_first : (bs : List ℕ) (b : ℕ) (rest : List ℕ) (p : Piece) → drop (utf8_valid_len bs) bs ≡ b ∷ rest → first_piece (following b) b rest ≡ p → (bytes : List ℕ) × (p ≡ IllFormed bytes)
 unfolding utf8_valid_len
 fault_first bs b rest (IllFormed bytes) behind e = (bytes, refl)
 fault_first bs b rest (WellFormed bytes) behind e =
@@ -221,7 +221,7 @@ fault_first bs b rest (WellFormed bytes) behind e =
     let within = taken_le (following b) rest in
     absurd (front_longest bs (length bs) (n + suc m) (omega arith) (omega arith) (subst IsUtf8 whole (IsUtf8-append (take n bs) bytes (front_utf8 bs (length bs)) text)))
 
-valid_front : (bs : List ℕ) → IsUtf8 (take (utf8_valid_len bs) bs)
+pub valid_front : (bs : List ℕ) → IsUtf8 (take (utf8_valid_len bs) bs)
 unfolding utf8_valid_len
 valid_front bs = front_utf8 bs (length bs)
 

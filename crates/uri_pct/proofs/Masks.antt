@@ -1,11 +1,11 @@
 -- Two words as a set of ASCII characters.
-use Rattle.std.proofs.Common.{◌≡◌, ℕ, ◌+◌, ◌-◌, ◌*◌, ◌/◌, ◌%◌, ◌^◌, ◌<◌, ◌≤◌, min, max, Bool, true, false, not, eqb, [], ◌∷◌, refl, sym, ap, ◌∙◌, arith, bit_and, bit_or, ◌&&◌, ◌||◌, ⊎_elim, w64}
+use Rattle.std.proofs.Common.{◌≡◌, ℕ, ◌+◌, ◌-◌, ◌*◌, ◌/◌, ◌%◌, ◌^◌, ◌<◌, ◌≤◌, min, max, Bool, true, false, not, eqb, List, refl, sym, ap, ◌∙◌, arith, bit_and, bit_or, ◌&&◌, ◌||◌, ⊎_elim, w64}
 use Rattle.std.specs.Prelude.{slice_index_or}
 use Rattle.std.specs.Int.{bit_at, bit_not}
 use Rattle.std.proofs.Math.Bool.{or-false}
 use Rattle.std.proofs.lemmas.Nat.{and_mask}
 use Rattle.std.proofs.lemmas.Nat.Bits.{shr_and_one, bit_at-zero, bit_at-lt, bit_at_or, bit_at_and, bit_at_not, bit_at_set_same, bit_at_set_other, same_from_bits_below}
-use Rattle.std.proofs.lemmas.Bool.{cases_lt, cases_eq, cond-true, cond-false, lt-ltb, le-ltb, eq-eqb, ne_eqb, eqb-false, or_from, or_right, and_left, agree_below, agree_below_at}
+use Rattle.std.proofs.lemmas.Bool.{cases_lt, cases_eq, cond-true, cond-false, lt-ltb, le-ltb, eq-eqb, ne_eqb, eqb-false, or_from, or_right, and_left, agree_below, agree_below_at, both_ways}
 use Rattle.std.proofs.lemmas.Bool.Decides.{nat_tests}
 use Rattle.uri_pct.specs.Masks.{has_bit}
 
@@ -22,36 +22,42 @@ pub has_no_bit : (low high c : ℕ) → 128 ≤ c → has_bit low high c ≡ fal
 unfolding has_bit
 has_no_bit low high c h = cond-false _ _ _ (le-ltb c 64 (omega arith)) ∙ ap (λ b. b && eqb (bit_at high (c - 64)) 1) (le-ltb c 128 h)
 
+pub bit_ascii : (low high c : ℕ) → has_bit low high c ≡ true → c < 128
+bit_ascii low high c e = ⊎_elim (λ (below : c < 128). below) (λ (past : 128 ≤ c). absurd (both_ways _ (has_no_bit low high c past) e)) (cases_lt c 128)
+
 -- the place of `%`
 pub percent_bit : (low high : ℕ) → has_bit low high 37 ≡ eqb (bit_at low 37) 1
 unfolding has_bit
 percent_bit low high = refl
 
--- the bit that the code reads, out of four words of which two are empty
-abbrev pub bit_read : ℕ → ℕ → ℕ → Bool
-bit_read low high b = eqb (bit_and (slice_index_or (low ∷ high ∷ 0 ∷ 0 ∷ []) (b / 64) 0 / 2 ^ bit_and b 63) 1) 1
+-- the bit that the code reads, out of four words
+abbrev pub bit_read : List ℕ → ℕ → Bool
+bit_read words b = eqb (bit_and (slice_index_or words (b / 64) 0 / 2 ^ bit_and b 63) 1) 1
 
-bit_of_word : (low high b q : ℕ) → b / 64 ≡ q → bit_read low high b ≡ eqb (bit_at (slice_index_or (low ∷ high ∷ 0 ∷ 0 ∷ []) q 0) (b - 64 * q)) 1
-bit_of_word low high b q e =
+bit_of_word : (words : List ℕ) (b q : ℕ) → b / 64 ≡ q → bit_read words b ≡ eqb (bit_at (slice_index_or words q 0) (b - 64 * q)) 1
+bit_of_word words b q e =
     let place : bit_and b 63 ≡ b - 64 * q = and_mask b 6 ∙ omega arith in
-    ap (λ w. eqb w 1) (shr_and_one (slice_index_or (low ∷ high ∷ 0 ∷ 0 ∷ []) (b / 64) 0) (bit_and b 63))
-    ∙ ap (λ k. eqb (bit_at (slice_index_or (low ∷ high ∷ 0 ∷ 0 ∷ []) (b / 64) 0) k) 1) place
-    ∙ ap (λ k. eqb (bit_at (slice_index_or (low ∷ high ∷ 0 ∷ 0 ∷ []) k 0) (b - 64 * q)) 1) e
+    ap (λ w. eqb w 1) (shr_and_one (slice_index_or words (b / 64) 0) (bit_and b 63))
+    ∙ ap (λ k. eqb (bit_at (slice_index_or words (b / 64) 0) k) 1) place
+    ∙ ap (λ k. eqb (bit_at (slice_index_or words k 0) (b - 64 * q)) 1) e
 
-no_bit_of_zero : (k : ℕ) → eqb (bit_at 0 k) 1 ≡ false
-no_bit_of_zero k = ap (λ w. eqb w 1) (bit_at-zero k)
+no_bit_of_zero : (w k : ℕ) → w ≡ 0 → eqb (bit_at w k) 1 ≡ false
+no_bit_of_zero w k e = ap (λ v. eqb (bit_at v k) 1) e ∙ ap (λ v. eqb v 1) (bit_at-zero k)
 
-pub bit_read_is : (low high b : ℕ) → b < 256 → bit_read low high b ≡ has_bit low high b
-bit_read_is low high b h =
+-- the last two words are empty
+pub bit_read_is : (words : List ℕ) (b : ℕ) → slice_index_or words 2 0 ≡ 0 → slice_index_or words 3 0 ≡ 0 → b < 256 → bit_read words b ≡ has_bit (slice_index_or words 0 0) (slice_index_or words 1 0) b
+bit_read_is words b third fourth h =
+    let low = slice_index_or words 0 0 in
+    let high = slice_index_or words 1 0 in
     ⊎_elim
-    (λ (below : b < 64). bit_of_word low high b 0 (omega arith) ∙ ap (λ k. eqb (bit_at low k) 1) (omega arith) ∙ sym (has_low_bit low high b below))
+    (λ (below : b < 64). bit_of_word words b 0 (omega arith) ∙ ap (λ k. eqb (bit_at low k) 1) (omega arith) ∙ sym (has_low_bit low high b below))
     (λ (from : 64 ≤ b).
     ⊎_elim
-    (λ (below : b < 128). bit_of_word low high b 1 (omega arith) ∙ ap (λ k. eqb (bit_at high k) 1) (omega arith) ∙ sym (has_high_bit low high b from below))
+    (λ (below : b < 128). bit_of_word words b 1 (omega arith) ∙ ap (λ k. eqb (bit_at high k) 1) (omega arith) ∙ sym (has_high_bit low high b from below))
     (λ (past : 128 ≤ b).
     ⊎_elim
-    (λ (below : b < 192). bit_of_word low high b 2 (omega arith) ∙ no_bit_of_zero (b - 64 * 2) ∙ sym (has_no_bit low high b past))
-    (λ (last : 192 ≤ b). bit_of_word low high b 3 (omega arith) ∙ no_bit_of_zero (b - 64 * 3) ∙ sym (has_no_bit low high b past))
+    (λ (below : b < 192). bit_of_word words b 2 (omega arith) ∙ no_bit_of_zero _ (b - 64 * 2) third ∙ sym (has_no_bit low high b past))
+    (λ (last : 192 ≤ b). bit_of_word words b 3 (omega arith) ∙ no_bit_of_zero _ (b - 64 * 3) fourth ∙ sym (has_no_bit low high b past))
     (cases_lt b 192))
     (cases_lt b 128))
     (cases_lt b 64)
@@ -139,7 +145,7 @@ has_bit_set_high low high k c from within =
 
 -- no bit at all
 pub has_no_bits : (c : ℕ) → has_bit 0 0 c ≡ false
-has_no_bits = has_bit_by 0 0 (λ c. false) (λ c h. no_bit_of_zero c) (λ c h k. no_bit_of_zero (c - 64)) (λ c h. refl)
+has_no_bits = has_bit_by 0 0 (λ c. false) (λ c h. no_bit_of_zero 0 c refl) (λ c h k. no_bit_of_zero 0 (c - 64) refl) (λ c h. refl)
 
 no_bit : (n i : ℕ) → eqb (bit_at n i) 1 ≡ false → bit_at n i ≡ 0
 no_bit n i e =

@@ -43,7 +43,7 @@ token_scalars (Octet v) e =
     let low : digit_glyph true (v % 16) < 128 = ltb-true _ 128 p.1 in
     and_from _ _ (low_scalar (digit_glyph true (v / 16)) (omega arith)) (and_from _ _ (low_scalar (digit_glyph true (v % 16)) (omega arith)) refl)
 
-char_first : (c : ℕ) (cs : List ℕ) → eqb c 37 ≡ false → tokens_of (c ∷ cs) ≡ Char c ∷ tokens_of cs
+pub char_first : (c : ℕ) (cs : List ℕ) → eqb c 37 ≡ false → tokens_of (c ∷ cs) ≡ Char c ∷ tokens_of cs
 unfolding tokens_of is_pct_encoded
 char_first c [] e = refl
 char_first c (d ∷ []) e = refl

@@ -1,12 +1,12 @@
 -- Validity for a set, byte by byte.
-use Rattle.std.proofs.Common.{◌≡◌, ℕ, zero, suc, ◌+◌, ◌<◌, ◌≤◌, Bool, true, false, cond, eqb, List, [], ◌∷◌, ◌++◌, length, get_or, drop, refl, sym, ap, ◌∙◌, arith, ◌&&◌, ⊎_elim, ltb}
+use Rattle.std.proofs.Common.{◌≡◌, ℕ, zero, suc, ◌<◌, ◌≤◌, Bool, true, false, cond, eqb, List, [], ◌∷◌, ◌++◌, length, get_or, drop, refl, sym, ap, ◌∙◌, arith, ◌&&◌, ⊎_elim}
 use Rattle.std.specs.List.{list_all}
 use Rattle.std.specs.Char.{is_ascii_hexdigit, encode_utf8}
 use Rattle.std.specs.Str.{chars, IsUtf8, encode_utf8_all, all_scalars, continuation_len}
 use Rattle.std.proofs.lemmas.Str.{chars-encodes, encode_ascii}
 use Rattle.std.proofs.lemmas.Bool.{cases_lt, cases_Bool, and_parts, eqb-true, cond-true, cond-false, and_left, and_right, and_from, lt-ltb, le-ltb, ne_eqb}
 use Rattle.uri_pct.specs.Sets.{TableSet, LacksPercent, allows, allows_past_ascii}
-use Rattle.uri_pct.specs.Tokens.{Token, tokens_of, allows_token, is_valid_for, is_pct_encoded}
+use Rattle.uri_pct.specs.Tokens.{tokens_of, allows_token, is_valid_for, is_pct_encoded}
 use Rattle.uri_pct.specs.Fronts.{begins_hex, first_char, allows_first}
 use Rattle.uri_pct.proofs.Characters.{IsSpelt, bytes_of_char, lead, first_char-encodes, hex_ascii, begins_hex-encodes}
 

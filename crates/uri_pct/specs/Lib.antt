@@ -6,3 +6,9 @@ pub mod Tables
 pub mod EStrs
 pub mod Pieces
 pub mod Reading
+pub mod Texts
+pub mod Splits
+pub mod Chunks
+pub mod DecodedChunks
+pub mod Decodes
+pub mod Parts

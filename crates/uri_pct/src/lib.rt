@@ -1,14 +1,22 @@
 //! Sets of characters, and texts that are percent-encoded over them.
 #![tactic(auto)]
 
+#[doc(hidden)]
+pub mod decode;
 pub mod encoder;
 #[doc(hidden)]
 pub mod laws;
+#[doc(hidden)]
+pub mod octet;
+#[doc(hidden)]
+pub mod parts;
 pub mod pct_enc;
 #[doc(hidden)]
 pub mod rules;
 #[doc(hidden)]
 pub mod scan;
+#[doc(hidden)]
+pub mod split;
 pub mod table;
 #[doc(hidden)]
 pub mod utf8;

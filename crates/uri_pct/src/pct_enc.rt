@@ -1,9 +1,17 @@
 //! Texts that are percent-encoded over an encoder's set (RFC 3986, section 2.1).
-ghost use Rattle.std.specs.Prelude.{◌≡◌, ◌==◌, ◌↔◌, IsSome, IfSome, true, length};
-ghost use Rattle.uri_pct.specs.Tokens.{is_valid_for, IsValidFor};
+ghost use Rattle.std.specs.Prelude.{◌≡◌, ◌==◌, ◌↔◌, IsSome, IfSome, IsTrue, true, false, length, not};
+ghost use Rattle.uri_pct.specs.Sets.{IsSubset};
+ghost use Rattle.uri_pct.specs.Tokens.{Octet, text_of_token, is_valid_for, IsValidFor};
+ghost use Rattle.uri_pct.specs.Texts.{is_unencoded, is_absolute};
 
-use crate::encoder::Encoder;
+pub use crate::decode::{Decode, DecodedChunk};
+use crate::encoder::{Encoder, PathEncoder};
+use crate::octet::pct_encoded;
+pub use crate::split::Split;
 use std::alloc::AllocError;
+use std::cmp::Ordering;
+use std::fmt;
+use std::hash::{Hash, Hasher};
 use std::marker::PhantomData;
 
 /// A text that is spelt by characters that the table of `E` allows and, where it allows
@@ -28,7 +36,7 @@ impl<'a, E: Encoder> Clone for EStr<'a, E> {
 
 impl<'a, E: Encoder> Copy for EStr<'a, E> {}
 
-#[tactic(auto, using(crate::proofs::EStrs::valid_empty))]
+#[tactic(auto, using(crate::proofs::EStrs::valid_empty, crate::proofs::EStrs::valid_octet, crate::proofs::EStrs::valid_in_more))]
 impl<'a, E: Encoder> EStr<'a, E> {
     ghost use Rattle.uri_pct.specs.EStrs.{text_of};
 
@@ -90,5 +98,154 @@ impl<'a, E: Encoder> EStr<'a, E> {
         ensures { result ≡ (length (text_of self.entry) == 0) }
     {
         self.text.is_empty()
+    }
+
+    /// Whether no `%` stands in the text: it has no percent-encoded octet.
+    pub fn is_unencoded(self) -> bool
+        ensures { result ≡ is_unencoded (text_of self.entry) }
+    {
+        self.text.as_bytes().iter().all(|&byte| byte != b'%')
+    }
+
+    /// The same text, for an encoder whose table allows all that the table of `E` allows:
+    /// `Table::is_subset` tests it.
+    pub fn upcast<SuperE: Encoder>(self) -> EStr<'a, SuperE>
+        requires { IsSubset E.set SuperE.set }
+        ensures { text_of result ≡ text_of self.entry }
+    {
+        EStr {
+            text: self.text,
+            encoder: PhantomData,
+        }
+    }
+
+    /// The byte as a percent-encoded octet, `%` and two upper-case hexadecimal digits
+    /// (RFC 3986, section 2.1). The table of `E` allows such octets: `Table::allows_pct_encoded`
+    /// tests it.
+    pub fn encode_byte(byte: u8) -> EStr<'static, E>
+        requires { IsTrue (E.set).pct_encoded }
+        ensures { text_of result ≡ text_of_token (Octet byte) }
+    {
+        EStr {
+            text: pct_encoded(byte),
+            encoder: PhantomData,
+        }
+    }
+}
+
+impl<'a, E: PathEncoder> EStr<'a, E> {
+    ghost use Rattle.uri_pct.specs.EStrs.{text_of};
+
+    /// Whether the path begins with `/`.
+    pub fn is_absolute(self) -> bool
+        ensures { result ≡ is_absolute (text_of self.entry) }
+    {
+        self.text.starts_with('/')
+    }
+
+    /// Whether the path does not begin with `/`.
+    pub fn is_rootless(self) -> bool
+        ensures { result ≡ not (is_absolute (text_of self.entry)) }
+    {
+        !self.is_absolute()
+    }
+}
+
+#[tactic(auto, using(crate::proofs::EStrs::valid_empty))]
+impl<'a, E: Encoder> Default for EStr<'a, E> {
+    ghost use Rattle.std.specs.Prelude.{[]};
+    ghost use Rattle.uri_pct.specs.EStrs.{text_of};
+
+    ghost is_default = { λ e. text_of e ≡ [] };
+
+    /// The empty text.
+    fn default() -> Self {
+        EStr::new_unchecked("")
+    }
+}
+
+impl<'a, E: Encoder> fmt::Display for EStr<'a, E> {
+    ghost use Rattle.std.specs.Prelude.{Some};
+    ghost use Rattle.uri_pct.specs.EStrs.{text_of};
+
+    ghost output = { λ e. Some (text_of e) };
+
+    fn fmt<W: fmt::Write>(&self, f: &mut fmt::Formatter<W>) -> fmt::Result {
+        f.write_str(self.text)
+    }
+}
+
+impl<'a, E: Encoder> PartialEq for EStr<'a, E> {
+    ghost use Rattle.std.proofs.Common.{rules};
+    ghost use Rattle.std.specs.Cmp.Rules.{comparing};
+    ghost use Rattle.std.specs.Ordering.{on};
+    ghost use Rattle.std.specs.Cmp.Lexicographic.{pointwise};
+    ghost use Rattle.uri_pct.specs.EStrs.{text_of};
+
+    ghost eq = { on text_of (pointwise ◌==◌) };
+
+    ghost laws = { Prim.search (comparing, rules) };
+
+    fn eq(&self, other: &Self) -> bool {
+        self.text == other.text
+    }
+}
+
+impl<'a, E: Encoder> Eq for EStr<'a, E> {
+    ghost use Rattle.std.proofs.Common.{rules};
+    ghost use Rattle.std.specs.Cmp.Rules.{comparing};
+
+    ghost laws = { Prim.search (comparing, rules) };
+}
+
+impl<'a, E: Encoder> Ord for EStr<'a, E> {
+    ghost use Rattle.std.proofs.Common.{rules};
+    ghost use Rattle.std.specs.Cmp.Rules.{comparing};
+    ghost use Rattle.std.specs.Ordering.{on, nat_cmp};
+    ghost use Rattle.std.specs.Cmp.Lexicographic.{slice_cmp};
+    ghost use Rattle.uri_pct.specs.EStrs.{text_of};
+
+    ghost cmp = { on text_of (slice_cmp nat_cmp) };
+
+    ghost total = { Prim.search (comparing, rules) };
+
+    ghost matches_partial_cmp = { Prim.search (comparing, rules) };
+
+    ghost matches_eq = { Prim.search (comparing, rules) };
+
+    fn cmp(&self, other: &Self) -> Ordering {
+        self.text.cmp(other.text)
+    }
+}
+
+impl<'a, E: Encoder> PartialOrd for EStr<'a, E> {
+    ghost use Rattle.std.proofs.Common.{rules};
+    ghost use Rattle.std.specs.Cmp.Rules.{comparing};
+    ghost use Rattle.std.specs.Cmp.{partial_order_from_own_ties};
+    ghost use Rattle.std.specs.Ordering.{on, nat_cmp, as_partial_cmp};
+    ghost use Rattle.std.specs.Cmp.Lexicographic.{slice_cmp};
+    ghost use Rattle.uri_pct.specs.EStrs.{text_of};
+
+    ghost partial_cmp = { as_partial_cmp (on text_of (slice_cmp nat_cmp)) };
+
+    ghost laws = { partial_order_from_own_ties (Prim.search (comparing, rules)) (Prim.search (comparing, rules)) };
+
+    fn partial_cmp(&self, other: &Self) -> Option<Ordering> {
+        Some(self.cmp(other))
+    }
+}
+
+impl<'a, E: Encoder> Hash for EStr<'a, E> {
+    ghost use Rattle.std.proofs.Common.{rules};
+    ghost use Rattle.std.specs.Hash as fed;
+    ghost use Rattle.std.specs.Cmp.Rules.{comparing, hashing};
+    ghost use Rattle.uri_pct.specs.EStrs.{text_of};
+
+    ghost hash_input = { λ e. fed.str (text_of e) };
+
+    ghost respects_eq = { Prim.search (hashing, rules) };
+
+    fn hash<H: Hasher>(&self, state: &mut H) {
+        self.text.hash(state);
     }
 }

@@ -32,11 +32,13 @@ impl Table {
     {
         let bytes = text.as_bytes();
         let mut i = start;
-        while i < bytes.len() {
+        loop {
+            i = self.pass_ascii(text, i);
+            if i == bytes.len() {
+                break;
+            }
             let byte = bytes[i];
-            if self.allows_ascii(byte) {
-                i += 1;
-            } else if byte >= 128 {
+            if byte >= 128 {
                 let ch = char_at(text, i);
                 if !self.allows_past_ascii(ch) {
                     break;

@@ -1,8 +1,10 @@
 //! Sets of characters (RFC 3986, appendix A; RFC 3987, section 2.2).
-ghost use Rattle.std.specs.Prelude.{◌≡◌, ◌<◌, ◌↔◌, ◌==◌, IsTrue, true, false};
+ghost use Rattle.std.specs.Prelude.{◌≡◌, ◌<◌, ◌≤◌, ◌+◌, ◌↔◌, ◌==◌, IsTrue, true, false, length, drop, slice_index};
 ghost use Rattle.std.specs.Int.{bit_at};
 ghost use Rattle.std.specs.List.{list_all};
-ghost use Rattle.uri_pct.specs.Masks.{is_plain_ascii};
+ghost use Rattle.std.specs.Str.{IsCharBoundary};
+ghost use Rattle.uri_pct.specs.Fronts.{front};
+ghost use Rattle.uri_pct.specs.Masks.{has_bit, is_plain_ascii};
 ghost use Rattle.uri_pct.specs.Sets.{allows, allows_past_ascii, is_ucschar, is_iprivate, is_one_of, plain, union, difference, IsSubset};
 
 /// A set of ASCII characters other than `%`, and three flags: whether percent-encoded octets,
@@ -122,8 +124,38 @@ impl Table {
         ensures value { result ≡ (set_of self.now).ascii byte }
         ensures ascii { IsTrue result → byte < 128 }
     {
-        let words = [self.low, self.high, 0, 0];
-        (words[(byte >> 6) as usize] >> (byte & 63)) & 1 == 1
+        holds(&self.words(), byte)
+    }
+
+    /// The bits of the codes below 64, of those from 64 on, and of those that are no ASCII.
+    #[inline]
+    fn words(&self) -> [u64; 4]
+        ensures low { slice_index result 0 ≡ self.now.low }
+        ensures high { slice_index result 1 ≡ self.now.high }
+        ensures third { slice_index result 2 ≡ 0 }
+        ensures fourth { slice_index result 3 ≡ 0 }
+    {
+        [self.low, self.high, 0, 0]
+    }
+
+    /// Where the run of ASCII characters ends that begins at `start` and that the table allows,
+    /// both as byte offsets.
+    #[inline]
+    #[doc(hidden)]
+    pub fn pass_ascii(&self, text: &str, start: usize) -> usize
+        requires { IsCharBoundary text.now start }
+        ensures total { result + front (set_of self.now) (drop result text.now) ≡ start + front (set_of self.now) (drop start text.now) }
+        ensures from { start ≤ result }
+        ensures boundary { IsCharBoundary text.now result }
+        ensures stop { result < length text.now → (set_of self.now).ascii (slice_index text.now result) ≡ false }
+    {
+        let words = self.words();
+        let bytes = text.as_bytes();
+        let mut i = start;
+        while i < bytes.len() && holds(&words, bytes[i]) {
+            i += 1;
+        }
+        i
     }
 
     /// Whether a character past ASCII is allowed, as one of `ucschar` or of `iprivate`.
@@ -146,6 +178,16 @@ impl Table {
             self.allows_past_ascii(ch)
         }
     }
+}
+
+/// Whether the bit of the code `byte` is set in the words, of which the last two are empty.
+#[inline]
+fn holds(words: &[u64; 4], byte: u8) -> bool
+    requires third { slice_index words.now 2 ≡ 0 }
+    requires fourth { slice_index words.now 3 ≡ 0 }
+    ensures { result ≡ has_bit (slice_index words.now 0) (slice_index words.now 1) byte }
+{
+    (words[(byte >> 6) as usize] >> (byte & 63)) & 1 == 1
 }
 
 /// A character of the rule `ucschar` (RFC 3987, section 2.2).

@@ -1,5 +1,4 @@
-use Rattle.std.proofs.Common.{◌≡◌, ◌+◌, ◌++◌, drop, encode_utf8, sym, ◌∙◌, ap}
-use Rattle.std.specs.Char.{len_utf8}
+use Rattle.std.proofs.Common.{◌≡◌, ◌++◌, drop, encode_utf8, sym, ◌∙◌, ap}
 use Rattle.std.proofs.lemmas.Str.{drop_past_char}
 use Rattle.uri_pct.proofs.utf8.char_at.Goals as goal
 

@@ -1,5 +1,6 @@
-use Rattle.uri_pct.proofs.Masks.{bit_read_is}
+use Rattle.std.proofs.Common.{sym, ◌∙◌}
+use Rattle.uri_pct.proofs.Masks.{bit_ascii}
 use Rattle.uri_pct.proofs.table.Table.allows_ascii.Goals as goal
 
-pub returns-clause-value : goal.returns-clause-value
-returns-clause-value c = bit_read_is c.args.self.now.low c.args.self.now.high c.args.byte c.ranges.byte.fits
+pub returns-clause-ascii : goal.returns-clause-ascii
+returns-clause-ascii c = λ h. bit_ascii _ _ _ (sym c.holds.ensures ∙ h)

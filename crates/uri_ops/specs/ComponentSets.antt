@@ -1,0 +1,20 @@
+-- What the characters of each component have in common in all kinds: RFC 3986, sections 2.2, 2.3 and 3, and RFC 3987, section 2.2.
+use Rattle.std.specs.Prelude.{◌≡◌, true, false, List, ℕ, codes}
+use Rattle.std.specs.List.{list_any}
+use Rattle.uri_pct.specs.Sets.{TableSet, LacksPercent, IsSubset, unreserved_set}
+use Rattle.uri_parts.specs.Grammar.{Kind}
+
+-- a component may have the unreserved characters and percent-encoded octets, and neither `%` by itself nor one of the marks, which end it
+pub record IsComponentSet (marks : List ℕ) (set : TableSet) : Type 0 where
+  pub unreserved : IsSubset unreserved_set set
+  pub percent : LacksPercent set
+  pub octets : set.pct_encoded ≡ true
+  pub ends : list_any set.ascii marks ≡ false
+
+pub record HasComponentSets (kind : Kind) : Type 0 where
+  pub userinfo : IsComponentSet (codes "/?#[]@") kind.userinfo
+  pub reg_name : IsComponentSet (codes "/?#[]@:") kind.reg_name
+  pub path : IsComponentSet (codes "?#[]") kind.path
+  pub slash : kind.path.ascii 47 ≡ true
+  pub query : IsComponentSet (codes "#[]") kind.query
+  pub fragment : IsComponentSet (codes "#[]") kind.fragment

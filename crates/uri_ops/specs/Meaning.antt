@@ -1,0 +1,81 @@
+-- What a text means: RFC 3986, section 6.2.2 with, of section 6.2.3, what it says of ports; RFC 3987, section 5.3.2.
+use Rattle.std.specs.Prelude.{ℕ, ◌&&◌, ◌||◌, List, map, Option, Some, None, is_some, option_map, if◌then◌else◌}
+use Rattle.std.specs.Option.{option_and_then}
+use Rattle.std.specs.Str.{str_to_ascii_lowercase}
+use Rattle.uri_pct.specs.Sets.{TableSet}
+use Rattle.uri_pct.specs.Tokens.{Token}
+use Rattle.uri_pct.specs.Reading.{read, lower_token}
+use Rattle.uri_parts.specs.Components.{Components, starts, components}
+use Rattle.uri_parts.specs.Hosts.{HostKind, Ipv4, Ipv6, IpvFuture, RegName, host_kind}
+use Rattle.uri_parts.specs.Authority.{authority_parts}
+use Rattle.uri_parts.specs.Grammar.{Kind}
+use Rattle.uri_ops.specs.Dots.{is_empty, remove_dot_segments}
+use Rattle.uri_ops.specs.Ports.{PortFunction, no_defaults, is_default}
+
+-- a host is the numbers of an IPv6 address, an address of a later version in brackets, or the characters and octets of a name
+pub data HostMeaning : Type 0 where
+  Address : List ℕ → HostMeaning
+  FutureAddress : List ℕ → HostMeaning
+  Name : List Token → HostMeaning
+
+pub record AuthorityMeaning : Type 0 where
+  pub userinfo : Option (List Token)
+  pub host : HostMeaning
+  pub port : Option (List ℕ)
+
+pub record Meaning : Type 0 where
+  pub scheme : Option (List ℕ)
+  pub authority : Option AuthorityMeaning
+  pub path : List Token
+  pub query : Option (List Token)
+  pub fragment : Option (List Token)
+
+-- Section 6.2.2.1: a host is the same in upper and lower case, an IPv6 address by its numbers. The ASCII letters that octets stand for count too, and
+-- an IPv4 address is its characters.
+abbrev pub host_meaning : TableSet → List ℕ → HostKind → HostMeaning
+host_meaning names host (Ipv6 segments) = Address segments
+host_meaning names host IpvFuture = FutureAddress (str_to_ascii_lowercase host)
+host_meaning names host (Ipv4 octets) = Name (map lower_token (read names host))
+host_meaning names host RegName = Name (map lower_token (read names host))
+
+-- section 6.2.3: an empty port and the scheme's default port are as none; every other port is its digits
+abbrev pub port_meaning : Option ℕ → Option (List ℕ) → Option (List ℕ)
+port_meaning default None = None
+port_meaning default (Some digits) = if is_empty digits || is_default default digits then None else Some digits
+
+abbrev pub authority_meaning : Kind → Option ℕ → List ℕ → AuthorityMeaning
+authority_meaning kind default authority =
+    let p = authority_parts authority in
+    record {
+      userinfo = option_map (read kind.userinfo) p.userinfo;
+      host = host_meaning kind.reg_name p.host (host_kind p.host);
+      port = port_meaning default p.port;
+    }
+
+-- section 6.2.2.3: under a scheme a path that begins with `/` is without its dot segments
+abbrev pub plain_path : Option (List ℕ) → List ℕ → List ℕ
+plain_path scheme path = if is_some scheme && starts 47 path then remove_dot_segments path else path
+
+abbrev pub components_meaning : Kind → PortFunction → Components → Meaning
+components_meaning kind ports p =
+    let scheme = option_map str_to_ascii_lowercase p.scheme in
+    record {
+      scheme = scheme;
+      authority = option_map (authority_meaning kind (option_and_then ports scheme)) p.authority;
+      path = read kind.path (plain_path p.scheme p.path);
+      query = option_map (read kind.query) p.query;
+      fragment = option_map (read kind.fragment) p.fragment;
+    }
+
+-- the meaning of a text of the kind, under a port function
+abbrev pub meaning_of : Kind → PortFunction → List ℕ → Meaning
+meaning_of kind ports text = components_meaning kind ports (components text)
+
+-- the same where no scheme has a default port: every port that is not empty is part of it
+abbrev pub bare_meaning_of : Kind → List ℕ → Meaning
+bare_meaning_of kind text = meaning_of kind no_defaults text
+
+-- what a port function leaves of a bare meaning
+abbrev pub under : PortFunction → Meaning → Meaning
+under ports m =
+    record m { authority = option_map (λ (a : AuthorityMeaning). record a { port = port_meaning (option_and_then ports m.scheme) a.port }) m.authority }

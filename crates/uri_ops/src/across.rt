@@ -1,0 +1,33 @@
+//! Laws of texts whose characters past ASCII are replaced by their octets, each the contract of a
+//! function that does nothing.
+ghost use Rattle.std.specs.Prelude.{◌≡◌, ℕ, List};
+ghost use Rattle.std.specs.Result.{result_map_both};
+ghost use Rattle.std.specs.Str.{IsUtf8};
+ghost use Rattle.uri_parts.specs.Components.{components};
+ghost use Rattle.uri_parts.specs.Grammar.{Kind, uri_ref};
+ghost use Rattle.uri_ops.specs.ComponentSets.{HasComponentSets};
+ghost use Rattle.uri_ops.specs.Encoded.{ascii_kind, encoded_text};
+ghost use Rattle.uri_ops.specs.FourKinds.{iri, iri_ref, uri};
+ghost use Rattle.uri_ops.specs.Meaning.{bare_meaning_of, meaning_of};
+ghost use Rattle.uri_ops.specs.Ports.{PortFunction};
+ghost use Rattle.uri_ops.specs.Target.{resolution_of, target_underflows};
+ghost use Rattle.uri_ops.specs.Texts.{IsTextOf};
+
+/// A text of a kind of IRIs with its characters past ASCII as octets is of the kind of URIs that
+/// goes with it (RFC 3987, section 3.1), and read as an IRI it means what the text means.
+#[doc(hidden)]
+pub fn encoded_texts_mean_the_same()
+    ensures uri { ascii_kind iri ≡ uri }
+    ensures uri_ref { ascii_kind iri_ref ≡ uri_ref }
+    ensures text { (kind : Kind) (text : List ℕ) → HasComponentSets kind → IsTextOf kind text → IsTextOf (ascii_kind kind) (encoded_text text) }
+    ensures bare { (kind : Kind) (text : List ℕ) → HasComponentSets kind → IsTextOf kind text → bare_meaning_of kind (encoded_text text) ≡ bare_meaning_of kind text }
+    ensures meaning { (kind : Kind) (ports : PortFunction) (text : List ℕ) → HasComponentSets kind → IsTextOf kind text → meaning_of kind ports (encoded_text text) ≡ meaning_of kind ports text }
+{}
+
+/// What a base and a reference resolve to, with the characters past ASCII of both as octets, is the
+/// same refusal, or the target with its characters past ASCII as octets, and underflows alike.
+#[doc(hidden)]
+pub fn encoded_texts_resolve_alike()
+    ensures resolution { (base reference : List ℕ) → IsUtf8 base → IsUtf8 reference → resolution_of (components (encoded_text base)) (components (encoded_text reference)) ≡ result_map_both encoded_text (λ refusal. refusal) (resolution_of (components base) (components reference)) }
+    ensures underflow { (base reference target : List ℕ) → IsUtf8 base → IsUtf8 reference → resolution_of (components base) (components reference) ≡ Ok target → target_underflows (components (encoded_text base)) (components (encoded_text reference)) ≡ target_underflows (components base) (components reference) }
+{}

@@ -1,0 +1,39 @@
+//! Laws of meanings and normal texts, each the contract of a function that does nothing.
+ghost use Rattle.std.specs.Prelude.{◌≡◌, ◌↔◌, ℕ, List};
+ghost use Rattle.uri_parts.specs.Grammar.{Kind, uri_ref};
+ghost use Rattle.uri_ops.specs.ComponentSets.{HasComponentSets};
+ghost use Rattle.uri_ops.specs.FourKinds.{iri, iri_ref, uri};
+ghost use Rattle.uri_ops.specs.Meaning.{bare_meaning_of, meaning_of, under};
+ghost use Rattle.uri_ops.specs.Normal.{normal_text};
+ghost use Rattle.uri_ops.specs.Ports.{PortFunction};
+ghost use Rattle.uri_ops.specs.Texts.{IsTextOf};
+
+/// The sets of the four kinds have what the laws below ask of a kind's (RFC 3986, sections 2.2, 2.3
+/// and 3, and RFC 3987, section 2.2).
+#[doc(hidden)]
+#[tactic(auto, using(crate::proofs::FourKinds::uri_sets, crate::proofs::FourKinds::uri_ref_sets, crate::proofs::FourKinds::iri_sets, crate::proofs::FourKinds::iri_ref_sets))]
+pub fn four_kinds_have_component_sets()
+    ensures uri { HasComponentSets uri }
+    ensures uri_ref { HasComponentSets uri_ref }
+    ensures iri { HasComponentSets iri }
+    ensures iri_ref { HasComponentSets iri_ref }
+{}
+
+/// The meaning under a port function is a function of the bare meaning (RFC 3986, section 6.2.3).
+#[doc(hidden)]
+#[tactic(auto, using(crate::proofs::NormalTexts::canonical))]
+pub fn meaning_under_ports()
+    ensures { (kind : Kind) (ports : PortFunction) (text : List ℕ) → meaning_of kind ports text ≡ under ports (bare_meaning_of kind text) }
+{}
+
+/// The normal text of a text's meaning is a text of the kind and has that meaning, so texts have
+/// equal normal texts exactly if they have equal meanings, and the normal text of a normal text is
+/// itself (RFC 3986, section 6.2.2).
+#[doc(hidden)]
+#[tactic(auto, using(crate::proofs::NormalTexts::canonical))]
+pub fn normal_texts_are_canonical()
+    ensures text { (kind : Kind) (ports : PortFunction) (text : List ℕ) → HasComponentSets kind → IsTextOf kind text → IsTextOf kind (normal_text (meaning_of kind ports text)) }
+    ensures meaning { (kind : Kind) (ports : PortFunction) (text : List ℕ) → HasComponentSets kind → IsTextOf kind text → meaning_of kind ports (normal_text (meaning_of kind ports text)) ≡ meaning_of kind ports text }
+    ensures twice { (kind : Kind) (ports : PortFunction) (text : List ℕ) → HasComponentSets kind → IsTextOf kind text → normal_text (meaning_of kind ports (normal_text (meaning_of kind ports text))) ≡ normal_text (meaning_of kind ports text) }
+    ensures same { (kind : Kind) (ports : PortFunction) (t u : List ℕ) → HasComponentSets kind → IsTextOf kind t → IsTextOf kind u → (normal_text (meaning_of kind ports t) ≡ normal_text (meaning_of kind ports u) ↔ meaning_of kind ports t ≡ meaning_of kind ports u) }
+{}

@@ -1,0 +1,29 @@
+use Rattle.std.proofs.Common.{◌≡◌, ◌∷◌, [], eqb, length, rules, ap, ◌∙◌}
+use Rattle.std.specs.List.{slice_split}
+use Rattle.uri_pct.specs.EStrs.{text_of}
+use Rattle.uri_pct.specs.Splits.{pieces_left}
+use Rattle.uri_pct.proofs.Delimiters.{pieces_first, slice_split_lacks}
+use Rattle.uri_pct.proofs.Splits.{pieces_left-at}
+use Rattle.uri_pct.proofs.split.SplitIterator.next.Goals as goal
+
+cut : (g : _) (c : goal.After-self-1 g) → pieces_left c.args.self.now ≡ text_of c.in-Some.piece ∷ slice_split (λ b. eqb b c.args.self.now.delimiter) (text_of c.in-Some.rest)
+cut g c =
+    pieces_left-at c.args.self.now c.in_ok-text.text c.in_ok-text.was
+    ∙ pieces_first c.args.self.now.delimiter (text_of c.in_ok-text.text) (text_of c.in-Some.piece) (text_of c.in-Some.rest) c.in-Some.ensures
+
+whole : (g : _) (c : goal.After-self-in-None-1 g) → pieces_left c.args.self.now ≡ text_of c.in_ok-text.text ∷ []
+whole g c =
+    pieces_left-at c.args.self.now c.in_ok-text.text c.in_ok-text.was
+    ∙ slice_split_lacks c.args.self.now.delimiter (text_of c.in_ok-text.text) c.in-None.ensures
+
+pub returns-in-Some-clause-steps : goal.returns-in-Some-clause-steps
+returns-in-Some-clause-steps g c = cut g c
+
+pub returns-in-Some-clause-goes : goal.returns-in-Some-clause-goes
+returns-in-Some-clause-goes g c = let shorter = ap length (cut g c) in search rules
+
+pub returns-in-None-clause-steps : goal.returns-in-None-clause-steps
+returns-in-None-clause-steps g c = whole g c
+
+pub returns-in-None-clause-goes : goal.returns-in-None-clause-goes
+returns-in-None-clause-goes g c = let shorter = ap length (whole g c) in search rules

@@ -1,0 +1,14 @@
+use Rattle.std.specs.Prelude.{ℕ, List}
+use Rattle.uri_pct.specs.Chunks.{Chunk, chunks}
+use Rattle.uri_pct.specs.Tokens.{tokens, token_bytes}
+use Rattle.uri_pct.specs.declared.decode.Decode.{Decode}
+
+-- the text that is left to decode, its chunks, and what it decodes to
+abbrev pub undecoded : Decode → List ℕ
+undecoded d = d.rest.now
+
+abbrev pub chunks_left : Decode → List Chunk
+chunks_left d = chunks (undecoded d)
+
+abbrev pub decoded : Decode → List ℕ
+decoded d = token_bytes (tokens (undecoded d))

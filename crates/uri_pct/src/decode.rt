@@ -1,0 +1,93 @@
+//! Decoding of percent-encoded texts (RFC 3986, section 2.1).
+ghost use Rattle.std.specs.Prelude.{◌≡◌, ◌==◌, IsTrue};
+ghost use Rattle.std.specs.List.{position_or_len};
+ghost use Rattle.uri_pct.specs.Chunks.{widest_set};
+ghost use Rattle.uri_pct.specs.Tokens.{IsValidFor};
+
+use crate::encoder::Encoder;
+use crate::octet::octet_value;
+use crate::pct_enc::EStr;
+
+/// A part of a text that is decoded.
+#[derive(Clone, Copy, Debug, PartialEq, Eq)]
+pub enum DecodedChunk<'a> {
+    /// A part without `%`, not empty and as long as can be.
+    Unencoded(&'a str),
+    /// The value of a percent-encoded octet: 0x20 for `%20`.
+    PctDecoded(u8),
+}
+
+/// What is left to decode of a text: an iterator of its parts, which answers `None` for ever once
+/// nothing is left.
+#[derive(Drop)]
+pub struct Decode<'a> {
+    rest: &'a str,
+    pub ghost whole: { IsValidFor widest_set rest.now },
+}
+
+/// The byte offset of the first `%`, or the length where there is none.
+fn unencoded_len(bytes: &[u8]) -> usize
+    ensures { result ≡ position_or_len (λ b. b == 37) bytes.now }
+{
+    bytes
+        .iter()
+        .position(|&byte| byte == b'%')
+        .unwrap_or(bytes.len())
+}
+
+impl<'a> Decode<'a> {
+    ghost use Rattle.uri_pct.specs.Decodes.{undecoded};
+
+    /// The text, of which nothing is decoded yet.
+    #[doc(hidden)]
+    pub fn of_text(text: &'a str) -> Decode<'a>
+        requires { IsValidFor widest_set text.now }
+        ensures { undecoded result ≡ text.now }
+    {
+        Decode { rest: text }
+    }
+}
+
+impl<'a> Iterator for Decode<'a> {
+    ghost use Rattle.std.specs.Iterator.{YieldsFirstBy, item_count};
+    ghost use Rattle.uri_pct.specs.DecodedChunks.{chunk_of};
+    ghost use Rattle.uri_pct.specs.Decodes.{chunks_left};
+
+    type Item = DecodedChunk<'a>;
+
+    ghost next_gives = { YieldsFirstBy chunk_of chunks_left };
+
+    ghost remaining = { item_count chunks_left };
+
+    fn next(&mut self) -> Option<DecodedChunk<'a>> {
+        let rest = self.rest;
+        let bytes = rest.as_bytes();
+        if bytes.is_empty() {
+            return None;
+        }
+        if bytes[0] == b'%' {
+            let value = octet_value(bytes[1], bytes[2]);
+            self.rest = &rest[3..];
+            return Some(DecodedChunk::PctDecoded(value));
+        }
+        let (text, behind) = rest.split_at(unencoded_len(bytes));
+        self.rest = behind;
+        Some(DecodedChunk::Unencoded(text))
+    }
+}
+
+impl<'a, E: Encoder> EStr<'a, E> {
+    ghost use Rattle.uri_pct.specs.Decodes.{undecoded};
+    ghost use Rattle.uri_pct.specs.EStrs.{text_of};
+
+    /// The text to be decoded. The table of `E` allows percent-encoded octets:
+    /// `Table::allows_pct_encoded` tests it.
+    pub fn decode(self) -> Decode<'a>
+        requires { IsTrue (E.set).pct_encoded }
+        ensures { undecoded result ≡ text_of self.entry }
+    {
+        let octets = E::table().allows_pct_encoded();
+        prove!(octets);
+        Decode::of_text(self.as_str())
+    }
+}

@@ -1,0 +1,96 @@
+//! Octets that are read as UTF-8.
+ghost use Rattle.std.specs.Prelude.{◌≡◌, OnOk, List, [], ◌∷◌, ◌++◌, map};
+ghost use Rattle.uri_pct.specs.Chunks.{Chunk};
+ghost use Rattle.uri_pct.specs.DecodedChunks.{chunk_of};
+ghost use Rattle.uri_pct.specs.Parts.{Part, Plain, Read, parts, parts_from, fault_pieces};
+ghost use Rattle.uri_pct.specs.Pieces.{WellFormed, IllFormed, utf8_pieces};
+
+use crate::decode::{Decode, DecodedChunk};
+use std::alloc::{AllocError, Global};
+
+/// What is made of a text as it is decoded: it takes the parts one after the other.
+#[doc(hidden)]
+pub trait TakeParts {
+    /// From the one value to the other, these parts were taken.
+    ghost took: { Self → List Part → Self → Type 0 };
+
+    /// Takes text that stands for itself.
+    fn take_unencoded(&mut self, text: &str) -> Result<(), AllocError>
+        ensures { OnOk result (took self.old (Plain text.now ∷ []) self.new) };
+
+    /// Takes characters that octets spell.
+    fn take_well_formed(&mut self, text: &str) -> Result<(), AllocError>
+        ensures { OnOk result (took self.old (map Read (utf8_pieces text.now)) self.new) };
+
+    /// Takes a maximal ill-formed part of a run of octets.
+    fn take_ill_formed(&mut self, bytes: &[u8]) -> Result<(), AllocError>
+        ensures { OnOk result (took self.old (Read (IllFormed bytes.now) ∷ []) self.new) };
+
+    ghost takes_nothing: { (s : Self) → took s [] s };
+
+    ghost takes_on: { (s t u : Self) (ps qs : List Part) → took s ps t → took t qs u → took s (ps ++ qs) u };
+}
+
+/// Hands over the pieces of a text, and of the ill-formed part behind it where there is one.
+fn take_chunk<T: TakeParts>(text: &str, fault: &[u8], taker: &mut T) -> Result<(), AllocError>
+    ensures { OnOk result
+        (T.took taker.old (map Read (utf8_pieces text.now ++ fault_pieces fault.now)) taker.new) }
+{
+    taker.take_well_formed(text)?;
+    if fault.is_empty() {
+        return Ok(());
+    }
+    taker.take_ill_formed(fault)
+}
+
+/// Hands over the pieces of a run of octets.
+fn take_run<T: TakeParts>(run: &[u8], taker: &mut T) -> Result<(), AllocError>
+    ensures { OnOk result (T.took taker.old (map Read (utf8_pieces run.now)) taker.new) }
+{
+    for chunk in run.utf8_chunks() {
+        take_chunk(chunk.valid(), chunk.invalid(), taker)?;
+    }
+    Ok(())
+}
+
+/// Takes a chunk: an octet goes to the run, and text ends it.
+///
+/// Whatever takes the parts that are left from then on has taken those of the chunk too.
+fn take_decoded<T: TakeParts>(
+    chunk: DecodedChunk<'_>,
+    run: &mut Vec<u8>,
+    taker: &mut T,
+) -> Result<(), AllocError>
+    ensures { OnOk result ((u : _) (behind : List Chunk)
+        → T.took taker.new (parts_from run.new.items behind) u
+        → T.took taker.old (parts_from run.old.items (chunk_of chunk.entry ∷ behind)) u) }
+{
+    match chunk {
+        DecodedChunk::Unencoded(text) => {
+            take_run(run, taker)?;
+            run.clear();
+            taker.take_unencoded(text)
+        }
+        DecodedChunk::PctDecoded(byte) => {
+            run.push(byte)?;
+            Ok(())
+        }
+    }
+}
+
+impl<'a> Decode<'a> {
+    ghost use Rattle.uri_pct.specs.Decodes.{undecoded};
+
+    /// Hands over the parts of the text that is left, in order. An error is one of the taker, or of
+    /// the memory that a run of octets is read in.
+    #[doc(hidden)]
+    pub fn take_parts<T: TakeParts>(self, alloc: Global, taker: &mut T) -> Result<(), AllocError>
+        ensures { OnOk result (T.took taker.old (parts (undecoded self.entry)) taker.new) }
+    {
+        let mut run = Vec::new(alloc);
+        for chunk in self {
+            take_decoded(chunk, &mut run, taker)?;
+        }
+        take_run(&run, taker)
+    }
+}

@@ -1,0 +1,126 @@
+//! Texts cut at delimiters (RFC 3986, section 2.2).
+ghost use Rattle.std.specs.Prelude.{◌≡◌, ◌==◌, IsTrue, IfSome, MatchOption, true, drop, is_some};
+ghost use Rattle.std.specs.List.{slice_split, join_with_byte, AllPass};
+ghost use Rattle.uri_pct.specs.Sets.{is_reserved};
+ghost use Rattle.uri_pct.specs.Texts.{lacks, is_absolute, IsFirstCut, IsLastCut};
+
+use crate::encoder::{Encoder, PathEncoder};
+use crate::pct_enc::EStr;
+
+/// The pieces of a text between the places of a delimiter, from both ends: each comes once, from
+/// whichever end it is asked for, and after the last both ends answer `None`.
+#[derive(Drop)]
+pub struct Split<'a, E: Encoder> {
+    rest: Option<EStr<'a, E>>,
+    delimiter: char,
+    pub ghost reserved: { is_reserved delimiter ≡ true },
+}
+
+impl<'a, E: Encoder> Iterator for Split<'a, E> {
+    ghost use Rattle.std.specs.Iterator.{YieldsFirstBy, item_count};
+    ghost use Rattle.uri_pct.specs.EStrs.{text_of};
+    ghost use Rattle.uri_pct.specs.Splits.{pieces_left};
+
+    type Item = EStr<'a, E>;
+
+    ghost next_gives = { YieldsFirstBy text_of pieces_left };
+
+    ghost remaining = { item_count pieces_left };
+
+    fn next(&mut self) -> Option<EStr<'a, E>> {
+        let text = self.rest?;
+        match text.split_once(self.delimiter) {
+            Some((piece, rest)) => {
+                self.rest = Some(rest);
+                Some(piece)
+            }
+            None => {
+                self.rest = None;
+                Some(text)
+            }
+        }
+    }
+}
+
+impl<'a, E: Encoder> DoubleEndedIterator for Split<'a, E> {
+    ghost use Rattle.std.specs.Iterator.{YieldsLastBy};
+    ghost use Rattle.uri_pct.specs.EStrs.{text_of};
+    ghost use Rattle.uri_pct.specs.Splits.{pieces_left};
+
+    ghost next_back_gives = { YieldsLastBy text_of pieces_left };
+
+    fn next_back(&mut self) -> Option<EStr<'a, E>> {
+        let text = self.rest?;
+        match text.rsplit_once(self.delimiter) {
+            Some((rest, piece)) => {
+                self.rest = Some(rest);
+                Some(piece)
+            }
+            None => {
+                self.rest = None;
+                Some(text)
+            }
+        }
+    }
+}
+
+impl<'a, E: Encoder> EStr<'a, E> {
+    ghost use Rattle.uri_pct.specs.EStrs.{text_of};
+    ghost use Rattle.uri_pct.specs.Splits.{pieces_left};
+
+    /// What stands before the first `delimiter` and what stands behind it, or `None` exactly if
+    /// there is none. The delimiter is reserved (RFC 3986, section 2.2): `RESERVED.allows` tests it.
+    pub fn split_once(self, delimiter: char) -> Option<(EStr<'a, E>, EStr<'a, E>)>
+        requires { IsTrue (is_reserved delimiter) }
+        ensures { MatchOption result (IsTrue (lacks delimiter (text_of self.entry)))
+            (λ pair. IsFirstCut delimiter (text_of self.entry) (text_of pair.0) (text_of pair.1)) }
+    {
+        let (before, after) = self.as_str().split_once(delimiter)?;
+        Some((EStr::new_unchecked(before), EStr::new_unchecked(after)))
+    }
+
+    /// What stands before the last `delimiter` and what stands behind it, or `None` exactly if
+    /// there is none. The delimiter is reserved (RFC 3986, section 2.2): `RESERVED.allows` tests it.
+    pub fn rsplit_once(self, delimiter: char) -> Option<(EStr<'a, E>, EStr<'a, E>)>
+        requires { IsTrue (is_reserved delimiter) }
+        ensures { MatchOption result (IsTrue (lacks delimiter (text_of self.entry)))
+            (λ pair. IsLastCut delimiter (text_of self.entry) (text_of pair.0) (text_of pair.1)) }
+    {
+        let (before, after) = self.as_str().rsplit_once(delimiter)?;
+        Some((EStr::new_unchecked(before), EStr::new_unchecked(after)))
+    }
+
+    /// The pieces between the places of `delimiter`, which is reserved (RFC 3986, section 2.2):
+    /// `RESERVED.allows` tests it. No piece holds the delimiter, and joined by it they are the
+    /// text; the empty text is one empty piece.
+    pub fn split(self, delimiter: char) -> Split<'a, E>
+        requires { IsTrue (is_reserved delimiter) }
+        ensures pieces { pieces_left result ≡ slice_split (λ b. b == delimiter) (text_of self.entry) }
+        ensures joined { join_with_byte delimiter (pieces_left result) ≡ text_of self.entry }
+        ensures apart { AllPass (lacks delimiter) (pieces_left result) }
+    {
+        Split {
+            rest: Some(self),
+            delimiter,
+        }
+    }
+}
+
+impl<'a, E: PathEncoder> EStr<'a, E> {
+    ghost use Rattle.uri_pct.specs.EStrs.{text_of};
+    ghost use Rattle.uri_pct.specs.Splits.{pieces_left};
+
+    /// The segments of the path (RFC 3986, section 3.3): what stands behind its first `/`, cut at
+    /// each further `/`; or `None` exactly if the path does not begin with `/`.
+    pub fn segments_if_absolute(self) -> Option<Split<'a, E>>
+        ensures absolute { is_some result ≡ is_absolute (text_of self.entry) }
+        ensures segments { IfSome result
+            (λ s. pieces_left s ≡ slice_split (λ b. b == 47) (drop 1 (text_of self.entry))) }
+    {
+        if self.is_rootless() {
+            return None;
+        }
+        let rest = EStr::<E>::new_unchecked(&self.as_str()[1..]);
+        Some(rest.split('/'))
+    }
+}
