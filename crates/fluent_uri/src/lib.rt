@@ -34,6 +34,11 @@ pub mod net {
     pub use uri_parts::net::{IpAddr, Ipv4Addr, Ipv6Addr};
 }
 
+/// IP addresses (RFC 3986, section 3.2.2), and their canonical texts (RFC 5952).
+pub mod net {
+    pub use uri_parts::net::{IpAddr, Ipv4Addr, Ipv6Addr};
+}
+
 /// Texts that are percent-encoded over an encoder's set.
 pub mod pct_enc {
     pub use uri_pct::pct_enc::EStr;

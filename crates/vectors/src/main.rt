@@ -1,0 +1,14 @@
+//! Stored rows of texts and of what `fluent_uri` must answer for them, run one after the other.
+#![tactic(auto)]
+
+mod ask;
+mod reading;
+mod rows;
+mod run;
+
+use crate::run::run;
+use std::process::ExitCode;
+
+fn main(rt: HostRuntime) -> ExitCode {
+    ExitCode::from(run(&mut rt.stdout()))
+}

@@ -1,0 +1,141 @@
+//! What the accessors of a parsed text answer, as plain texts and numbers.
+
+use fluent_uri::component::{Authority, HostOf, Scheme};
+use fluent_uri::pct_enc::EStr;
+use fluent_uri::pct_enc::encoder::Encoder;
+use fluent_uri::{Iri, IriRef, ParseError, Uri, UriRef};
+
+/// A kind that a text is parsed as.
+#[derive(Clone, Copy)]
+pub enum Kind {
+    /// A URI.
+    Uri,
+    /// A URI reference.
+    UriRef,
+    /// An IRI.
+    Iri,
+    /// An IRI reference.
+    IriRef,
+}
+
+/// The components of a reference (RFC 3986, section 3).
+#[derive(Clone, Copy, PartialEq, Eq)]
+pub struct Parts<'a> {
+    pub scheme: Option<&'a str>,
+    pub authority: Option<&'a str>,
+    pub path: &'a str,
+    pub query: Option<&'a str>,
+    pub fragment: Option<&'a str>,
+}
+
+/// The parts of an authority (RFC 3986, section 3.2).
+#[derive(Clone, Copy, PartialEq, Eq)]
+pub struct AuthorityParts<'a> {
+    pub userinfo: Option<&'a str>,
+    pub host: &'a str,
+    pub port: Option<&'a str>,
+}
+
+/// A host by its kind: an address by its numbers, a registered name by its text.
+#[derive(Clone, Copy, PartialEq, Eq)]
+pub enum HostValue<'a> {
+    Ipv4([u8; 4]),
+    Ipv6([u16; 8]),
+    IpvFuture,
+    RegName(&'a str),
+}
+
+/// What the accessors of a parsed text answer; `authority` and `host` are of its authority.
+#[derive(Clone, Copy)]
+pub struct Reading<'a> {
+    pub parts: Parts<'a>,
+    pub authority: Option<AuthorityParts<'a>>,
+    pub host: Option<HostValue<'a>>,
+}
+
+impl<'a> Reading<'a> {
+    /// Parses the text as the kind, and reads it by its accessors.
+    pub fn of(kind: Kind, text: &'a str) -> Result<Reading<'a>, ParseError> {
+        match kind {
+            Kind::Uri => {
+                let uri = Uri::<&str>::parse(text)?;
+                Ok(Reading::new(
+                    Some(uri.scheme()),
+                    uri.authority(),
+                    uri.path(),
+                    uri.query(),
+                    uri.fragment(),
+                ))
+            }
+            Kind::UriRef => {
+                let reference = UriRef::<&str>::parse(text)?;
+                Ok(Reading::new(
+                    reference.scheme(),
+                    reference.authority(),
+                    reference.path(),
+                    reference.query(),
+                    reference.fragment(),
+                ))
+            }
+            Kind::Iri => {
+                let iri = Iri::<&str>::parse(text)?;
+                Ok(Reading::new(
+                    Some(iri.scheme()),
+                    iri.authority(),
+                    iri.path(),
+                    iri.query(),
+                    iri.fragment(),
+                ))
+            }
+            Kind::IriRef => {
+                let reference = IriRef::<&str>::parse(text)?;
+                Ok(Reading::new(
+                    reference.scheme(),
+                    reference.authority(),
+                    reference.path(),
+                    reference.query(),
+                    reference.fragment(),
+                ))
+            }
+        }
+    }
+
+    fn new<U: Encoder, R: Encoder, P: Encoder, Q: Encoder, F: Encoder>(
+        scheme: Option<Scheme<'a>>,
+        authority: Option<Authority<'a, U, R>>,
+        path: EStr<'a, P>,
+        query: Option<EStr<'a, Q>>,
+        fragment: Option<EStr<'a, F>>,
+    ) -> Reading<'a> {
+        Reading {
+            parts: Parts {
+                scheme: scheme.map(Scheme::as_str),
+                authority: authority.map(Authority::as_str),
+                path: path.as_str(),
+                query: query.map(EStr::as_str),
+                fragment: fragment.map(EStr::as_str),
+            },
+            authority: authority.map(authority_parts),
+            host: authority.map(host_value),
+        }
+    }
+}
+
+fn authority_parts<'a, U: Encoder, R: Encoder>(
+    authority: Authority<'a, U, R>,
+) -> AuthorityParts<'a> {
+    AuthorityParts {
+        userinfo: authority.userinfo().map(EStr::as_str),
+        host: authority.host(),
+        port: authority.port().map(EStr::as_str),
+    }
+}
+
+fn host_value<'a, U: Encoder, R: Encoder>(authority: Authority<'a, U, R>) -> HostValue<'a> {
+    match authority.host_parsed() {
+        HostOf::Ipv4(address) => HostValue::Ipv4(address.octets()),
+        HostOf::Ipv6(address) => HostValue::Ipv6(address.segments()),
+        HostOf::IpvFuture => HostValue::IpvFuture,
+        HostOf::RegName(name) => HostValue::RegName(name.as_str()),
+    }
+}
