@@ -23,7 +23,7 @@ use Rattle.uri_ops.specs.ComponentSets.{HasComponentSets}
 use Rattle.uri_ops.specs.Meaning.{AuthorityMeaning, host_meaning, port_meaning, authority_meaning}
 use Rattle.uri_ops.specs.Normal.{normal_parts}
 use Rattle.uri_ops.proofs.Parts.{is_part, part_from, part_utf8, part_valid}
-use Rattle.uri_ops.proofs.PlainTexts.{utf8_plain}
+use Rattle.uri_ops.proofs.PlainTexts.{utf8_ascii}
 use Rattle.uri_ops.proofs.Characters.{test_lacks}
 use Rattle.uri_ops.proofs.Ends.{ends_outside, excludes_front}
 use Rattle.uri_ops.proofs.HostMeanings.{IsHostOf, host_printed}
@@ -69,24 +69,13 @@ utf8_parts (Some user) port host u =
     record { userinfo = apart.0; host = behind.0; port = behind.1 }
 
 -- and together
-any_char : ℕ → Bool
-any_char c = true
-
-utf8_colon : IsUtf8 (codes ":")
-unfolding any_char
-utf8_colon = utf8_plain any_char (codes ":") refl
-
-utf8_at : IsUtf8 (codes "@")
-unfolding any_char
-utf8_at = utf8_plain any_char (codes "@") refl
-
 utf8_port : (port : Option (List ℕ)) → IfSome port IsUtf8 → IsUtf8 (marked (codes ":") port [])
 utf8_port None u = IsUtf8-nil
-utf8_port (Some digits) u = IsUtf8-append (58 ∷ digits) [] (IsUtf8-append (codes ":") digits utf8_colon u) IsUtf8-nil
+utf8_port (Some digits) u = IsUtf8-append (58 ∷ digits) [] (IsUtf8-append (codes ":") digits (utf8_ascii (codes ":") refl) u) IsUtf8-nil
 
 utf8_user : (userinfo : Option (List ℕ)) → IfSome userinfo IsUtf8 → IsUtf8 (marked [] userinfo (codes "@"))
 utf8_user None u = IsUtf8-nil
-utf8_user (Some user) u = IsUtf8-append user (codes "@") u utf8_at
+utf8_user (Some user) u = IsUtf8-append user (codes "@") u (utf8_ascii (codes "@") refl)
 
 utf8_text : (p : AuthorityParts) → PartsUtf8 p → IsUtf8 (authority_text p)
 utf8_text p u = IsUtf8-append (marked [] p.userinfo (codes "@")) (p.host ++ marked (codes ":") p.port []) (utf8_user p.userinfo u.userinfo) (IsUtf8-append p.host (marked (codes ":") p.port []) u.host (utf8_port p.port u.port))

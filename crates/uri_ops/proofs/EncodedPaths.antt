@@ -10,7 +10,7 @@ use Rattle.std.proofs.lemmas.Str.{IsUtf8-from_is_utf8, is_utf8-from_IsUtf8}
 use Rattle.std.proofs.lemmas.List.{map-append}
 use Rattle.std.proofs.lemmas.List.Concat.{flat_map-append}
 use Rattle.std.proofs.lemmas.List.Folds.{list_all-append}
-use Rattle.std.proofs.lemmas.Bool.{cases_Bool, cases_lt, cond-true, cond-false, and_parts, and_from, eqb-true, ltb-true, lt-ltb, le-ltb, not_from_false, false_from_ne_true, both_ways, and_right, false≢true}
+use Rattle.std.proofs.lemmas.Bool.{cases_Bool, cases_lt, cond-true, cond-false, and_parts, and_from, ltb-true, lt-ltb, le-ltb, not_from_false, false_from_ne_true, both_ways, and_right}
 use Rattle.std.proofs.lemmas.Bool.Decides.{nat_tests}
 use Rattle.uri_pct.specs.Sets.{is_one_of}
 use Rattle.uri_pct.proofs.Cuts.{of_each}
@@ -27,7 +27,7 @@ use Rattle.uri_ops.proofs.Characters.{lacks_test, test_lacks}
 use Rattle.uri_ops.proofs.Lacking.{has_lacks, lacks_has}
 use Rattle.uri_ops.proofs.SegmentMaps.{KeepsDots, cleaned_map, parent_map, sinks_map}
 use Rattle.uri_ops.proofs.DotBytes.{same_single_dot, same_double_dot}
-use Rattle.uri_ops.proofs.ReadStarts.{authority_slash, no_authority_first}
+use Rattle.uri_ops.proofs.ReadStarts.{slash_first, authority_slash, no_authority_first}
 use Rattle.uri_ops.proofs.Ends.{is_plain_mark}
 use Rattle.uri_ops.proofs.EncodedTokens.{octet_text, is_byte, digits_of, are_bytes, IsUtf8-encoded, token_bytes-encoded}
 use Rattle.uri_ops.proofs.Tests.{true_to}
@@ -117,10 +117,6 @@ starts_encoded mark plain (b ∷ x) = ⊎_elim
 pub empty_encoded : (x : List ℕ) → is_empty (encoded_text x) ≡ is_empty x
 empty_encoded [] = ap is_empty encoded-nil
 empty_encoded (b ∷ x) = ⊎_elim (λ h. ap is_empty (encoded_first b x h)) (λ h. ap is_empty (encoded_octet b x h)) (cases_lt b 128)
-
-slash_first : (x : List ℕ) → starts 47 x ≡ true → (y : List ℕ) × (x ≡ 47 ∷ y)
-slash_first [] e = absurd (false≢true e)
-slash_first (c ∷ y) e = (y, ap (λ d. d ∷ y) (eqb-true c 47 e))
 
 pub has_authority_encoded : (x : List ℕ) → has_authority (encoded_text x) ≡ has_authority x
 has_authority_encoded x = ⊎_elim

@@ -1,6 +1,6 @@
 -- Without characters past ASCII a base and a reference come to the same target without them.
-use Rattle.std.proofs.Common.{◌≡◌, ℕ, Bool, true, false, cond, not, List, [], ◌∷◌, ◌++◌, refl, sym, ap, subst, ◌∙◌, ◌&&◌, ◌||◌, ⊎_elim, option_map}
-use Rattle.std.specs.Prelude.{Option, Some, None, Result, Ok, Err, is_some, is_none}
+use Rattle.std.proofs.Common.{◌≡◌, ℕ, true, false, cond, not, List, [], ◌∷◌, ◌++◌, refl, sym, ap, subst, ◌∙◌, ◌&&◌, ◌||◌, ⊎_elim, option_map}
+use Rattle.std.specs.Prelude.{Option, Some, None, Ok, is_some, is_none}
 use Rattle.std.specs.Result.{result_map_both}
 use Rattle.std.specs.List.{list_all}
 use Rattle.std.specs.Str.{IsUtf8, is_utf8}
@@ -9,7 +9,7 @@ use Rattle.std.proofs.lemmas.Bool.{cases_Bool, cond-true, cond-false, cond_both,
 use Rattle.uri_parts.specs.Components.{Components, starts, IsRooted, components, recompose}
 use Rattle.uri_parts.proofs.Recompose.{IsSplitOf-components}
 use Rattle.uri_ops.specs.Dots.{is_empty, underflows, directory}
-use Rattle.uri_ops.specs.Target.{Refusal, BaseWithFragment, InvalidReferenceAgainstOpaqueBase, is_opaque, is_fragment_only, is_refused_as_opaque, merged, joined, cleaned_path, guarded, target_of, target_underflows, resolution_of}
+use Rattle.uri_ops.specs.Target.{Refusal, is_opaque, is_fragment_only, is_refused_as_opaque, merged, joined, cleaned_path, guarded, target_of, target_underflows, resolution_of}
 use Rattle.uri_ops.specs.Encoded.{encoded_text}
 use Rattle.uri_ops.proofs.Segments.{Passes, append_passes}
 use Rattle.uri_ops.proofs.Slashed.{slashed, directory_slashed, parent_passes}
@@ -18,9 +18,10 @@ use Rattle.uri_ops.proofs.ReadPaths.{utf8_join}
 use Rattle.uri_ops.proofs.TextParts.{AreUtf8, components_utf8}
 use Rattle.uri_ops.proofs.JoinedMeanings.{of_parts}
 use Rattle.uri_ops.proofs.Swaps.{not_opaque, rooted_base}
-use Rattle.uri_ops.proofs.TargetTexts.{absent, accepted}
+use Rattle.uri_ops.proofs.TargetTexts.{absent}
 use Rattle.uri_ops.proofs.EncodedPaths.{encoded-append, starts_encoded, empty_encoded, utf8_slashed, underflows_encoded, directory_encoded, cleaned_encoded, guarded_encoded}
 use Rattle.uri_ops.proofs.EncodedComponents.{encoded_components, recompose-encoded, components-encoded}
+use Rattle.uri_ops.proofs.Outcomes.{outcome, outcome_map, same_outcome, accepted}
 use Rattle.uri_ops.proofs.Tests.{none_map, some_map, true_to}
 
 -- a merged path in UTF-8
@@ -114,21 +115,6 @@ refused_encoded base r =
     ∙ ap (λ x. is_opaque base && not (is_some r.scheme || (((is_none r.scheme && is_none r.authority) && x) && is_none t.query))) (empty_encoded r.path)
     ∙ ap (λ x. is_opaque base && not (is_some r.scheme || (((is_none r.scheme && is_none r.authority) && is_empty r.path) && x))) (none_map encoded_text r.query)
 
-outcome : Bool → Bool → List ℕ → Result (List ℕ) Refusal
-outcome fragment opaque target = cond fragment (Err BaseWithFragment) (cond opaque (Err InvalidReferenceAgainstOpaqueBase) (Ok target))
-
-outcome_map : (f : List ℕ → List ℕ) (fragment opaque : Bool) (target : List ℕ) → result_map_both f (λ (refusal : Refusal). refusal) (outcome fragment opaque target) ≡ outcome fragment opaque (f target)
-unfolding outcome
-outcome_map f true opaque target = refl
-outcome_map f false true target = refl
-outcome_map f false false target = refl
-
-same_outcome : (fragment opaque : Bool) (s t : List ℕ) → (opaque ≡ false → s ≡ t) → outcome fragment opaque s ≡ outcome fragment opaque t
-unfolding outcome
-same_outcome true opaque s t e = refl
-same_outcome false true s t e = refl
-same_outcome false false s t e = ap Ok (e refl)
-
 -- a base that may be merged with
 mergeable : (b t : List ℕ) → is_refused_as_opaque (components b) (components t) ≡ false → is_none (components t).scheme ≡ true → is_empty (components t).path ≡ false → IsRooted (components b).path
 mergeable b t e s p = rooted_base (components b).authority (components b).path (not_opaque (components b) (components t) e s p) (IsSplitOf-components b).authority
@@ -160,6 +146,7 @@ path_underflows path u =
 
 pub target_underflows_encoded : (b t target : List ℕ) → IsUtf8 b → IsUtf8 t → resolution_of (components b) (components t) ≡ Ok target
     → target_underflows (components (encoded_text b)) (components (encoded_text t)) ≡ target_underflows (components b) (components t)
+unfolding outcome
 target_underflows_encoded b t target u v e =
     let base = components b in
     let r = components t in

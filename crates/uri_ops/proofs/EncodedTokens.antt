@@ -14,7 +14,7 @@ use Rattle.uri_pct.specs.Tokens.{Token, Char, Octet, tokens, tokens_of, token_by
 use Rattle.uri_pct.specs.Fronts.{begins_hex}
 use Rattle.uri_pct.proofs.Characters.{bytes_of_char, is_high, lead}
 use Rattle.uri_ops.specs.Encoded.{encoded_byte, encoded_text}
-use Rattle.uri_ops.proofs.PlainTexts.{is_plain_char, ascii_plain, utf8_plain}
+use Rattle.uri_ops.proofs.PlainTexts.{ascii_from, utf8_ascii}
 
 -- the digits of a byte are two hexadecimal digits of its value
 abbrev are_digits : ℕ → Bool
@@ -101,21 +101,14 @@ encoded_text-encodes (c ∷ cs) =
 digits_ascii : (v : ℕ) → v < 256 → (ltb (digit_glyph true (v / 16)) 128 && ltb (digit_glyph true (v % 16)) 128) ≡ true
 digits_ascii v h = agree_below_at (λ v. ltb (digit_glyph true (v / 16)) 128 && ltb (digit_glyph true (v % 16)) 128) (λ _. true) 256 v refl h
 
-any_char : ℕ → Bool
-any_char c = true
-
 abbrev is_low : ℕ → Bool
-is_low c = is_plain_char any_char c
-
-low : (c : ℕ) → ltb c 128 ≡ true → is_low c ≡ true
-unfolding any_char
-low c e = and_from _ _ e refl
+is_low c = ltb c 128
 
 octet_low : (b : ℕ) → is_byte b ≡ true → list_all is_low (octet_text b) ≡ true
-unfolding is_byte any_char
+unfolding is_byte
 octet_low b e =
     let p = and_parts _ _ (digits_ascii b (ltb-true b 256 e)) in
-    and_from _ _ (low (digit_glyph true (b / 16)) p.0) (and_from _ _ (low (digit_glyph true (b % 16)) p.1) refl)
+    and_from _ _ p.0 (and_from _ true p.1 refl)
 
 octets_low : (bs : List ℕ) → list_all is_byte bs ≡ true → list_all is_low (flat_map octet_text bs) ≡ true
 octets_low [] e = refl
@@ -129,7 +122,7 @@ chars_low [] e = refl
 chars_low (c ∷ cs) e =
     let p = and_parts _ (all_scalars cs) e in
     list_all-append is_low (encoded_char c) (encoded_chars cs) ∙ and_from _ _ (⊎_elim
-    (λ h. ap (list_all is_low) (cond-true _ _ _ (lt-ltb c 128 h)) ∙ and_from _ _ (low c (lt-ltb c 128 h)) refl)
+    (λ h. ap (list_all is_low) (cond-true _ _ _ (lt-ltb c 128 h)) ∙ and_from _ true (lt-ltb c 128 h) refl)
     (λ h. ap (list_all is_low) (cond-false _ _ _ (le-ltb c 128 h)) ∙ octets_low (encode_utf8 c) (are_bytes c p.0))
     (cases_lt c 128)) (chars_low cs p.1)
 
@@ -137,7 +130,7 @@ encoded_low : (text : List ℕ) → IsUtf8 text → list_all is_low (encoded_tex
 encoded_low text u = ap (λ t. list_all is_low (encoded_text t)) (sym u.1.1) ∙ ap (list_all is_low) (encoded_text-encodes u.0) ∙ chars_low u.0 u.1.0
 
 pub IsUtf8-encoded : (text : List ℕ) → IsUtf8 text → IsUtf8 (encoded_text text)
-IsUtf8-encoded text u = utf8_plain any_char (encoded_text text) (encoded_low text u)
+IsUtf8-encoded text u = utf8_ascii (encoded_text text) (encoded_low text u)
 
 -- its tokens
 tokens_cons : (c : ℕ) (cs : List ℕ) → (eqb c 37 && begins_hex cs) ≡ false → tokens_of (c ∷ cs) ≡ Char c ∷ tokens_of cs
@@ -258,7 +251,7 @@ pub tokens-encoded : (text : List ℕ) → IsUtf8 text → tokens (encoded_text 
 tokens-encoded text u =
     let same : text ≡ encode_utf8_all u.0 = sym u.1.1 in
     let spelt : encoded_text text ≡ encoded_chars u.0 = ap encoded_text same ∙ encoded_text-encodes u.0 in
-    ap tokens_of (chars-IsAscii (encoded_text text) (ascii_plain any_char (encoded_text text) (encoded_low text u)) ∙ spelt)
+    ap tokens_of (chars-IsAscii (encoded_text text) (ascii_from (encoded_text text) (encoded_low text u)) ∙ spelt)
     ∙ tokens_encoded u.0 u.1.0
     ∙ ap (λ cs. flat_map encoded_token (tokens_of cs)) (sym (ap chars same ∙ chars-encodes u.0 u.1.0))
 

@@ -1,5 +1,5 @@
 -- A host that is printed from its meaning is a host, and has that meaning.
-use Rattle.std.proofs.Common.{◌≡◌, ℕ, zero, suc, ◌<◌, ◌^◌, get_or, All, Bool, true, false, ltb, List, [], ◌∷◌, ◌++◌, map, refl, sym, ap, subst, ◌∙◌, arith, inl, inr}
+use Rattle.std.proofs.Common.{◌≡◌, ℕ, zero, suc, ◌<◌, ◌^◌, get_or, All, true, false, ltb, List, [], ◌∷◌, ◌++◌, map, refl, sym, ap, subst, ◌∙◌, arith, inl, inr}
 use Rattle.std.specs.Prelude.{codes, Option, Some, None}
 use Rattle.std.specs.Char.{is_ascii_hexdigit, to_ascii_lowercase}
 use Rattle.std.specs.List.{list_all}
@@ -34,7 +34,7 @@ use Rattle.uri_ops.specs.Meaning.{HostMeaning, FutureAddress, Name, host_meaning
 use Rattle.uri_ops.specs.Normal.{host_text}
 use Rattle.uri_ops.proofs.AddressNumbers.{text_of_address}
 use Rattle.uri_ops.proofs.Parts.{is_part, part_from, part_valid, printable_part, printable_read}
-use Rattle.uri_ops.proofs.PlainTexts.{is_plain_char, valid_plain, utf8_plain, part_plain, plain_wider, plain_lower, lower_twice}
+use Rattle.uri_ops.proofs.PlainTexts.{is_plain_char, valid_plain, utf8_plain, utf8_ascii, part_plain, plain_wider, plain_lower, lower_twice}
 use Rattle.uri_ops.proofs.Characters.{test_lacks}
 use Rattle.uri_ops.proofs.Ends.{ends_outside, excludes_front}
 
@@ -51,13 +51,9 @@ lacks_bracketed address h =
     lacks_append (codes "/?#") (codes "[") (address ++ codes "]") (test_lacks (codes "/?#") (codes "[") refl)
     (lacks_append (codes "/?#") address (codes "]") h (test_lacks (codes "/?#") (codes "]") refl))
 
-any_char : ℕ → Bool
-any_char c = true
-
 utf8_in_brackets : (address : List ℕ) → IsUtf8 address → IsUtf8 (bracketed address)
-unfolding any_char
 utf8_in_brackets address u =
-    IsUtf8-append (codes "[") (address ++ codes "]") (utf8_plain any_char (codes "[") refl) (IsUtf8-append address (codes "]") u (utf8_plain any_char (codes "]") refl))
+    IsUtf8-append (codes "[") (address ++ codes "]") (utf8_ascii (codes "[") refl) (IsUtf8-append address (codes "]") u (utf8_ascii (codes "]") refl))
 
 address_plain : (c : ℕ) → is_address_char c ≡ true → ltb c 128 ≡ true
 unfolding is_address_char

@@ -26,6 +26,7 @@ pub mod AuthorityMeanings
 pub mod NormalTexts
 pub mod MergedPaths
 pub mod JoinedMeanings
+pub mod Outcomes
 pub mod Swaps
 pub mod TargetTexts
 pub mod EncodedTokens

@@ -1,5 +1,5 @@
 -- The normal text of a meaning is a text of the kind and has that meaning.
-use Rattle.std.proofs.Common.{◌≡◌, ℕ, Bool, true, List, [], ◌++◌, refl, sym, ap, ◌∙◌}
+use Rattle.std.proofs.Common.{◌≡◌, ℕ, true, List, [], ◌++◌, refl, sym, ap, ◌∙◌}
 use Rattle.std.specs.Prelude.{codes, Option, Some, None, IfSome, ◌↔◌}
 use Rattle.std.specs.Str.{IsUtf8}
 use Rattle.std.proofs.lemmas.Str.{IsUtf8-append, IsUtf8-nil}
@@ -13,7 +13,7 @@ use Rattle.uri_ops.specs.Ports.{PortFunction}
 use Rattle.uri_ops.specs.Meaning.{components_meaning, meaning_of}
 use Rattle.uri_ops.specs.Normal.{normal_text}
 use Rattle.uri_ops.proofs.Parts.{is_part, part_utf8}
-use Rattle.uri_ops.proofs.PlainTexts.{utf8_plain}
+use Rattle.uri_ops.proofs.PlainTexts.{utf8_ascii}
 use Rattle.uri_ops.proofs.PortMeanings.{meaning_of-under}
 use Rattle.uri_ops.proofs.TextParts.{AreParts, components_utf8, meet_parts, parts_meet}
 use Rattle.uri_ops.proofs.NormalComponents.{normal_of, normal_parts, normal_split, normal_meaning}
@@ -21,25 +21,20 @@ use Rattle.uri_ops.proofs.AuthorityMeanings.{keeps_authorities}
 use Rattle.uri_ops.proofs.Tests.{each_some}
 
 -- components in UTF-8 recompose to UTF-8
-any_char : ℕ → Bool
-any_char c = true
-
 utf8_marked : (before behind : List ℕ) (o : Option (List ℕ)) → IsUtf8 before → IsUtf8 behind → IfSome o IsUtf8 → IsUtf8 (marked before o behind)
 utf8_marked before behind None u v h = IsUtf8-nil
 utf8_marked before behind (Some x) u v h = IsUtf8-append (before ++ x) behind (IsUtf8-append before x u h) v
 
 pub utf8_recompose : (kind : Kind) (p : Components) → AreParts kind p → IsUtf8 (recompose p)
-unfolding any_char
 utf8_recompose kind p parts =
-    let mark = λ (text : List ℕ). utf8_plain any_char text in
     IsUtf8-append (marked [] p.scheme (codes ":")) _
-    (utf8_marked [] (codes ":") p.scheme IsUtf8-nil (mark (codes ":") refl) (each_some p.scheme (λ s. IsUtf8 s × (is_scheme s ≡ true)) IsUtf8 (λ s h. h.0) parts.scheme))
+    (utf8_marked [] (codes ":") p.scheme IsUtf8-nil (utf8_ascii (codes ":") refl) (each_some p.scheme (λ s. IsUtf8 s × (is_scheme s ≡ true)) IsUtf8 (λ s h. h.0) parts.scheme))
     (IsUtf8-append (marked (codes "//") p.authority []) _
-    (utf8_marked (codes "//") [] p.authority (mark (codes "//") refl) IsUtf8-nil (each_some p.authority (λ a. IsUtf8 a × (is_authority kind a ≡ true)) IsUtf8 (λ a h. h.0) parts.authority))
+    (utf8_marked (codes "//") [] p.authority (utf8_ascii (codes "//") refl) IsUtf8-nil (each_some p.authority (λ a. IsUtf8 a × (is_authority kind a ≡ true)) IsUtf8 (λ a h. h.0) parts.authority))
     (IsUtf8-append p.path _ (part_utf8 kind.path p.path parts.path)
     (IsUtf8-append (marked (codes "?") p.query []) (marked (codes "#") p.fragment [])
-    (utf8_marked (codes "?") [] p.query (mark (codes "?") refl) IsUtf8-nil (each_some p.query (λ q. is_part kind.query q ≡ true) IsUtf8 (λ q h. part_utf8 kind.query q h) parts.query))
-    (utf8_marked (codes "#") [] p.fragment (mark (codes "#") refl) IsUtf8-nil (each_some p.fragment (λ f. is_part kind.fragment f ≡ true) IsUtf8 (λ f h. part_utf8 kind.fragment f h) parts.fragment)))))
+    (utf8_marked (codes "?") [] p.query (utf8_ascii (codes "?") refl) IsUtf8-nil (each_some p.query (λ q. is_part kind.query q ≡ true) IsUtf8 (λ q h. part_utf8 kind.query q h) parts.query))
+    (utf8_marked (codes "#") [] p.fragment (utf8_ascii (codes "#") refl) IsUtf8-nil (each_some p.fragment (λ f. is_part kind.fragment f ≡ true) IsUtf8 (λ f h. part_utf8 kind.fragment f h) parts.fragment)))))
 
 -- the components of a text of the kind
 pub parts_of : (kind : Kind) (text : List ℕ) → IsTextOf kind text → AreParts kind (components text)

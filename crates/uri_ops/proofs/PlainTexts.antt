@@ -38,13 +38,28 @@ plain_bytes test (b ∷ bs) = plain_step test b bs ∙ ap (λ t. is_plain_char t
 pub valid_plain : (test : ℕ → Bool) → test 37 ≡ false → (text : List ℕ) → IsUtf8 text → is_valid_for (plain test) text ≡ list_all (is_plain_char test) text
 valid_plain test lacks text u = is_valid_for-bytes (plain test) lacks text u ∙ plain_bytes test text
 
-pub ascii_plain : (test : ℕ → Bool) (text : List ℕ) → list_all (is_plain_char test) text ≡ true → IsAscii text
+ascii_plain : (test : ℕ → Bool) (text : List ℕ) → list_all (is_plain_char test) text ≡ true → IsAscii text
 ascii_plain test [] e i = omega arith
 ascii_plain test (b ∷ bs) e zero = ltb-true b 128 (and_parts (ltb b 128) (test b) (and_parts (is_plain_char test b) _ e).0).0
 ascii_plain test (b ∷ bs) e (suc i) = ascii_plain test bs (and_parts (is_plain_char test b) _ e).1 i
 
 pub utf8_plain : (test : ℕ → Bool) (text : List ℕ) → list_all (is_plain_char test) text ≡ true → IsUtf8 text
 utf8_plain test text e = IsUtf8-from_ascii text (ascii_plain test text e)
+
+any_char : ℕ → Bool
+any_char c = true
+
+all_plain : (text : List ℕ) → list_all (λ c. ltb c 128) text ≡ true → list_all (is_plain_char any_char) text ≡ true
+unfolding any_char
+all_plain [] e = refl
+all_plain (c ∷ text) e = let p = and_parts (ltb c 128) (list_all (λ c. ltb c 128) text) e in and_from _ _ (and_from _ true p.0 refl) (all_plain text p.1)
+
+pub ascii_from : (text : List ℕ) → list_all (λ c. ltb c 128) text ≡ true → IsAscii text
+ascii_from text e = ascii_plain any_char text (all_plain text e)
+
+-- ASCII is UTF-8
+pub utf8_ascii : (text : List ℕ) → list_all (λ c. ltb c 128) text ≡ true → IsUtf8 text
+utf8_ascii text e = utf8_plain any_char text (all_plain text e)
 
 -- such a text is allowed by each set that has its characters
 plain_within : (set : TableSet) (test : ℕ → Bool) → test 37 ≡ false → ((c : ℕ) → test c ≡ true → set.ascii c ≡ true) → (bs : List ℕ) → list_all (is_plain_char test) bs ≡ true → valid_from set 0 bs ≡ true

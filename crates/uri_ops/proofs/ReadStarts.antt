@@ -58,7 +58,7 @@ pub no_authority_first : (x : List ℕ) → starts 47 x ≡ false → has_author
 no_authority_first [] e = refl
 no_authority_first (c ∷ x) e = and_left _ _ e
 
-slash_first : (x : List ℕ) → starts 47 x ≡ true → (y : List ℕ) × (x ≡ 47 ∷ y)
+pub slash_first : (x : List ℕ) → starts 47 x ≡ true → (y : List ℕ) × (x ≡ 47 ∷ y)
 slash_first [] e = absurd (false≢true e)
 slash_first (c ∷ y) e = (y, ap (λ d. d ∷ y) (eqb-true c 47 e))
 

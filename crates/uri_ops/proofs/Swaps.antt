@@ -1,7 +1,6 @@
 -- What a reference resolves to, against a base, is a function of the meanings of both.
-use Rattle.std.proofs.Common.{◌≡◌, ℕ, Bool, true, false, cond, not, List, refl, sym, ap, ◌∙◌, ◌&&◌, ◌||◌, ⊎_elim, inr, option_map}
-use Rattle.std.specs.Prelude.{codes, Option, Some, None, IfSome, Result, Ok, Err, is_some, is_none}
-use Rattle.std.specs.Result.{result_map_both}
+use Rattle.std.proofs.Common.{◌≡◌, ℕ, Bool, true, false, not, List, refl, sym, ap, ◌∙◌, ◌&&◌, ◌||◌, ⊎_elim, inr, option_map}
+use Rattle.std.specs.Prelude.{codes, Option, Some, None, IfSome, Result, is_some, is_none}
 use Rattle.std.proofs.lemmas.Bool.{and_cases, and_left, and_right, or_from, cond_both, not-false, false≢true, both_ways}
 use Rattle.uri_pct.specs.Tokens.{print}
 use Rattle.uri_pct.specs.Reading.{read}
@@ -9,7 +8,7 @@ use Rattle.uri_parts.specs.Components.{Components, Lacks, starts, IsRooted, comp
 use Rattle.uri_parts.specs.Grammar.{Kind}
 use Rattle.uri_parts.proofs.Recompose.{IsSplitOf-components}
 use Rattle.uri_ops.specs.Dots.{is_empty}
-use Rattle.uri_ops.specs.Target.{Refusal, BaseWithFragment, InvalidReferenceAgainstOpaqueBase, is_opaque, is_fragment_only, is_refused_as_opaque, joined, target_of}
+use Rattle.uri_ops.specs.Target.{Refusal, is_opaque, is_fragment_only, is_refused_as_opaque, joined, target_of}
 use Rattle.uri_ops.specs.ComponentSets.{HasComponentSets}
 use Rattle.uri_ops.specs.Texts.{IsTextOf}
 use Rattle.uri_ops.specs.Ports.{PortFunction}
@@ -20,24 +19,8 @@ use Rattle.uri_ops.proofs.Targets.{target_components}
 use Rattle.uri_ops.proofs.TextParts.{AreParts}
 use Rattle.uri_ops.proofs.NormalTexts.{parts_of, normal_is_text, meaning_of-normal_text}
 use Rattle.uri_ops.proofs.JoinedMeanings.{of_parts, with_scheme, target_meaning, joined_normal, refused_normal}
+use Rattle.uri_ops.proofs.Outcomes.{outcome, outcome_map, same_outcome}
 use Rattle.uri_ops.proofs.Tests.{some_map, true_to}
-
--- the refusals in their order, or a meaning
-outcome : Bool → Bool → Meaning → Result Meaning Refusal
-outcome fragment opaque m = cond fragment (Err BaseWithFragment) (cond opaque (Err InvalidReferenceAgainstOpaqueBase) (Ok m))
-
-outcome_map : (f : List ℕ → Meaning) (fragment opaque : Bool) (target : List ℕ)
-    → result_map_both f (λ (refusal : Refusal). refusal) (cond fragment (Err BaseWithFragment) (cond opaque (Err InvalidReferenceAgainstOpaqueBase) (Ok target))) ≡ outcome fragment opaque (f target)
-unfolding outcome
-outcome_map f true opaque target = refl
-outcome_map f false true target = refl
-outcome_map f false false target = refl
-
-same_outcome : (fragment opaque : Bool) (m n : Meaning) → (opaque ≡ false → m ≡ n) → outcome fragment opaque m ≡ outcome fragment opaque n
-unfolding outcome
-same_outcome true opaque m n e = refl
-same_outcome false true m n e = refl
-same_outcome false false m n e = ap Ok (e refl)
 
 joined_scheme : (base r : Components) → is_some base.scheme ≡ true → is_some (joined base r).scheme ≡ true
 joined_scheme base r some =
@@ -78,7 +61,7 @@ module _ (kind : Kind) (ports : PortFunction) (sets : HasComponentSets kind) whe
   outcome_of base r = outcome (is_some base.fragment) (is_refused_as_opaque base r) (meaning (joined base r))
 
   resolved_outcome : (b t : List ℕ) → is_some (components b).scheme ≡ true → resolved_meaning kind ports b t ≡ outcome_of (components b) (components t)
-  unfolding outcome_of
+  unfolding outcome_of outcome
   resolved_outcome b t some =
       let base = components b in
       let r = components t in

@@ -1,13 +1,13 @@
 -- A target is a text of its base's kind.
-use Rattle.std.proofs.Common.{◌≡◌, ℕ, Bool, true, false, cond, List, refl, sym, ap, subst, ◌∙◌}
-use Rattle.std.specs.Prelude.{Option, Some, None, IfSome, Result, Ok, Err, is_some, is_none}
+use Rattle.std.proofs.Common.{◌≡◌, ℕ, true, false, cond, List, refl, sym, ap, subst, ◌∙◌}
+use Rattle.std.specs.Prelude.{Option, Some, None, IfSome, Ok, is_some, is_none}
 use Rattle.std.specs.Str.{IsUtf8}
 use Rattle.std.proofs.lemmas.Bool.{cond_both, or_left, false≢true}
 use Rattle.uri_parts.specs.Components.{Components, starts, IsRooted, components, recompose}
 use Rattle.uri_parts.specs.Grammar.{Kind, is_scheme, is_authority, are_components}
 use Rattle.uri_parts.proofs.Recompose.{IsSplitOf-components}
 use Rattle.uri_ops.specs.Dots.{is_empty}
-use Rattle.uri_ops.specs.Target.{Refusal, BaseWithFragment, InvalidReferenceAgainstOpaqueBase, is_refused_as_opaque, merged, joined, cleaned_path, guarded, target_of, resolution_of}
+use Rattle.uri_ops.specs.Target.{is_refused_as_opaque, merged, joined, cleaned_path, guarded, target_of, resolution_of}
 use Rattle.uri_ops.specs.ComponentSets.{HasComponentSets}
 use Rattle.uri_ops.specs.Texts.{IsTextOf}
 use Rattle.uri_ops.specs.References.{reference_kind}
@@ -18,15 +18,11 @@ use Rattle.uri_ops.proofs.Targets.{target_components}
 use Rattle.uri_ops.proofs.TextParts.{AreParts, parts_meet}
 use Rattle.uri_ops.proofs.NormalTexts.{utf8_recompose, parts_of}
 use Rattle.uri_ops.proofs.Swaps.{has_needed_scheme, not_opaque, rooted_base}
+use Rattle.uri_ops.proofs.Outcomes.{outcome, accepted}
 
 pub absent : (o : Option (List ℕ)) → is_some o ≡ false → is_none o ≡ true
 absent None e = refl
 absent (Some x) e = absurd (false≢true (sym e))
-
-pub accepted : (fragment opaque : Bool) (t target : List ℕ) → ◌≡◌ {A = Result (List ℕ) Refusal} (cond fragment (Err BaseWithFragment) (cond opaque (Err InvalidReferenceAgainstOpaqueBase) (Ok t))) (Ok target) → (opaque ≡ false) × (t ≡ target)
-accepted true opaque t target e = cc
-accepted false true t target e = cc
-accepted false false t target e = (refl, cc)
 
 module _ (kind : Kind) (sets : HasComponentSets kind) where
   -- components with a scheme, each of which meets its rule
@@ -76,6 +72,7 @@ module _ (kind : Kind) (sets : HasComponentSets kind) where
   }
 
   pub target_is_text : (b t target : List ℕ) → kind.needs_scheme ≡ true → IsTextOf kind b → IsTextOf (reference_kind kind) t → resolution_of (components b) (components t) ≡ Ok target → IsTextOf kind target
+  unfolding outcome
   target_is_text b t target needs v w e =
       let base = components b in
       let r = components t in
