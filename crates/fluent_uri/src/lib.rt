@@ -14,24 +14,13 @@ pub use uri_parts::error::{ParseError, ParseErrorKind};
 /// The components of a reference that are more than percent-encoded texts.
 pub mod component {
     pub use uri_parts::component::{Authority, Host, HostOf, Scheme};
-    pub use uri_parts::component::{Authority, Host, Scheme};
     use uri_pct::encoder::{IRegName, IUserinfo};
 
     /// An authority of an IRI (RFC 3987, section 2.2).
     pub type IAuthority<'a> = Authority<'a, IUserinfo, IRegName>;
 
-    /// A host of an IRI's authority.
-    pub type IHost<'a> = Host<'a, IRegName>;
-}
-
-/// IP addresses.
     /// A host of an IRI (RFC 3987, section 2.2).
     pub type IHost<'a> = Host<'a, IRegName>;
-}
-
-/// The addresses that a host may be.
-pub mod net {
-    pub use uri_parts::net::{IpAddr, Ipv4Addr, Ipv6Addr};
 }
 
 /// IP addresses (RFC 3986, section 3.2.2), and their canonical texts (RFC 5952).
