@@ -171,7 +171,7 @@ chunks_text [] front ts e some = absurd (omega (arith, ap length e))
 chunks_text (c ∷ cs) front ts e some = chunks_of-chars c cs ts ∙ ap (λ x. onto_chunks x (chunks_of ts)) e
 
 -- the tokens of a text whose front has no `%`
-tokens_front : (front back : List ℕ) → IsUtf8 front → lacks 37 front ≡ true → tokens (front ++ back) ≡ map Char (chars front) ++ tokens back
+pub tokens_front : (front back : List ℕ) → IsUtf8 front → lacks 37 front ≡ true → tokens (front ++ back) ≡ map Char (chars front) ++ tokens back
 tokens_front front back u e =
     ap tokens_of (chars-append front back u) ∙ tokens_of-lacks (chars front) (chars back) (chars_lack (chars front) (ap (lacks 37) (encodes-chars front u) ∙ e))
 

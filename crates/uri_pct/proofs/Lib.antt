@@ -24,3 +24,5 @@ pub mod ReadingLaws
 mod ReadingRows
 pub mod Lossy
 pub mod Runs
+pub mod PartPieces
+pub mod Taking

@@ -225,7 +225,7 @@ pub valid_front : (bs : List ℕ) → IsUtf8 (take (utf8_valid_len bs) bs)
 unfolding utf8_valid_len
 valid_front bs = front_utf8 bs (length bs)
 
-lossy_of_text : (bs : List ℕ) → IsUtf8 bs → lossy_text bs ≡ bs
+pub lossy_of_text : (bs : List ℕ) → IsUtf8 bs → lossy_text bs ≡ bs
 unfolding pieces_from
 lossy_of_text bs u = ap lossy_text (sym (append-nil bs)) ∙ lossy_text-append bs [] u ∙ append-nil bs
 

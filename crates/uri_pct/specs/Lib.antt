@@ -12,3 +12,5 @@ pub mod Chunks
 pub mod DecodedChunks
 pub mod Decodes
 pub mod Parts
+pub mod Cows
+pub mod TakenBytes

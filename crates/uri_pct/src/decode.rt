@@ -1,12 +1,15 @@
 //! Decoding of percent-encoded texts (RFC 3986, section 2.1).
-ghost use Rattle.std.specs.Prelude.{◌≡◌, ◌==◌, IsTrue};
+ghost use Rattle.std.specs.Prelude.{◌≡◌, ◌==◌, IsTrue, IfOk, IsOkAnd};
 ghost use Rattle.std.specs.List.{position_or_len};
 ghost use Rattle.uri_pct.specs.Chunks.{widest_set};
+ghost use Rattle.uri_pct.specs.Texts.{is_unencoded};
 ghost use Rattle.uri_pct.specs.Tokens.{IsValidFor};
 
+use crate::cow::{CowSlice, CowStr, DecodeError};
 use crate::encoder::Encoder;
 use crate::octet::octet_value;
 use crate::pct_enc::EStr;
+use std::alloc::{AllocError, Global};
 
 /// A part of a text that is decoded.
 #[derive(Clone, Copy, Debug, PartialEq, Eq)]
@@ -36,7 +39,8 @@ fn unencoded_len(bytes: &[u8]) -> usize
 }
 
 impl<'a> Decode<'a> {
-    ghost use Rattle.uri_pct.specs.Decodes.{undecoded};
+    ghost use Rattle.uri_pct.specs.Cows.{cow_items, AreBorrowedItems};
+    ghost use Rattle.uri_pct.specs.Decodes.{undecoded, decoded};
 
     /// The text, of which nothing is decoded yet.
     #[doc(hidden)]
@@ -45,6 +49,41 @@ impl<'a> Decode<'a> {
         ensures { undecoded result ≡ text.now }
     {
         Decode { rest: text }
+    }
+
+    /// The text that is left.
+    #[doc(hidden)]
+    pub fn as_str(&self) -> &'a str
+        ensures { result.now ≡ undecoded self.now }
+    {
+        self.rest
+    }
+
+    /// Whether no `%` is left.
+    #[doc(hidden)]
+    pub fn is_unencoded(&self) -> bool
+        ensures { result ≡ is_unencoded (undecoded self.now) }
+    {
+        self.rest.as_bytes().iter().all(|&byte| byte != b'%')
+    }
+
+    /// The bytes that the text which is left decodes to: its own, borrowed, where no `%` is left.
+    /// `+` is not read as a space.
+    pub fn to_bytes(self, alloc: Global) -> Result<CowSlice<'a, u8>, AllocError>
+        ensures bytes { IfOk result (λ b. cow_items b ≡ decoded self.entry) }
+        ensures borrows { IsTrue (is_unencoded (undecoded self.entry)) → IsOkAnd result AreBorrowedItems }
+    {
+        if self.is_unencoded() {
+            return Ok(CowSlice::Borrowed(self.rest.as_bytes()));
+        }
+        let mut bytes = Vec::with_capacity(alloc, self.rest.len())?;
+        for chunk in self {
+            match chunk {
+                DecodedChunk::Unencoded(text) => bytes.extend_from_slice(text.as_bytes())?,
+                DecodedChunk::PctDecoded(byte) => bytes.push(byte)?,
+            }
+        }
+        Ok(CowSlice::Owned(bytes))
     }
 }
 

@@ -2,7 +2,11 @@
 #![tactic(auto)]
 
 #[doc(hidden)]
+pub mod cow;
+#[doc(hidden)]
 pub mod decode;
+#[doc(hidden)]
+pub mod decode_text;
 pub mod encoder;
 #[doc(hidden)]
 pub mod laws;

@@ -4,6 +4,7 @@ ghost use Rattle.uri_pct.specs.Sets.{IsSubset};
 ghost use Rattle.uri_pct.specs.Tokens.{Octet, text_of_token, is_valid_for, IsValidFor};
 ghost use Rattle.uri_pct.specs.Texts.{is_unencoded, is_absolute};
 
+pub use crate::cow::{CowSlice, CowStr, DecodeError};
 pub use crate::decode::{Decode, DecodedChunk};
 use crate::encoder::{Encoder, PathEncoder};
 use crate::octet::pct_encoded;

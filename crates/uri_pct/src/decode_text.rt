@@ -1,0 +1,117 @@
+//! Decoding to text.
+ghost use Rattle.std.specs.Prelude.{◌≡◌, ◌++◌, ◌&&◌, IsTrue, IfOk, IfErr, IsOk, IsOkAnd, string_bytes, IsUtf8};
+ghost use Rattle.std.specs.List.{flat_map, list_all};
+ghost use Rattle.uri_pct.specs.Cows.{cow_text, IsBorrowedText, IsRefusalOf};
+ghost use Rattle.uri_pct.specs.Parts.{pieces_of};
+ghost use Rattle.uri_pct.specs.Pieces.{is_well_formed, bytes_of_pieces, lossy_piece, lossy_text};
+ghost use Rattle.uri_pct.specs.Texts.{is_unencoded};
+
+use crate::cow::{CowStr, DecodeError};
+use crate::decode::Decode;
+use crate::parts::TakeParts;
+use std::alloc::{AllocError, Global};
+
+/// The bytes of the parts, and whether no part was ill-formed.
+#[derive(Drop)]
+struct Bytes {
+    bytes: Vec<u8>,
+    is_text: bool,
+}
+
+impl TakeParts for Bytes {
+    ghost use Rattle.uri_pct.specs.TakenBytes.{TookBytes, took_nothing, took_on};
+
+    ghost took = { TookBytes };
+
+    ghost takes_nothing = { took_nothing };
+
+    ghost takes_on = { took_on };
+
+    fn take_unencoded(&mut self, text: &str) -> Result<(), AllocError> {
+        self.bytes.extend_from_slice(text.as_bytes())
+    }
+
+    fn take_well_formed(&mut self, text: &str) -> Result<(), AllocError> {
+        self.bytes.extend_from_slice(text.as_bytes())
+    }
+
+    fn take_ill_formed(&mut self, bytes: &[u8]) -> Result<(), AllocError> {
+        self.is_text = false;
+        self.bytes.extend_from_slice(bytes)
+    }
+}
+
+/// The text of the parts, with U+FFFD for each that is ill-formed.
+#[derive(Drop)]
+struct LossyText {
+    text: String,
+}
+
+impl TakeParts for LossyText {
+    ghost use Rattle.uri_pct.specs.TakenBytes.{TookText, lossy_nothing, lossy_on};
+
+    ghost took = { TookText };
+
+    ghost takes_nothing = { lossy_nothing };
+
+    ghost takes_on = { lossy_on };
+
+    fn take_unencoded(&mut self, text: &str) -> Result<(), AllocError> {
+        self.text.push_str(text)
+    }
+
+    fn take_well_formed(&mut self, text: &str) -> Result<(), AllocError> {
+        self.text.push_str(text)
+    }
+
+    fn take_ill_formed(&mut self, _bytes: &[u8]) -> Result<(), AllocError> {
+        self.text.push(char::REPLACEMENT_CHARACTER)
+    }
+}
+
+impl<'a> Decode<'a> {
+    ghost use Rattle.uri_pct.specs.Decodes.{undecoded, decoded};
+
+    /// The text that what is left decodes to: itself, borrowed, where no `%` is left. `+` is not
+    /// read as a space.
+    ///
+    /// The error is `NotUtf8` with the bytes, exactly if they are not UTF-8, or `OutOfMemory`.
+    pub fn to_string(self, alloc: Global) -> Result<CowStr<'a>, DecodeError>
+        ensures text { IfOk result (λ text. cow_text text ≡ decoded self.entry) }
+        ensures utf8 { IsOk result → IsUtf8 (decoded self.entry) }
+        ensures refused { IfErr result (IsRefusalOf (decoded self.entry)) }
+        ensures borrows { IsTrue (is_unencoded (undecoded self.entry)) → IsOkAnd result IsBorrowedText }
+    {
+        if self.is_unencoded() {
+            return Ok(CowStr::Borrowed(self.as_str()));
+        }
+        let mut taker = Bytes {
+            bytes: Vec::with_capacity(alloc, self.as_str().len())?,
+            is_text: true,
+        };
+        self.take_parts(alloc, &mut taker)?;
+        let Bytes { bytes, is_text } = taker;
+        if is_text {
+            Ok(CowStr::Owned(unsafe { String::from_utf8_unchecked(bytes) }))
+        } else {
+            Err(DecodeError::NotUtf8(bytes))
+        }
+    }
+
+    /// The text that what is left decodes to, with U+FFFD for each maximal ill-formed part of its
+    /// bytes (Unicode, section 3.9): itself, borrowed, where no `%` is left. `+` is not read as a
+    /// space.
+    pub fn to_string_lossy(self, alloc: Global) -> Result<CowStr<'a>, AllocError>
+        ensures text { IfOk result (λ text. cow_text text ≡ lossy_text (decoded self.entry)) }
+        ensures borrows { IsTrue (is_unencoded (undecoded self.entry)) → IsOkAnd result IsBorrowedText }
+    {
+        if self.is_unencoded() {
+            return Ok(CowStr::Borrowed(self.as_str()));
+        }
+        let mut taker = LossyText {
+            text: String::with_capacity(alloc, self.as_str().len())?,
+        };
+        self.take_parts(alloc, &mut taker)?;
+        Ok(CowStr::Owned(taker.text))
+    }
+}
