@@ -68,7 +68,7 @@ pub fn is_literal(text: &str) -> bool
 fn is_name(table: &Table, text: &str) -> bool
     ensures { result ≡ is_name (set_of table.now) text.now }
 {
-    is_ipv4(text) || table.allows_text(text)
+    table.allows_text(text) || is_ipv4(text)
 }
 
 /// Whether nothing is left behind a host, or `:` and a port.
