@@ -33,7 +33,7 @@ pub fn is_literal(text: &str) -> bool
 fn is_name(table: &Table, text: &str) -> bool
     ensures { result ≡ is_name (set_of table.now) text.now }
 {
-    Ipv4Addr::read(text).is_some() || table.allows_text(text)
+    table.allows_text(text) || Ipv4Addr::read(text).is_some()
 }
 
 /// Whether nothing is left behind a host, or `:` and a port.
