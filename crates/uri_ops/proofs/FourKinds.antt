@@ -4,8 +4,7 @@ use Rattle.std.specs.Prelude.{codes}
 use Rattle.std.specs.List.{list_any}
 use Rattle.std.proofs.lemmas.Bool.{or_left, false≢true}
 use Rattle.uri_pct.specs.Sets.{TableSet, is_unreserved, is_sub_delim, is_reg_name_char, is_userinfo_char, is_pchar, is_path_char, is_query_char}
-use Rattle.uri_parts.specs.Grammar.{Kind, uri_ref}
-use Rattle.uri_ops.specs.FourKinds.{uri, iri, iri_ref}
+use Rattle.uri_parts.specs.Grammar.{Kind, uri, uri_ref, iri, iri_ref}
 use Rattle.uri_ops.specs.ComponentSets.{IsComponentSet, HasComponentSets}
 
 in_reg_name : (c : ℕ) → is_unreserved c ≡ true → is_reg_name_char c ≡ true

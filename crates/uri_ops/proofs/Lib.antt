@@ -36,3 +36,4 @@ pub mod EncodedComponents
 pub mod EncodedTargets
 pub mod EncodedAuthorities
 pub mod EncodedMeanings
+pub mod WiderKinds

@@ -11,14 +11,13 @@ use Rattle.uri_pct.specs.Tokens as Tokens
 use Rattle.uri_pct.specs.Pieces as Pieces
 use Rattle.uri_pct.specs.Reading as Reading
 use Rattle.uri_parts.specs.Components.{components}
-use Rattle.uri_parts.specs.Grammar.{Kind, uri_ref}
+use Rattle.uri_parts.specs.Grammar.{Kind, uri, uri_ref, iri, iri_ref}
 use Rattle.uri_parts.specs.Hosts.{Ipv4, RegName, host_kind, ipv4_value, ipv6_value}
 use Rattle.uri_ops.specs.Dots.{run, remove_dot_segments, directory}
 use Rattle.uri_ops.specs.Target.{resolution_of}
 use Rattle.uri_ops.specs.Ports.{PortFunction}
 use Rattle.uri_ops.specs.Meaning.{meaning_of}
 use Rattle.uri_ops.specs.Normal.{normal_text}
-use Rattle.uri_ops.specs.FourKinds.{uri, iri, iri_ref}
 
 ports : PortFunction
 ports scheme = cond (bytes_eq scheme (codes "http")) (Some 80) (cond (bytes_eq scheme (codes "foo")) (Some 4673) None)

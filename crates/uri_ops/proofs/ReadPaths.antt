@@ -7,8 +7,7 @@ use Rattle.std.proofs.Math.Utf8.{low_scalar}
 use Rattle.std.proofs.lemmas.List.{append-nil, map-append}
 use Rattle.std.proofs.lemmas.Bool.{and_parts, and_from, not_from_false}
 use Rattle.uri_pct.specs.Sets.{TableSet, LacksPercent, IsSubset, unreserved_set, is_unreserved, allows}
-use Rattle.uri_pct.specs.Reading.{read}
-use Rattle.uri_pct.specs.Tokens.{print, is_valid_for, IsValidFor}
+use Rattle.uri_pct.specs.Tokens.{is_valid_for}
 use Rattle.uri_pct.proofs.Validity.{allows-ascii}
 use Rattle.uri_parts.specs.Components.{IsRooted}
 use Rattle.uri_parts.proofs.Spelt.{utf8_apart}
@@ -148,12 +147,3 @@ module _ (set : TableSet) (lacks : LacksPercent set) (wide : IsSubset unreserved
       ∙ ap slashed (sym (map-append (reprinted set) (parent (s ∷ rest)) ([] ∷ [])))
       ∙ sym (reprinted_slashed set (parent (s ∷ rest) ++ [] ∷ []) (closed_parts s rest p))
       ∙ sym (ap (reprinted set) (directory_slashed s rest f))))
-
--- of a text that the set allows
-pub removed_read : (set : TableSet) (path : List ℕ) → LacksPercent set → IsSubset unreserved_set set → IsAbsolute path → IsUtf8 path → IsValidFor set path → remove_dot_segments (print (read set path)) ≡ print (read set (remove_dot_segments path))
-unfolding reprinted
-removed_read set path lacks wide absolute utf8 valid = removed_reprinted set lacks wide path absolute (part_from set path utf8 valid)
-
-pub underflows_read : (set : TableSet) (path : List ℕ) → LacksPercent set → IsSubset unreserved_set set → IsAbsolute path → IsUtf8 path → IsValidFor set path → underflows (print (read set path)) ≡ underflows path
-unfolding reprinted
-underflows_read set path lacks wide absolute utf8 valid = underflows_reprinted set lacks wide path absolute (part_from set path utf8 valid)

@@ -18,3 +18,12 @@ pub record HasComponentSets (kind : Kind) : Type 0 where
   pub slash : kind.path.ascii 47 ≡ true
   pub query : IsComponentSet (codes "#[]") kind.query
   pub fragment : IsComponentSet (codes "#[]") kind.fragment
+
+-- what one kind allows the other does: its sets are wider, and a scheme is needed there only if it is here
+pub record IsWithin (kind wide : Kind) : Type 0 where
+  pub userinfo : IsSubset kind.userinfo wide.userinfo
+  pub reg_name : IsSubset kind.reg_name wide.reg_name
+  pub path : IsSubset kind.path wide.path
+  pub query : IsSubset kind.query wide.query
+  pub fragment : IsSubset kind.fragment wide.fragment
+  pub needs_scheme : wide.needs_scheme ≡ true → kind.needs_scheme ≡ true

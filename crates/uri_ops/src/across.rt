@@ -4,14 +4,22 @@ ghost use Rattle.std.specs.Prelude.{◌≡◌, ℕ, List};
 ghost use Rattle.std.specs.Result.{result_map_both};
 ghost use Rattle.std.specs.Str.{IsUtf8};
 ghost use Rattle.uri_parts.specs.Components.{components};
-ghost use Rattle.uri_parts.specs.Grammar.{Kind, uri_ref};
-ghost use Rattle.uri_ops.specs.ComponentSets.{HasComponentSets};
+ghost use Rattle.uri_parts.specs.Grammar.{Kind, iri, iri_ref, uri, uri_ref};
+ghost use Rattle.uri_ops.specs.ComponentSets.{HasComponentSets, IsWithin};
 ghost use Rattle.uri_ops.specs.Encoded.{ascii_kind, encoded_text};
-ghost use Rattle.uri_ops.specs.FourKinds.{iri, iri_ref, uri};
 ghost use Rattle.uri_ops.specs.Meaning.{bare_meaning_of, meaning_of};
 ghost use Rattle.uri_ops.specs.Ports.{PortFunction};
 ghost use Rattle.uri_ops.specs.Target.{resolution_of, target_underflows};
 ghost use Rattle.uri_ops.specs.Texts.{IsTextOf};
+
+/// A text of a kind is of each kind with wider sets that needs no scheme where the one does not, as
+/// each URI is an IRI and a URI reference.
+#[doc(hidden)]
+pub fn texts_of_wider_kinds()
+    ensures wider { (kind wide : Kind) (text : List ℕ) → HasComponentSets wide → IsWithin kind wide → IsTextOf kind text → IsTextOf wide text }
+    ensures uri { (kind : Kind) → IsWithin (ascii_kind kind) kind }
+    ensures reference { IsWithin uri uri_ref × IsWithin iri iri_ref }
+{}
 
 /// A text of a kind of IRIs with its characters past ASCII as octets is of the kind of URIs that
 /// goes with it (RFC 3987, section 3.1), and read as an IRI it means what the text means.

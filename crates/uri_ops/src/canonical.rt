@@ -1,8 +1,7 @@
 //! Laws of meanings and normal texts, each the contract of a function that does nothing.
 ghost use Rattle.std.specs.Prelude.{◌≡◌, ◌↔◌, ℕ, List};
-ghost use Rattle.uri_parts.specs.Grammar.{Kind, uri_ref};
+ghost use Rattle.uri_parts.specs.Grammar.{Kind, iri, iri_ref, uri, uri_ref};
 ghost use Rattle.uri_ops.specs.ComponentSets.{HasComponentSets};
-ghost use Rattle.uri_ops.specs.FourKinds.{iri, iri_ref, uri};
 ghost use Rattle.uri_ops.specs.Meaning.{bare_meaning_of, meaning_of, under};
 ghost use Rattle.uri_ops.specs.Normal.{normal_text};
 ghost use Rattle.uri_ops.specs.Ports.{PortFunction};

@@ -1,10 +1,10 @@
 //! Laws of the definitions that contracts cite, each the contract of a function that does nothing.
 ghost use Rattle.std.specs.Prelude.{◌≡◌, ◌≤◌, ◌++◌, ◌||◌, ℕ, List, true, false, length, is_some};
 ghost use Rattle.std.specs.Str.{IsUtf8};
-ghost use Rattle.uri_parts.specs.Components.{IsRooted, IsSplitOf, starts, components, recompose};
-ghost use Rattle.uri_pct.specs.Reading.{read};
 ghost use Rattle.uri_pct.specs.Sets.{TableSet, LacksPercent, IsSubset, unreserved_set};
 ghost use Rattle.uri_pct.specs.Tokens.{print, IsValidFor};
+ghost use Rattle.uri_pct.specs.Reading.{read};
+ghost use Rattle.uri_parts.specs.Components.{IsRooted, IsSplitOf, starts, components, recompose};
 ghost use Rattle.uri_ops.specs.Dots.{is_empty, remove_dot_segments, underflows, directory, lacks_dot_segments, IsAbsolute, EndsInSlash};
 ghost use Rattle.uri_ops.specs.Target.{is_fragment_only, target_of};
 
@@ -32,14 +32,6 @@ pub fn removed_twice()
     ensures { (path : List ℕ) → IsAbsolute path → remove_dot_segments (remove_dot_segments path) ≡ remove_dot_segments path }
 {}
 
-/// Dot segments may be removed before what is read is printed or after, and it underflows alike.
-#[doc(hidden)]
-#[tactic(auto, using(crate::proofs::ReadPaths::removed_read, crate::proofs::ReadPaths::underflows_read))]
-pub fn of_what_is_read()
-    ensures removed { (set : TableSet) (path : List ℕ) → LacksPercent set → IsSubset unreserved_set set → IsAbsolute path → IsUtf8 path → IsValidFor set path → remove_dot_segments (print (read set path)) ≡ print (read set (remove_dot_segments path)) }
-    ensures underflow { (set : TableSet) (path : List ℕ) → LacksPercent set → IsSubset unreserved_set set → IsAbsolute path → IsUtf8 path → IsValidFor set path → underflows (print (read set path)) ≡ underflows path }
-{}
-
 /// A directory begins with and ends in `/`, and its dot segments may be removed before it is taken or after.
 #[doc(hidden)]
 #[tactic(auto, using(crate::proofs::DotLaws::directory_absolute, crate::proofs::DotLaws::directory_ends, crate::proofs::DotLaws::removed_directory, crate::proofs::DotLaws::underflows_directory))]
@@ -65,6 +57,13 @@ pub fn in_pieces()
 pub fn before_merging()
     ensures removed { (base reference : List ℕ) → IsRooted base → remove_dot_segments (directory base ++ reference) ≡ remove_dot_segments (directory (remove_dot_segments base) ++ reference) }
     ensures underflow { (base reference : List ℕ) → IsRooted base → underflows (directory base ++ reference) ≡ (underflows base || underflows (directory (remove_dot_segments base) ++ reference)) }
+{}
+
+/// Dot segments may be removed before a path is read or after, and reading changes no underflow.
+#[doc(hidden)]
+pub fn of_a_read_path()
+    ensures removed { (set : TableSet) (path : List ℕ) → LacksPercent set → IsSubset unreserved_set set → IsAbsolute path → IsUtf8 path → IsValidFor set path → remove_dot_segments (print (read set path)) ≡ print (read set (remove_dot_segments path)) }
+    ensures underflow { (set : TableSet) (path : List ℕ) → LacksPercent set → IsSubset unreserved_set set → IsAbsolute path → IsUtf8 path → IsValidFor set path → underflows (print (read set path)) ≡ underflows path }
 {}
 
 /// The text of a target has the components that were put into it, where the base has a scheme (RFC 3986, sections 5.2.2 and 5.3).
