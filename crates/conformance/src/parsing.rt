@@ -1,7 +1,7 @@
 use fluent_uri::ParseErrorKind::{InvalidPctEncodedOctet, UnexpectedChar};
 use fluent_uri::component::{Authority, Scheme};
 use fluent_uri::pct_enc::EStr;
-use fluent_uri::{ParseErrorKind, UriRef};
+use fluent_uri::{ParseErrorKind, Uri, UriRef};
 use std::process::Abort;
 use std::test::Fail;
 
@@ -244,5 +244,19 @@ fn path_outlives_its_reference(rt: HostRuntime) -> Result<(), Fail> {
         reference.path()
     };
     assert_eq!(rt; path.as_str(), "/a");
+    Ok(())
+}
+
+#[test]
+fn refused_text_comes_back(rt: HostRuntime) -> Result<(), Fail> {
+    let text = String::from_str(rt.alloc(), "a b")?;
+    match Uri::<String>::parse(text) {
+        Ok(_uri) => assert!(rt; false, "accepted"),
+        Err((error, text)) => {
+            assert_eq!(rt; error.kind(), UnexpectedChar);
+            assert_eq!(rt; error.index(), 1);
+            assert_eq!(rt; text.as_str(), "a b");
+        }
+    }
     Ok(())
 }

@@ -1,16 +1,22 @@
 -- What the words of a command line ask for, and what is printed then.
 use Rattle.std.specs.Prelude.{◌≡◌, ℕ, List, [], ◌∷◌, codes, map, String, string_bytes, Option, Some, None, if◌then◌else◌}
 use Rattle.fluent_uri.specs.Components.{components}
-use Rattle.fluent_uri.specs.Grammar.{Kind, uri_ref, is_of_kind}
+use Rattle.fluent_uri.specs.Grammar.{Kind, uri, uri_ref, iri, iri_ref, is_of_kind}
 use Rattle.uritool.specs.Lines.{component_lines}
 use Rattle.uritool.specs.declared.command.KindName.{KindName}
-use Rattle.uritool.specs.declared.command.KindName.TheVariants.{UriRef}
+use Rattle.uritool.specs.declared.command.KindName.TheVariants.{Uri, UriRef, Iri, IriRef}
 
 abbrev pub kind_of : KindName → Kind
+kind_of Uri = uri
 kind_of UriRef = uri_ref
+kind_of Iri = iri
+kind_of IriRef = iri_ref
 
 abbrev pub word_of_kind : KindName → List ℕ
+word_of_kind Uri = codes "uri"
 word_of_kind UriRef = codes "uri-ref"
+word_of_kind Iri = codes "iri"
+word_of_kind IriRef = codes "iri-ref"
 
 -- `parse KIND TEXT`
 pub data Command : Type 0 where

@@ -6,8 +6,14 @@ ghost use Rattle.uritool.specs.Asked.{asked};
 /// A kind, by its name on the command line.
 #[derive(Clone, Copy)]
 pub enum KindName {
+    /// `uri`
+    Uri,
     /// `uri-ref`
     UriRef,
+    /// `iri`
+    Iri,
+    /// `iri-ref`
+    IriRef,
 }
 
 /// What is asked for.
@@ -36,7 +42,10 @@ fn kind_named(word: &str) -> Option<KindName>
     ensures { MatchOption result ((k : _) → word.now ≢ word_of_kind k) (λ k. word.now ≡ word_of_kind k) }
 {
     match word {
+        "uri" => Some(KindName::Uri),
         "uri-ref" => Some(KindName::UriRef),
+        "iri" => Some(KindName::Iri),
+        "iri-ref" => Some(KindName::IriRef),
         _ => None,
     }
 }

@@ -1,12 +1,15 @@
 //! The program, over any two writers.
-ghost use Rattle.std.specs.Prelude.{◌≡◌, ◌↔◌, ◌≤◌, None, Some, List, ℕ};
+ghost use Rattle.std.specs.Prelude.{◌≡◌, ◌↔◌, ◌≤◌, IsOk, IfOk, None, Some, List, ℕ};
 ghost use Rattle.std.specs.Io.KnownBytes.{Appends, Keeps};
-ghost use Rattle.uritool.specs.Commands.{Command as Asked, Parse, IsCommand, words_of, output_of, texts};
+ghost use Rattle.uritool.specs.Commands.{Command as Asked, Parse, IsCommand, kind_of, words_of, output_of, texts};
 ghost use Rattle.uritool.specs.Asked.{asked};
+ghost use Rattle.uritool.specs.Texts.{components_in};
+ghost use Rattle.fluent_uri.specs.Components.{components};
+ghost use Rattle.fluent_uri.specs.Grammar.{IsOfKind};
 
 use crate::command::{Command, KindName};
 use crate::lines::Texts;
-use fluent_uri::UriRef;
+use fluent_uri::{Iri, IriRef, ParseError, Uri, UriRef};
 use std::alloc::Global;
 use std::io::Write;
 
@@ -46,20 +49,20 @@ fn execute<O: Write, E: Write>(command: Command<'_>, out: &mut O, err: &mut E) -
     ensures status { result ≤ 1 }
 {
     match command {
-        Command::Parse(KindName::UriRef, text) => parse_uri_ref(text, out, err),
+        Command::Parse(kind, text) => parse(kind, text, out, err),
     }
 }
 
-fn parse_uri_ref<O: Write, E: Write>(text: &str, out: &mut O, err: &mut E) -> u8
-    ensures answered { result ≡ 0 → (lines : List ℕ) × (output_of (Parse KindName.UriRef text.now) ≡ Some lines)
+fn parse<O: Write, E: Write>(kind: KindName, text: &str, out: &mut O, err: &mut E) -> u8
+    ensures answered { result ≡ 0 → (lines : List ℕ) × (output_of (Parse kind text.now) ≡ Some lines)
         × Appends (O.contents out.old) (O.contents out.new) lines
         × Keeps (E.contents err.old) (E.contents err.new) }
-    ensures refused { output_of (Parse KindName.UriRef text.now) ≡ None
+    ensures refused { output_of (Parse kind text.now) ≡ None
         → (result ≡ 1) × Keeps (O.contents out.old) (O.contents out.new) }
     ensures status { result ≤ 1 }
 {
-    match UriRef::<&str>::parse(text) {
-        Ok(reference) => match Texts::from(reference).write_lines(out) {
+    match read(kind, text) {
+        Ok(texts) => match texts.write_lines(out) {
             Ok(()) => 0,
             Err(_) => {
                 let _ = writeln!(err, "error: output failed");
@@ -70,6 +73,18 @@ fn parse_uri_ref<O: Write, E: Write>(text: &str, out: &mut O, err: &mut E) -> u8
             let _ = writeln!(err, "error: {e}");
             1
         }
+    }
+}
+
+fn read(kind: KindName, text: &str) -> Result<Texts<'_>, ParseError>
+    ensures accepts { IsOk result ↔ IsOfKind (kind_of kind) text.now }
+    ensures texts { IfOk result (λ texts. components_in texts ≡ components text.now) }
+{
+    match kind {
+        KindName::Uri => Ok(Texts::from(Uri::<&str>::parse(text)?)),
+        KindName::UriRef => Ok(Texts::from(UriRef::<&str>::parse(text)?)),
+        KindName::Iri => Ok(Texts::from(Iri::<&str>::parse(text)?)),
+        KindName::IriRef => Ok(Texts::from(IriRef::<&str>::parse(text)?)),
     }
 }
 

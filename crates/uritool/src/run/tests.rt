@@ -78,6 +78,35 @@ fn prints_components(rt: HostRuntime) -> Result<(), Fail> {
 }
 
 #[test]
+fn prints_components_of_each_kind(rt: HostRuntime) -> Result<(), Fail> {
+    for (kind, text, lines) in [
+        ("uri", "urn:a:b", "scheme=urn\npath=a:b\n"),
+        (
+            "iri",
+            "http://résumé.example.org/",
+            "scheme=http\nauthority=résumé.example.org\npath=/\n",
+        ),
+        ("iri-ref", "café", "path=café\n"),
+    ] {
+        ends_with(&rt, rt.alloc(), &["parse", kind, text], 0, lines, "")?;
+    }
+    Ok(())
+}
+
+#[test]
+fn refuses_by_kind(rt: HostRuntime) -> Result<(), Fail> {
+    for (kind, text, line) in [
+        ("uri", "foo", "error: unexpected character at index 3\n"),
+        ("iri", "foo", "error: unexpected character at index 3\n"),
+        ("uri-ref", "é", "error: unexpected character at index 0\n"),
+        ("iri-ref", "a b", "error: unexpected character at index 1\n"),
+    ] {
+        ends_with(&rt, rt.alloc(), &["parse", kind, text], 1, "", line)?;
+    }
+    Ok(())
+}
+
+#[test]
 fn refuses(rt: HostRuntime) -> Result<(), Fail> {
     for (text, line) in [
         (":hello", "error: unexpected character at index 0\n"),
