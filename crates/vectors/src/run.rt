@@ -23,7 +23,7 @@ fn report<O: Write>(out: &mut O) -> io::Result<usize> {
     for row in ROWS {
         if !row.holds() {
             writeln!(out, "fail {}", row.id())?;
-            failed += 1;
+            failed = failed.saturating_add(1);
         }
     }
     writeln!(out, "rows {} failed {failed}", ROWS.len())?;
