@@ -1,5 +1,5 @@
 -- Rows that compute.
-use Rattle.std.proofs.Common.{◌≡◌, ℕ, true, false, List, [], refl}
+use Rattle.std.proofs.Common.{◌≡◌, ℕ, true, false, List, [], ◌∷◌, ◌++◌, refl}
 use Rattle.std.specs.Prelude.{codes}
 use Rattle.uri_ops.specs.Dots.{remove_dot_segments, underflows, directory, lacks_dot_segments, run}
 
@@ -83,3 +83,9 @@ directories = (refl, refl, refl, refl, refl, refl, refl, refl)
 dot_segments : (lacks_dot_segments (codes "/a/...//b.%2e") ≡ true) × (lacks_dot_segments (codes "/a/./b") ≡ false)
     × (lacks_dot_segments (codes "/a/b/%2e.") ≡ false) × (lacks_dot_segments (codes "/..") ≡ false)
 dot_segments = (refl, refl, refl, refl)
+
+-- a full-width dot (U+FF0E) is no dot, as itself or as octets
+full_width : Removes (codes "/a/" ++ (0xEF ∷ 0xBC ∷ 0x8E ∷ 0xEF ∷ 0xBC ∷ 0x8E ∷ [])) (codes "/a/" ++ (0xEF ∷ 0xBC ∷ 0x8E ∷ 0xEF ∷ 0xBC ∷ 0x8E ∷ []))
+    × Removes (codes "/a/%EF%BC%8E") (codes "/a/%EF%BC%8E")
+unfolding Removes remove_dot_segments underflows run
+full_width = ((refl, refl), (refl, refl))
