@@ -26,3 +26,5 @@ pub mod Lossy
 pub mod Runs
 pub mod PartPieces
 pub mod Taking
+pub mod Appending
+pub mod Encodings

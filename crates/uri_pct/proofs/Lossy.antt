@@ -15,7 +15,7 @@ use Rattle.uri_pct.specs.Pieces.{Piece, WellFormed, IllFormed, ByteRange, IsOfCh
 use Rattle.uri_pct.proofs.Pieces.{bytes_of_pieces-utf8_pieces, pieces_from-drop, first_bytes, taken_le, take_two}
 use Rattle.uri_pct.proofs.CharacterPieces.{utf8_pieces-are, utf8_pieces-encode_first, is_piece, row_1, row_2, row_3, row_4, row_5, row_6, row_7, row_8, row_9}
 
-pub of_char : ℕ → Piece
+unfoldable pub of_char : ℕ → Piece
 of_char c = WellFormed (encode_utf8 c)
 
 -- the pieces of a text are its characters

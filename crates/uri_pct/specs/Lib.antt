@@ -14,3 +14,4 @@ pub mod Decodes
 pub mod Parts
 pub mod Cows
 pub mod TakenBytes
+pub mod Encoding

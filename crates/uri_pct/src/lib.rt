@@ -7,6 +7,8 @@ pub mod cow;
 pub mod decode;
 #[doc(hidden)]
 pub mod decode_text;
+#[doc(hidden)]
+pub mod encode;
 pub mod encoder;
 #[doc(hidden)]
 pub mod laws;
