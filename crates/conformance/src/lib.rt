@@ -1,8 +1,12 @@
 //! What the public calls of `fluent_uri` answer to given texts, and what its messages say. The
-//! expected answers are those of the standards and of this project's profile.
+//! expected answers are those of the standards, of this project's profile and of the original.
 #![tactic(auto)]
 
 #[cfg(test)]
+mod addresses;
+#[cfg(test)]
 mod encoding;
+#[cfg(test)]
+mod original;
 #[cfg(test)]
 mod parsing;
