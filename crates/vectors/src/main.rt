@@ -6,9 +6,10 @@ mod reading;
 mod rows;
 mod run;
 
+use crate::rows::ROWS;
 use crate::run::run;
 use std::process::ExitCode;
 
 fn main(rt: HostRuntime) -> ExitCode {
-    ExitCode::from(run(&mut rt.stdout()))
+    ExitCode::from(run(rt.alloc(), ROWS, &mut rt.stdout()))
 }

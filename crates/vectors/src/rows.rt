@@ -1,6 +1,6 @@
 //! The stored rows.
 
-use crate::ask::Ask::{Authority, Host, Parts, Refused};
+use crate::ask::Ask::{Authority, Host, Parts, Refused, Returned};
 use crate::ask::Row;
 use crate::reading::HostValue::{Ipv6, RegName};
 use crate::reading::Kind::{Iri, IriRef, Uri, UriRef};
@@ -65,6 +65,7 @@ pub const ROWS: &[Row] = &[
             Refused(UriRef, "%", InvalidPctEncodedOctet, 0),
         ],
     ),
+    Row("25", &[Returned("a b", UnexpectedChar, 1)]),
     Row(
         "C1",
         &[
