@@ -1,4 +1,5 @@
 pub mod Cuts
+pub mod SchemePorts
 pub mod Marks
 pub mod Splits
 pub mod Recompose

@@ -14,4 +14,5 @@ pub mod Literals
 pub mod Positions
 pub mod Readers
 pub mod Reading
+pub mod SchemePorts
 pub mod Schemes

@@ -4,6 +4,7 @@
 pub mod component;
 #[doc(hidden)]
 pub mod core_text;
+mod default_ports;
 pub mod error;
 #[doc(hidden)]
 pub mod fault;
@@ -24,5 +25,7 @@ pub mod positions;
 pub mod reader;
 #[doc(hidden)]
 pub mod rules;
+#[doc(hidden)]
+pub mod scheme;
 #[doc(hidden)]
 pub mod slicing;
