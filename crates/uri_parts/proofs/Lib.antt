@@ -1,5 +1,7 @@
 pub mod Cuts
 pub mod SchemePorts
+pub mod PlainSets
+pub mod Ports
 pub mod Marks
 pub mod Splits
 pub mod Recompose

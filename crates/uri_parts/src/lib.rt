@@ -20,6 +20,8 @@ pub mod net;
 #[doc(hidden)]
 pub mod parse;
 #[doc(hidden)]
+pub mod port;
+#[doc(hidden)]
 pub mod positions;
 #[doc(hidden)]
 pub mod reader;
