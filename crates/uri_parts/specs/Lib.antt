@@ -4,6 +4,7 @@ pub mod Authorities
 pub mod AuthorityReading
 pub mod AuthorityTexts
 pub mod Components
+pub mod Connecting
 pub mod CoreTexts
 pub mod Errors
 pub mod Grammar

@@ -4,6 +4,7 @@ ghost use Rattle.uri_parts.specs.Authority.{authority_parts, is_authority_for};
 ghost use Rattle.uri_parts.specs.Hosts.{host_kind};
 ghost use Rattle.uri_parts.specs.Positions.{host_start_of, host_end_of};
 
+pub use crate::connect::{SocketError, SocketTarget};
 use crate::net::{Ipv4Addr, Ipv6Addr};
 pub use crate::scheme::Scheme;
 use crate::slicing::{after_mark, cut_before};

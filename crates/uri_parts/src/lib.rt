@@ -3,6 +3,8 @@
 
 pub mod component;
 #[doc(hidden)]
+pub mod connect;
+#[doc(hidden)]
 pub mod core_text;
 mod default_ports;
 pub mod error;
