@@ -1,6 +1,6 @@
 -- Ports, and the default ports of schemes: RFC 3986, sections 3.2.3 and 6.2.3.
 use Rattle.std.specs.Prelude.{ℕ, Bool, false, ◌==◌, List, Option, Some, None}
-use Rattle.uri_parts.specs.Ports.{port_value}
+use Rattle.uri_parts.specs.PortNumbers.{port_value}
 
 -- the default port of a scheme, which is given in lower case, where it has one
 abbrev pub PortFunction : Type 0

@@ -1,6 +1,7 @@
 pub mod Cuts
 pub mod SchemePorts
 pub mod PlainSets
+mod PortRows
 pub mod Ports
 pub mod Marks
 pub mod Splits

@@ -12,7 +12,7 @@ use Rattle.std.proofs.lemmas.Str.{digit_value_digit}
 use Rattle.std.proofs.lemmas.Str.Parse.{IsNumeralModel, parse_digits, digit_from_value, without_leading_plus_none}
 use Rattle.uri_pct.specs.Sets.{digit_set}
 use Rattle.uri_pct.specs.Tokens.{IsValidFor}
-use Rattle.uri_parts.specs.Ports.{port_number, port_value, FitsPort}
+use Rattle.uri_parts.specs.PortNumbers.{port_number, port_value, FitsPort}
 use Rattle.uri_parts.proofs.PlainSets.{is_plain_char, valid_plain}
 
 is_digit : (d : ℕ) → is_plain_char is_ascii_digit d ≡ true → digit_value d < 10

@@ -12,7 +12,7 @@ pub mod Grammars
 pub mod Hosts
 pub mod HostTexts
 pub mod Literals
-pub mod Ports
+pub mod PortNumbers
 pub mod Positions
 pub mod Readers
 pub mod Reading

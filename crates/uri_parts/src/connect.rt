@@ -6,7 +6,7 @@ ghost use Rattle.uri_pct.specs.Texts.{is_unencoded};
 ghost use Rattle.uri_parts.specs.Authority.{authority_parts};
 ghost use Rattle.uri_parts.specs.Connecting.{IsAnswerFor, IsBorrowedTarget, IsNameRefusal, name_bytes};
 ghost use Rattle.uri_parts.specs.Hosts.{host_kind};
-ghost use Rattle.uri_parts.specs.Ports.{port_number, FitsPort};
+ghost use Rattle.uri_parts.specs.PortNumbers.{port_number, FitsPort};
 ghost use Rattle.uri_parts.specs.declared.connect.SocketError.TheVariants.{InvalidPort};
 
 use crate::component::{Authority, HostOf};
@@ -55,7 +55,11 @@ impl<'a, U: Encoder, R: Encoder> Authority<'a, U, R> {
     /// `UnsupportedMechanism` for an address of a later version, `NameNotUtf8` for a name that does
     /// not decode to UTF-8 (RFC 3986, section 3.2.2), or `OutOfMemory`. Where no `%` stands in the
     /// host, no memory is taken and the name is `CowStr::Borrowed`.
-    pub fn socket_target(self, alloc: Global, default_port: u16) -> Result<SocketTarget<'a>, SocketError>
+    pub fn socket_target(
+        self,
+        alloc: Global,
+        default_port: u16,
+    ) -> Result<SocketTarget<'a>, SocketError>
         ensures invalid_port { let p = authority_parts (authority_text self.entry) in ¬ (FitsPort (port_number p.port)) → result ≡ Err InvalidPort }
         ensures answer { let p = authority_parts (authority_text self.entry) in FitsPort (port_number p.port) → IsAnswerFor p.host (host_kind p.host) (unwrap_or (port_number p.port) default_port) result }
         ensures borrows { let p = authority_parts (authority_text self.entry) in IsTrue (is_unencoded p.host) → IfOk result IsBorrowedTarget }

@@ -9,6 +9,9 @@ use std::hash::{Hash, Hasher};
 use uri_pct::table::SCHEME;
 
 /// A scheme (RFC 3986, section 3.1).
+///
+/// Schemes are equal, and hash alike, where their texts are the same but for the case of ASCII
+/// letters. One is printed as it stands.
 #[derive(Clone, Copy)]
 pub struct Scheme<'a> {
     text: &'a str,
@@ -59,9 +62,8 @@ impl<'a> Scheme<'a> {
         self.text
     }
 
-    /// The default port of the scheme, if it has one. ASCII case makes no difference.
-    ///
-    /// The list is this project's own: RFC 3986 (section 3.2.3) leaves default ports to the schemes.
+    /// The default port of the scheme (RFC 3986, section 3.2.3), if it is one of the 44 that have
+    /// one here. ASCII case makes no difference.
     pub fn default_port(self) -> Option<u16>
         ensures { result ≡ default_port (lowered_scheme self.entry) }
     {
@@ -80,7 +82,6 @@ impl<'a> fmt::Display for Scheme<'a> {
     }
 }
 
-/// Schemes are equal where their texts are, ASCII case apart (RFC 3986, section 6.2.2.1).
 impl<'a> PartialEq for Scheme<'a> {
     ghost use Rattle.std.proofs.Common.{rules};
     ghost use Rattle.std.specs.Cmp.Rules.{comparing};

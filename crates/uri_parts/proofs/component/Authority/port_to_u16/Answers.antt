@@ -13,7 +13,7 @@ returns-in_err-parse-in-Some-clause-number g c =
     search rules
 
 pub returns-in_err-parse-in-Some-clause-refused : goal.returns-in_err-parse-in-Some-clause-refused
-returns-in_err-parse-in-Some-clause-refused g c = 
+returns-in_err-parse-in-Some-clause-refused g c =
     let is = ap Some c.as_str.ensures.text ∙ ap (option_map text_of) (sym c.in-Some.is) ∙ c.port.ensures in
     let long = ap (λ t. eqb (length t) 0) c.as_str.ensures.text ∙ sym c.is_empty.ensures ∙ c.if-not-is_empty.true in
     let read = port_parsed _ c.as_str.result.now c.parse.result is c.as_str.utf8 c.as_str.ensures.valid long c.parse.ensures.value.0 c.parse.ensures.value.1 in
