@@ -3,6 +3,8 @@
 #![tactic(auto)]
 
 #[cfg(test)]
+mod connecting;
+#[cfg(test)]
 mod encoding;
 #[cfg(test)]
 mod parsing;

@@ -4,7 +4,7 @@ ghost use Rattle.std.specs.Str.{str_to_ascii_lowercase};
 ghost use Rattle.uri_parts.specs.SchemePorts.{default_port, port_ignoring_case};
 
 /// The schemes that have a default port, each with it.
-const DEFAULT_PORTS: [(&str, u16); 44] = [
+static DEFAULT_PORTS: [(&str, u16); 44] = [
     ("aaa", 3868),
     ("aaas", 5658),
     ("acap", 674),
