@@ -5,6 +5,8 @@
 #[cfg(test)]
 mod addresses;
 #[cfg(test)]
+mod connecting;
+#[cfg(test)]
 mod encoding;
 #[cfg(test)]
 mod original;

@@ -1,5 +1,6 @@
 pub mod IriRefs
 pub mod Iris
+pub use Rattle.uri_pct.specs.Cows
 pub use Rattle.uri_pct.specs.EStrs
 pub use Rattle.uri_pct.specs.Fronts
 pub use Rattle.uri_pct.specs.Masks
@@ -11,11 +12,14 @@ pub use Rattle.uri_parts.specs.Authorities
 pub use Rattle.uri_parts.specs.Authority
 pub use Rattle.uri_parts.specs.AuthorityTexts
 pub use Rattle.uri_parts.specs.Components
+pub use Rattle.uri_parts.specs.Connecting
 pub use Rattle.uri_parts.specs.Errors
 pub use Rattle.uri_parts.specs.Grammar
 pub use Rattle.uri_parts.specs.Hosts
 pub use Rattle.uri_parts.specs.HostTexts
+pub use Rattle.uri_parts.specs.PortNumbers
 pub use Rattle.uri_parts.specs.Positions
+pub use Rattle.uri_parts.specs.SchemePorts
 pub use Rattle.uri_parts.specs.Schemes
 pub use Rattle.uri_ascii.specs.Parses
 pub use Rattle.uri_ascii.specs.UriRefs

@@ -13,7 +13,7 @@ pub use uri_parts::error::{ParseError, ParseErrorKind};
 
 /// The components of a reference that are more than percent-encoded texts.
 pub mod component {
-    pub use uri_parts::component::{Authority, Host, HostOf, Scheme};
+    pub use uri_parts::component::{Authority, Host, HostOf, Scheme, SocketError, SocketTarget};
     use uri_pct::encoder::{IRegName, IUserinfo};
 
     /// An authority of an IRI (RFC 3987, section 2.2).

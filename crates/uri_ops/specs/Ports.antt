@@ -1,6 +1,6 @@
 -- Ports, and the default ports of schemes: RFC 3986, sections 3.2.3 and 6.2.3.
 use Rattle.std.specs.Prelude.{ℕ, Bool, false, ◌==◌, List, Option, Some, None}
-use Rattle.std.specs.Str.Parse.{digits_value}
+use Rattle.uri_parts.specs.PortNumbers.{port_value}
 
 -- the default port of a scheme, which is given in lower case, where it has one
 abbrev pub PortFunction : Type 0
@@ -9,10 +9,6 @@ PortFunction = List ℕ → Option ℕ
 -- no scheme has one
 abbrev pub no_defaults : PortFunction
 no_defaults scheme = None
-
--- the number that a port's digits write: leading zeros make no difference
-abbrev pub port_value : List ℕ → ℕ
-port_value digits = digits_value 10 digits
 
 -- the digits write the default port
 abbrev pub is_default : Option ℕ → List ℕ → Bool

@@ -1,4 +1,8 @@
 pub mod Cuts
+pub mod SchemePorts
+pub mod PlainSets
+mod PortRows
+pub mod Ports
 pub mod Marks
 pub mod Splits
 pub mod Recompose

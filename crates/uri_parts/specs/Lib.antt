@@ -4,6 +4,7 @@ pub mod Authorities
 pub mod AuthorityReading
 pub mod AuthorityTexts
 pub mod Components
+pub mod Connecting
 pub mod CoreTexts
 pub mod Errors
 pub mod Grammar
@@ -11,7 +12,9 @@ pub mod Grammars
 pub mod Hosts
 pub mod HostTexts
 pub mod Literals
+pub mod PortNumbers
 pub mod Positions
 pub mod Readers
 pub mod Reading
+pub mod SchemePorts
 pub mod Schemes

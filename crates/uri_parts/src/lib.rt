@@ -3,7 +3,10 @@
 
 pub mod component;
 #[doc(hidden)]
+pub mod connect;
+#[doc(hidden)]
 pub mod core_text;
+mod default_ports;
 pub mod error;
 #[doc(hidden)]
 pub mod fault;
@@ -19,10 +22,14 @@ pub mod net;
 #[doc(hidden)]
 pub mod parse;
 #[doc(hidden)]
+pub mod port;
+#[doc(hidden)]
 pub mod positions;
 #[doc(hidden)]
 pub mod reader;
 #[doc(hidden)]
 pub mod rules;
+#[doc(hidden)]
+pub mod scheme;
 #[doc(hidden)]
 pub mod slicing;

@@ -1,0 +1,30 @@
+//! Ports as numbers (RFC 3986, section 3.2.3).
+ghost use Rattle.std.specs.Prelude.{◌≡◌, IfErr};
+ghost use Rattle.std.specs.Result.{OkIff};
+ghost use Rattle.std.specs.Str.Parse.{error_kind};
+ghost use Rattle.std.specs.declared.num.IntErrorKind.TheVariants.{PosOverflow};
+ghost use Rattle.uri_parts.specs.Authority.{authority_parts};
+ghost use Rattle.uri_parts.specs.PortNumbers.{port_number, FitsPort};
+
+use crate::component::Authority;
+use std::num::ParseIntError;
+use uri_pct::encoder::Encoder;
+
+impl<'a, U: Encoder, R: Encoder> Authority<'a, U, R> {
+    ghost use Rattle.uri_parts.specs.AuthorityTexts.{authority_text};
+
+    /// The port as a number (RFC 3986, section 3.2.3), or `None` where it is absent or empty.
+    /// Leading zeros make no difference.
+    ///
+    /// The error comes exactly if the number is over 65535, however long it is; its kind is
+    /// `PosOverflow`.
+    pub fn port_to_u16(self) -> Result<Option<u16>, ParseIntError>
+        ensures number { let number = port_number (authority_parts (authority_text self.entry)).port in OkIff result (FitsPort number) number }
+        ensures refused { IfErr result (λ e. error_kind e ≡ PosOverflow) }
+    {
+        match self.port() {
+            Some(port) if !port.is_empty() => Ok(Some(port.as_str().parse()?)),
+            _ => Ok(None),
+        }
+    }
+}

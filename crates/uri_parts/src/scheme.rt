@@ -1,0 +1,125 @@
+//! Schemes (RFC 3986, section 3.1).
+ghost use Rattle.std.specs.Prelude.{◌≡◌, ◌==◌, ◌↔◌, IsSome, IfSome, true};
+ghost use Rattle.uri_parts.specs.Grammar.{is_scheme};
+ghost use Rattle.uri_parts.specs.SchemePorts.{default_port};
+
+use crate::default_ports;
+use std::fmt;
+use std::hash::{Hash, Hasher};
+use uri_pct::table::SCHEME;
+
+/// A scheme (RFC 3986, section 3.1).
+///
+/// Schemes are equal, and hash alike, where their texts are the same but for the case of ASCII
+/// letters. One is printed as it stands.
+#[derive(Clone, Copy)]
+pub struct Scheme<'a> {
+    text: &'a str,
+    pub ghost valid: { is_scheme text.now ≡ true },
+}
+
+impl<'a> Scheme<'a> {
+    ghost use Rattle.uri_parts.specs.Schemes.{lowered_scheme, scheme_text};
+
+    /// The text as a scheme, or `None` exactly if it is none: a letter, and then letters, digits,
+    /// `+`, `-` and `.`.
+    #[tactic(auto, using(uri_pct::proofs::Constants::scheme_table))]
+    pub fn new(text: &'a str) -> Option<Self>
+        ensures valid { IsSome result ↔ (is_scheme text.now ≡ true) }
+        ensures same { IfSome result (λ s. scheme_text s ≡ text.now) }
+    {
+        let [first, ..] = text.as_bytes() else {
+            return None;
+        };
+        if first.is_ascii_alphabetic() && SCHEME.allows_text(text) {
+            Some(Scheme::new_unchecked(text))
+        } else {
+            None
+        }
+    }
+
+    /// The text as a scheme, which it is: `new` tests it.
+    pub fn new_or_panic(text: &'a str) -> Self
+        requires { is_scheme text.now ≡ true }
+        ensures { scheme_text result ≡ text.now }
+    {
+        Scheme::new_unchecked(text)
+    }
+
+    #[doc(hidden)]
+    pub fn new_unchecked(text: &'a str) -> Self
+        requires { is_scheme text.now ≡ true }
+        ensures { scheme_text result ≡ text.now }
+    {
+        Scheme { text }
+    }
+
+    /// The text as it stands, for as long as it was borrowed.
+    pub fn as_str(self) -> &'a str
+        ensures text { result.now ≡ scheme_text self.entry }
+        ensures valid { is_scheme result.now ≡ true }
+    {
+        self.text
+    }
+
+    /// The default port of the scheme (RFC 3986, section 3.2.3), if it is one of the 44 that have
+    /// one here. ASCII case makes no difference.
+    pub fn default_port(self) -> Option<u16>
+        ensures { result ≡ default_port (lowered_scheme self.entry) }
+    {
+        default_ports::of_scheme(self.text)
+    }
+}
+
+impl<'a> fmt::Display for Scheme<'a> {
+    ghost use Rattle.std.specs.Prelude.{Some};
+    ghost use Rattle.uri_parts.specs.Schemes.{scheme_text};
+
+    ghost output = { λ s. Some (scheme_text s) };
+
+    fn fmt<W: fmt::Write>(&self, f: &mut fmt::Formatter<W>) -> fmt::Result {
+        f.write_str(self.text)
+    }
+}
+
+impl<'a> PartialEq for Scheme<'a> {
+    ghost use Rattle.std.proofs.Common.{rules};
+    ghost use Rattle.std.specs.Cmp.Rules.{comparing};
+    ghost use Rattle.std.specs.Ordering.{on};
+    ghost use Rattle.std.specs.Cmp.Lexicographic.{pointwise};
+    ghost use Rattle.uri_parts.specs.Schemes.{lowered_scheme};
+
+    ghost eq = { on lowered_scheme (pointwise ◌==◌) };
+
+    ghost laws = { Prim.search (comparing, rules) };
+
+    fn eq(&self, other: &Self) -> bool {
+        self.text.eq_ignore_ascii_case(other.text)
+    }
+}
+
+impl<'a> Eq for Scheme<'a> {
+    ghost use Rattle.std.proofs.Common.{rules};
+    ghost use Rattle.std.specs.Cmp.Rules.{comparing};
+
+    ghost laws = { Prim.search (comparing, rules) };
+}
+
+impl<'a> Hash for Scheme<'a> {
+    ghost use Rattle.std.proofs.Common.{rules};
+    ghost use Rattle.std.specs.Hash as fed;
+    ghost use Rattle.std.specs.Cmp.Rules.{comparing, hashing};
+    ghost use Rattle.uri_parts.specs.Schemes.{lowered_scheme};
+
+    ghost hash_input = { λ s. fed.slice fed.u8 (lowered_scheme s) };
+
+    ghost respects_eq = { Prim.search (hashing, rules) };
+
+    fn hash<H: Hasher>(&self, state: &mut H) {
+        let bytes = self.text.as_bytes();
+        state.write_usize(bytes.len());
+        for byte in bytes {
+            state.write_u8(byte.to_ascii_lowercase());
+        }
+    }
+}
