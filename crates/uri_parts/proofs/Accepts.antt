@@ -1,21 +1,16 @@
 -- What the parser reads is the grammar of its kind.
-use Rattle.std.proofs.Common.{◌≡◌, ℕ, zero, suc, ◌+◌, ◌<◌, ◌≤◌, Bool, true, false, cond, eqb, not, List, [], ◌∷◌, length, get_or, take, drop, refl, sym, ap, ◌∙◌, arith, ◌||◌, ◌&&◌, ⊎_elim, inl, inr, ◌⊎◌}
-use Rattle.std.specs.Prelude.{codes, Some, None, is_some}
-use Rattle.std.specs.List.{list_any}
-use Rattle.std.specs.Char.{is_ascii_alphabetic}
+use Rattle.std.proofs.Common.{◌≡◌, ℕ, ◌+◌, Bool, true, false, eqb, List, [], ◌∷◌, take, drop, refl, sym, ap, ◌∙◌, arith, ◌||◌, ◌&&◌, ⊎_elim}
+use Rattle.std.specs.Prelude.{codes}
 use Rattle.std.specs.Str.{IsUtf8}
-use Rattle.std.proofs.lemmas.List.{drop_all, take_all, drop-drop}
-use Rattle.std.proofs.lemmas.Bool.{cases_lt, cases_Bool, cond-true, cond-false, and_left, and_right, and_from, and_parts, eq-eqb, eqb-true, ne_eqb, not_from_true, not_from_false, not-false, not-true, both_ways, cases_eq, false≢true, and_cases, false_from_ne_true, or_from, or_left, or_right}
+use Rattle.std.proofs.lemmas.Bool.{cases_Bool, cond-false, eq-eqb, eqb-true, ne_eqb, both_ways}
 use Rattle.std.proofs.lemmas.Bool.Decides.{nat_tests}
-use Rattle.uri_pct.specs.Sets.{TableSet, LacksPercent, IsSubset, is_one_of, scheme_set}
+use Rattle.uri_pct.specs.Sets.{TableSet, is_one_of}
 use Rattle.uri_pct.specs.Tokens.{is_valid_for}
-use Rattle.uri_pct.specs.Fronts.{front_from, front, after, allows_first, begins_hex}
-use Rattle.uri_pct.proofs.Cuts.{ascii_marks, to_mark, excludes, from_mark, cut, front_zero_mark, front_cons, other_len, valid_where_read}
-use Rattle.uri_pct.proofs.Fronts.{front-after, front-within}
-use Rattle.uri_parts.specs.Components.{before_any, from_any, starts, has_authority, has_scheme, after_scheme, after_authority, components, when, after_query}
-use Rattle.uri_parts.specs.Grammar.{Kind, if_some, is_scheme, is_authority, has_colon_first, are_components, is_of_kind}
-use Rattle.uri_parts.specs.Reading.{is_stray, reads_after, is_end, reads_fragment, reads_end, reads_path, reads_relative, reads_hier, reads_schemeless, reads}
-use Rattle.uri_parts.proofs.Stops.{StopsWithin, stop_cases, piece, utf8_from, utf8_tail, utf8_slashes, no_stray}
+use Rattle.uri_pct.proofs.Cuts.{ascii_marks, from_mark, other_len}
+use Rattle.uri_parts.specs.Components.{before_any, from_any, starts, when, after_query}
+use Rattle.uri_parts.specs.Grammar.{Kind, if_some}
+use Rattle.uri_parts.specs.Reading.{reads_after, is_end, reads_fragment, reads_end, reads_path}
+use Rattle.uri_parts.proofs.Stops.{piece, utf8_from, utf8_tail}
 use Rattle.uri_parts.proofs.Separations.{Separates}
 
 and_true : (x : Bool) → (x && true) ≡ x

@@ -1,15 +1,7 @@
 -- The parts of an authority, as they are read.
-use Rattle.std.proofs.Common.{◌≡◌, ℕ, ◌+◌, ◌<◌, ◌≤◌, Bool, true, false, cond, eqb, not, List, [], ◌∷◌, ◌++◌, length, get_or, drop, refl, sym, ap, ◌∙◌, arith, ◌||◌, ◌&&◌, ⊎_elim}
-use Rattle.std.specs.Prelude.{codes, nat_lt, is_some, is_ok, Option, Some, None, Result, Ok, Err}
-use Rattle.std.specs.Net.Grammar.{Parses, IsIpv4Text, IsIpv6Text}
-use Rattle.std.specs.declared.net.ipv4_addr.Ipv4Addr.{Ipv4Addr}
-use Rattle.std.specs.declared.net.ipv6_addr.Ipv6Addr.{Ipv6Addr}
-use Rattle.uri_parts.specs.AuthorityReading.{ends_in_port}
-use Rattle.uri_parts.specs.Components.{starts, before_any, from_any}
-use Rattle.uri_parts.specs.Hosts.{is_ipv_future, is_future_address, ipv4_value, ipv6_value}
-use Rattle.uri_parts.proofs.Addresses.{ipv4_value-complete, ipv4_value-sound, ipv6_value-complete, ipv6_value-sound}
-use Rattle.uri_pct.specs.Sets.{digit_set, hexdig_set, ipv_future_set, is_one_of}
-use Rattle.uri_pct.specs.Tokens.{is_valid_for}
+use Rattle.std.proofs.Common.{◌≡◌, ℕ, ◌+◌, not, List, length, drop, ap, ◌∙◌}
+use Rattle.uri_parts.specs.Components.{before_any}
+use Rattle.uri_pct.specs.Sets.{is_one_of}
 use Rattle.uri_pct.proofs.Cuts.{to_mark}
 use Rattle.std.proofs.lemmas.List.Folds.{length-prefix_len}
 use Rattle.std.proofs.lemmas.List.{drop-drop}

@@ -1,10 +1,10 @@
 -- At their places the parts of an authority can be cut out, and what is cut out is them.
-use Rattle.std.proofs.Common.{◌≡◌, ℕ, suc, ◌+◌, ◌-◌, ◌<◌, ◌≤◌, Bool, true, false, eqb, List, [], ◌∷◌, ◌++◌, length, get_or, take, drop, refl, sym, ap, subst, ◌∙◌, arith, not, ◌&&◌, ◌||◌, ◌⊎◌, inl, inr, ⊎_elim, append_assoc, append-nil, length-append, zero-add, lit<}
+use Rattle.std.proofs.Common.{◌≡◌, ℕ, ◌+◌, ◌-◌, ◌<◌, ◌≤◌, true, false, eqb, List, [], ◌∷◌, ◌++◌, length, get_or, take, drop, refl, sym, ap, subst, ◌∙◌, arith, not, ◌||◌, ◌⊎◌, inl, inr, ⊎_elim, append_assoc, append-nil, length-append, lit<}
 use Rattle.std.specs.Prelude.{codes, Some, None, Option, bytes_eq, slice_range, is_some}
 use Rattle.std.specs.Option.{option_map_or}
 use Rattle.std.specs.Str.{IsUtf8, IsCharBoundary}
 use Rattle.std.proofs.Math.Seq.{drop-append_seam, take-append_seam}
-use Rattle.std.proofs.lemmas.Str.{IsCharBoundary-start, IsCharBoundary-end, IsCharBoundary-before_ascii, IsCharBoundary-after_ascii}
+use Rattle.std.proofs.lemmas.Str.{IsCharBoundary-start, IsCharBoundary-end, IsCharBoundary-before_ascii}
 use Rattle.std.proofs.lemmas.Bool.{and_parts, ne_eqb, and_from, or_right, cond-true, cond-false}
 use Rattle.std.proofs.lemmas.Slice.Eq.{bytes_eq-Decides}
 use Rattle.uri_pct.specs.Sets.{TableSet, digit_set}
@@ -12,7 +12,6 @@ use Rattle.uri_pct.specs.Tokens.{is_valid_for, tokens_of, IsValidFor}
 use Rattle.uri_parts.specs.Components.{marked}
 use Rattle.std.specs.Str.{chars}
 use Rattle.uri_parts.specs.Components.{starts}
-use Rattle.uri_pct.specs.Tokens as Tokens
 use Rattle.uri_parts.specs.Hosts.{is_host, host_kind, name_kind, literal_kind, literal_of, ipv4_value, ipv6_value}
 use Rattle.uri_parts.specs.Authority.{AuthorityParts, authority_text, authority_parts, is_authority_for}
 use Rattle.uri_parts.specs.Positions.{host_start_of, host_end_of, marked_length}

@@ -1,16 +1,14 @@
 -- An authority and what follows it, as they are cut.
-use Rattle.std.proofs.Common.{◌≡◌, ℕ, ◌+◌, Bool, true, false, cond, List, drop, length, refl, sym, ap, ◌∙◌, ◌&&◌, ⊎_elim}
+use Rattle.std.proofs.Common.{◌≡◌, ℕ, Bool, true, cond, List, drop, refl, sym, ap, ◌∙◌, ◌&&◌, ⊎_elim}
 use Rattle.std.specs.Prelude.{codes}
 use Rattle.std.specs.Str.{IsUtf8}
-use Rattle.std.proofs.lemmas.Bool.{cases_Bool, cond-true, cond-false}
+use Rattle.std.proofs.lemmas.Bool.{cases_Bool, cond-true}
 use Rattle.uri_pct.specs.Sets.{TableSet}
-use Rattle.uri_pct.proofs.Cuts.{to_mark}
-use Rattle.uri_parts.specs.AuthorityReading.{reads_whole_authority}
 use Rattle.uri_parts.specs.Components.{before_any, from_any, has_authority, after_authority, when}
 use Rattle.uri_parts.specs.Grammar.{Kind, if_some, is_authority}
 use Rattle.uri_parts.specs.Reading.{reads_path, reads_authority, reads_hier, found_length, finds_authority}
 use Rattle.uri_parts.proofs.AuthorityCuts.{length-before}
-use Rattle.uri_parts.proofs.PlainNames.{IsFound, is_found}
+use Rattle.uri_parts.proofs.FoundAuthorities.{is_found}
 use Rattle.uri_parts.proofs.Separations.{Separates}
 use Rattle.uri_parts.proofs.Stops.{utf8_slashes}
 use Rattle.uri_parts.proofs.WholeAuthorities.{authority_reads}

@@ -1,12 +1,12 @@
 -- The kinds keep apart what has to be apart, and their tables stand for their sets.
-use Rattle.std.proofs.Common.{◌≡◌, ℕ, Bool, true, false, eqb, refl, sym, ap, ◌∙◌, arith, ◌||◌, ◌&&◌, not, ⊎_elim, List, []}
+use Rattle.std.proofs.Common.{◌≡◌, ℕ, Bool, true, false, refl, sym, ap, ◌∙◌, arith, ◌||◌, ◌&&◌, not, ⊎_elim, List, []}
 use Rattle.std.specs.Prelude.{codes, is_some}
 use Rattle.std.specs.Str.{chars}
-use Rattle.std.proofs.lemmas.Bool.{cases_Bool, cases_lt, cond-true, cond-false, lt-ltb, le-ltb, and_parts, and_from}
+use Rattle.std.proofs.lemmas.Bool.{cases_lt, cond-true, cond-false, lt-ltb, le-ltb, and_parts, and_from}
 use Rattle.std.proofs.lemmas.Bool.Decides.{nat_tests}
-use Rattle.uri_pct.specs.Sets.{TableSet, IsSubset, is_one_of, is_scheme_char, is_segment_nz_nc_char, is_path_char, is_query_char, is_pchar, is_reg_name_char, is_unreserved, is_sub_delim, scheme_set, segment_nz_nc_set, isegment_nz_nc_set, path_set, userinfo_set, reg_name_set, query_set, fragment_set, allows_past_ascii}
+use Rattle.uri_pct.specs.Sets.{TableSet, is_one_of, is_scheme_char, is_segment_nz_nc_char, is_path_char, is_query_char, is_pchar, is_userinfo_char, is_reg_name_char, is_unreserved, is_sub_delim, segment_nz_nc_set, isegment_nz_nc_set, path_set, userinfo_set, reg_name_set, query_set, fragment_set, allows_past_ascii}
 use Rattle.uri_pct.specs.Tokens.{is_valid_for, tokens_of}
-use Rattle.uri_pct.specs.Fronts.{allows_first, first_char}
+use Rattle.uri_pct.specs.Fronts.{allows_first}
 use Rattle.uri_parts.specs.Grammar.{Kind, uri, uri_ref, iri, iri_ref, IsOfKind}
 use Rattle.uri_parts.specs.Components.{components}
 use Rattle.uri_parts.proofs.Separations.{Separates}
@@ -48,13 +48,15 @@ first_rest ucschar b bs m e = ⊎_elim
     (cases_lt b 128)
 
 separates : (ucschar iprivate needs_scheme : Bool) → Separates (segment_with ucschar) (kind_with ucschar iprivate needs_scheme)
-unfolding is_scheme_char is_segment_nz_nc_char is_path_char is_query_char is_pchar is_reg_name_char is_unreserved is_sub_delim
+unfolding is_scheme_char is_segment_nz_nc_char is_path_char is_query_char is_pchar is_userinfo_char is_reg_name_char is_unreserved is_sub_delim
 separates ucschar iprivate needs_scheme = record {
+  userinfo_lacks = refl;
   reg_name_lacks = refl;
   path_lacks = refl;
   query_lacks = refl;
   fragment_lacks = refl;
   segment_lacks = refl;
+  userinfo_marks = refl;
   reg_name_marks = refl;
   reg_name_colon = refl;
   reg_name_starts = refl;

@@ -16,6 +16,7 @@ pub mod Stops
 pub mod Accepts
 pub mod Relative
 pub mod PlainNames
+pub mod FoundAuthorities
 pub mod Hierarchies
 pub mod Texts
 pub mod ReadPositions

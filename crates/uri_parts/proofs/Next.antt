@@ -1,11 +1,11 @@
 -- What is next at a place in a text.
-use Rattle.std.proofs.Common.{◌≡◌, ℕ, ◌+◌, ◌<◌, ◌≤◌, Bool, true, false, cond, eqb, ltb, List, [], ◌∷◌, length, get_or, drop, refl, sym, ap, ◌∙◌, arith, ◌&&◌, ◌||◌, ⊎_elim}
+use Rattle.std.proofs.Common.{◌≡◌, ℕ, ◌+◌, ◌<◌, ◌≤◌, true, eqb, ltb, List, length, get_or, drop, sym, ap, ◌∙◌, arith, ◌&&◌, ◌||◌, ⊎_elim}
 use Rattle.std.proofs.lemmas.Bool.{cases_lt, and_left, eq-eqb, ne_eqb, lt-ltb, le-ltb}
 use Rattle.std.proofs.lemmas.List.{drop_more, drop_all, drop-drop}
 use Rattle.std.specs.Prelude.{codes}
 use Rattle.std.proofs.lemmas.Bool.Decides.{nat_tests}
 use Rattle.uri_pct.specs.Sets.{TableSet, is_one_of}
-use Rattle.uri_pct.specs.Fronts.{front, after, IsStrayPercent, has_digits}
+use Rattle.uri_pct.specs.Fronts.{front, after, IsStrayPercent}
 use Rattle.uri_pct.proofs.Fronts.{front-after, stray-digits}
 use Rattle.uri_parts.specs.Components.{starts}
 use Rattle.uri_parts.specs.Reading.{is_end, begins_any}

@@ -1,12 +1,12 @@
 -- The components of a text of a kind meet their rules.
-use Rattle.std.proofs.Common.{◌≡◌, ℕ, Bool, true, false, List, refl, sym, ap, ◌∙◌, ◌&&◌}
-use Rattle.std.specs.Prelude.{Option, Some, None}
+use Rattle.std.proofs.Common.{◌≡◌, ℕ, Bool, true, List, sym, ap, ◌∙◌, ◌&&◌}
+use Rattle.std.specs.Prelude.{Option, Some}
 use Rattle.std.proofs.lemmas.Bool.{and_parts}
 use Rattle.uri_pct.specs.Sets.{TableSet}
 use Rattle.uri_pct.specs.Tokens.{is_valid_for, IsValidFor}
 use Rattle.uri_parts.specs.Components.{Components, components}
 use Rattle.uri_parts.specs.Authority.{is_authority_for}
-use Rattle.uri_parts.specs.Grammar.{Kind, if_some, is_scheme, is_authority, are_components, is_of_kind, IsOfKind}
+use Rattle.uri_parts.specs.Grammar.{Kind, if_some, is_scheme, is_authority, are_components, IsOfKind}
 
 present : (part : Option (List ℕ)) (test : List ℕ → Bool) (x : List ℕ) → if_some part test ≡ true → part ≡ Some x → test x ≡ true
 present part test x h e = sym (ap (λ o. if_some o test) e) ∙ h

@@ -1,26 +1,24 @@
 -- The positions that are read are those of the components.
-use Rattle.std.proofs.Common.{◌≡◌, ℕ, zero, suc, ◌+◌, ◌-◌, ◌<◌, ◌≤◌, Bool, true, false, cond, eqb, not, List, [], ◌∷◌, length, get_or, take, drop, refl, sym, ap, zero-add, ◌∙◌, arith, ◌&&◌, ⊎_elim, lit<}
+use Rattle.std.proofs.Common.{◌≡◌, ℕ, ◌+◌, Bool, true, false, cond, eqb, not, List, ◌∷◌, length, get_or, drop, refl, sym, ap, ◌∙◌, arith, ◌&&◌, ⊎_elim, lit<}
 use Rattle.std.specs.Prelude.{codes, Some, None, Option, option_map}
-use Rattle.std.specs.List.{prefix_len}
 use Rattle.std.specs.Char.{is_ascii_alphabetic}
 use Rattle.std.specs.Str.{IsUtf8}
-use Rattle.std.proofs.lemmas.List.{drop-drop}
-use Rattle.std.proofs.lemmas.Bool.{cases_Bool, cond-true, cond-false, and_left, and_right, and_from, and_parts, ne_eqb, both_ways, not_from_false, false_from_ne_true}
+use Rattle.std.proofs.lemmas.Bool.{cases_Bool, cond-true, cond-false, and_left, and_from, and_parts, ne_eqb, both_ways, not_from_false, false_from_ne_true}
 use Rattle.uri_pct.specs.Sets.{TableSet, LacksPercent, is_one_of, scheme_set}
 use Rattle.uri_pct.specs.Fronts.{front, after}
 use Rattle.uri_pct.proofs.Cuts.{to_mark, excludes, ascii_marks}
 use Rattle.uri_pct.proofs.Fronts.{front-within}
 use Rattle.uri_parts.specs.declared.positions.Positions.{Positions}
 use Rattle.uri_parts.specs.declared.positions.AuthorityPositions.{AuthorityPositions}
-use Rattle.uri_parts.specs.Components.{Components, before_any, from_any, starts, has_authority, has_scheme, after_scheme, after_authority, after_query, components, when}
+use Rattle.uri_parts.specs.Components.{before_any, from_any, starts, has_authority, has_scheme, after_authority, components, when}
 use Rattle.uri_parts.specs.Positions.{positions_of, marked_length, authority_at}
 use Rattle.uri_parts.specs.Grammar.{Kind}
-use Rattle.uri_parts.specs.Reading.{is_stray, reads_after, is_end, reads_fragment, reads_end, reads_path, finds_authority, found_length, reads_authority, reads_relative, reads_hier, reads_schemeless, reads, query_end_at, path_positions, authority_positions, hier_positions, relative_positions, schemeless_positions, read_positions}
-use Rattle.uri_parts.proofs.Stops.{StopsWithin, stop_cases, utf8_from, utf8_past, utf8_slashes}
+use Rattle.uri_parts.specs.Reading.{is_stray, reads_fragment, reads_end, reads_path, finds_authority, found_length, reads_authority, reads_relative, reads_hier, reads_schemeless, reads, query_end_at, path_positions, authority_positions, hier_positions, relative_positions, schemeless_positions, read_positions}
+use Rattle.uri_parts.proofs.Stops.{stop_cases, utf8_from, utf8_past, utf8_slashes}
 use Rattle.uri_parts.proofs.AuthorityCuts.{length-before}
 use Rattle.uri_parts.proofs.Separations.{Separates}
 use Rattle.uri_parts.proofs.Accepts.{fragment_stuck, end_stuck}
-use Rattle.uri_parts.proofs.PlainNames.{IsFound, is_found}
+use Rattle.uri_parts.proofs.FoundAuthorities.{is_found}
 use Rattle.uri_parts.proofs.Hierarchies.{behind_found}
 use Rattle.uri_parts.proofs.Relative.{scheme_lacks, scheme_marks, stops_at_colon, path_after, after_within, relative_false, segment_within, relative_within}
 use Rattle.uri_parts.proofs.Texts.{alpha_colon, slashes_first, slashes_colon, slashes_front, slashes_read}

@@ -1,19 +1,19 @@
 -- The first segment of a path without a scheme.
-use Rattle.std.proofs.Common.{◌≡◌, ℕ, zero, suc, ◌+◌, ◌<◌, ◌≤◌, Bool, true, false, cond, eqb, not, List, [], ◌∷◌, length, get_or, take, drop, refl, sym, ap, ◌∙◌, arith, ◌||◌, ◌&&◌, ⊎_elim}
+use Rattle.std.proofs.Common.{◌≡◌, ℕ, ◌+◌, Bool, true, false, cond, eqb, not, List, [], ◌∷◌, take, drop, refl, sym, ap, ◌∙◌, arith, ◌||◌, ◌&&◌, ⊎_elim}
 use Rattle.std.specs.Prelude.{codes}
 use Rattle.std.specs.List.{list_any}
 use Rattle.std.specs.Str.{IsUtf8, continuation_len}
 use Rattle.std.proofs.lemmas.List.{drop-drop}
-use Rattle.std.proofs.lemmas.Bool.{cases_Bool, cond-true, cond-false, and_left, and_right, and_from, and_parts, eq-eqb, eqb-true, not_from_true, not_from_false, not-false, both_ways, false≢true, and_cases, false_from_ne_true, or_left}
+use Rattle.std.proofs.lemmas.Bool.{cases_Bool, cond-true, cond-false, and_left, and_right, and_parts, eqb-true, not_from_true, not-false, both_ways, false≢true, and_cases, false_from_ne_true, or_left}
 use Rattle.std.proofs.lemmas.Bool.Decides.{nat_tests}
-use Rattle.uri_pct.specs.Sets.{TableSet, LacksPercent, IsSubset, is_one_of, is_scheme_char, scheme_set}
+use Rattle.uri_pct.specs.Sets.{TableSet, LacksPercent, is_one_of, is_scheme_char, scheme_set}
 use Rattle.uri_pct.specs.Fronts.{front_from, front, after, allows_first, begins_hex}
 use Rattle.uri_pct.proofs.Cuts.{to_mark, excludes, front_zero_mark, front_cons, other_len, mark_len}
 use Rattle.uri_pct.proofs.Fronts.{front-after, front-within}
 use Rattle.uri_parts.specs.Components.{before_any, from_any, starts, has_scheme}
 use Rattle.uri_parts.specs.Grammar.{Kind, has_colon_first}
 use Rattle.uri_parts.specs.Reading.{is_stray, reads_end, reads_path, reads_relative}
-use Rattle.uri_parts.proofs.Stops.{StopsWithin, stop_cases}
+use Rattle.uri_parts.proofs.Stops.{stop_cases}
 use Rattle.uri_parts.proofs.Separations.{Separates}
 use Rattle.uri_parts.proofs.Accepts.{end_stuck}
 
@@ -23,11 +23,14 @@ none_of_four b e = (grind (arith, nat_tests), grind (arith, nat_tests))
 nothing_read : (n : ℕ) → n + 1 ≡ 0 → ⊥
 nothing_read n e = omega arith
 
--- where reading stops at `:` it stops at the first mark
+-- where reading stops at a mark it stops at the first
+pub stops_at : (marks : List ℕ) (mark : ℕ) → is_one_of marks mark ≡ true → (set : TableSet) → LacksPercent set → excludes set marks ≡ true → (bs : List ℕ) → IsUtf8 bs → starts mark (after set bs) ≡ true → front set bs ≡ to_mark marks bs
+stops_at marks mark m set lacks outside bs u e = ⊎_elim (λ h. h)
+    (λ w. absurd (both_ways _ w.other (ap (is_one_of marks) (eqb-true w.byte mark (sym (ap (starts mark) w.left) ∙ e)) ∙ m)))
+    (stop_cases marks set lacks outside bs u)
+
 pub stops_at_colon : (set : TableSet) → LacksPercent set → excludes set (codes ":/?#") ≡ true → (bs : List ℕ) → IsUtf8 bs → starts 58 (after set bs) ≡ true → front set bs ≡ to_mark (codes ":/?#") bs
-stops_at_colon set lacks outside bs u e = ⊎_elim (λ h. h)
-    (λ w. absurd (both_ways _ w.other (ap (is_one_of (codes ":/?#")) (eqb-true w.byte 58 (sym (ap (starts 58) w.left) ∙ e)))))
-    (stop_cases (codes ":/?#") set lacks outside bs u)
+stops_at_colon = stops_at (codes ":/?#") 58 refl
 
 -- nothing is read of a text that begins with `:`
 pub at_colon : (set : TableSet) → LacksPercent set → excludes set (codes ":/?#") ≡ true → (bs : List ℕ) → starts 58 bs ≡ true → after set bs ≡ bs

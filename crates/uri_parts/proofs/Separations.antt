@@ -1,5 +1,5 @@
 -- What the sets of a kind have to keep apart for its texts to be read from left to right.
-use Rattle.std.proofs.Common.{◌≡◌, ℕ, Bool, true, false, List}
+use Rattle.std.proofs.Common.{◌≡◌, ℕ, true, false, List}
 use Rattle.std.specs.Prelude.{codes}
 use Rattle.uri_pct.specs.Sets.{TableSet, LacksPercent, IsSubset, is_one_of, scheme_set}
 use Rattle.uri_pct.specs.Fronts.{allows_first}
@@ -7,12 +7,14 @@ use Rattle.uri_pct.proofs.Cuts.{excludes}
 use Rattle.uri_parts.specs.Grammar.{Kind}
 
 pub record Separates (segment : TableSet) (kind : Kind) : Type 0 where
+  pub userinfo_lacks : LacksPercent kind.userinfo
   pub reg_name_lacks : LacksPercent kind.reg_name
   pub path_lacks : LacksPercent kind.path
   pub query_lacks : LacksPercent kind.query
   pub fragment_lacks : LacksPercent kind.fragment
   pub segment_lacks : LacksPercent segment
   -- no set holds a character that ends its component
+  pub userinfo_marks : excludes kind.userinfo (codes "@/?#") ≡ true
   pub reg_name_marks : excludes kind.reg_name (codes "/?#") ≡ true
   pub reg_name_colon : excludes kind.reg_name (codes ":/?#") ≡ true
   pub reg_name_starts : excludes kind.reg_name (codes "@:[") ≡ true

@@ -1,16 +1,14 @@
 -- Where reading for a set stops: at the first mark, or at a character that is neither.
-use Rattle.std.proofs.Common.{◌≡◌, ℕ, ◌+◌, ◌<◌, ◌≤◌, Bool, true, false, cond, eqb, not, List, [], ◌∷◌, length, get_or, take, drop, refl, sym, ap, ◌∙◌, arith, ◌&&◌, ⊎_elim, inl, inr, ◌⊎◌}
-use Rattle.std.specs.Prelude.{codes}
-use Rattle.std.specs.List.{prefix_len}
+use Rattle.std.proofs.Common.{◌≡◌, ℕ, ◌<◌, Bool, true, false, not, List, [], ◌∷◌, length, get_or, drop, refl, sym, ap, ◌∙◌, arith, ◌&&◌, ⊎_elim, inl, inr, ◌⊎◌}
 use Rattle.std.specs.Str.{IsUtf8}
 use Rattle.std.proofs.lemmas.Str.{IsUtf8-drop, IsCharBoundary-after_ascii}
 use Rattle.std.proofs.lemmas.List.{drop_more}
 use Rattle.std.proofs.lemmas.List.Sums.{prefix_len-le-length, prefix_len_passes}
-use Rattle.std.proofs.lemmas.Bool.{cases_Bool, and_left, and_right, and_parts, eq-eqb, eqb-true, ne_eqb, not-true, cases_eq, both_ways, false≢true}
+use Rattle.std.proofs.lemmas.Bool.{and_left, and_right, and_parts, eq-eqb, eqb-true, ne_eqb, not-true, cases_eq, false≢true}
 use Rattle.uri_pct.specs.Sets.{TableSet, LacksPercent, is_one_of}
 use Rattle.uri_pct.specs.Tokens.{is_valid_for}
-use Rattle.uri_pct.specs.Fronts.{front_from, front, after}
-use Rattle.uri_pct.proofs.Cuts.{AreAscii, ascii_marks, to_mark, excludes, mark_percent, mark_ascii, mark_boundary, from_mark, cut, front_le_mark}
+use Rattle.uri_pct.specs.Fronts.{front, after}
+use Rattle.uri_pct.proofs.Cuts.{AreAscii, to_mark, excludes, mark_percent, mark_boundary, from_mark, cut, front_le_mark}
 use Rattle.uri_pct.proofs.Fronts.{front-after}
 use Rattle.uri_parts.specs.Components.{before_any, from_any, starts, has_authority}
 use Rattle.uri_parts.specs.Reading.{is_stray, reads_after}

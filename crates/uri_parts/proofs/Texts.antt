@@ -1,13 +1,13 @@
 -- A whole text is read where it is of its kind.
-use Rattle.std.proofs.Common.{◌≡◌, ℕ, suc, ◌+◌, ◌<◌, ◌≤◌, Bool, true, false, cond, eqb, not, List, [], ◌∷◌, length, get_or, drop, refl, sym, ap, ◌∙◌, arith, ◌||◌, ◌&&◌, ⊎_elim, lit<}
+use Rattle.std.proofs.Common.{◌≡◌, ℕ, Bool, true, false, cond, eqb, not, List, [], ◌∷◌, get_or, drop, refl, sym, ap, ◌∙◌, ◌||◌, ◌&&◌, ⊎_elim, lit<}
 use Rattle.std.specs.Prelude.{codes, is_some}
 use Rattle.std.specs.Char.{is_ascii_alphabetic}
 use Rattle.std.specs.Str.{IsUtf8}
-use Rattle.std.proofs.lemmas.Bool.{cases_Bool, cond-true, cond-false, and_left, and_right, and_from, and_parts, eq-eqb, eqb-true, ne_eqb, not_from_true, not_from_false, not-true, both_ways, false≢true, false_from_ne_true, or_left, or_right}
-use Rattle.uri_pct.specs.Sets.{TableSet, is_one_of, scheme_set, is_scheme_char}
+use Rattle.std.proofs.lemmas.Bool.{cases_Bool, cond-true, cond-false, and_left, and_right, and_from, and_parts, eq-eqb, eqb-true, ne_eqb, not_from_true, not_from_false, not-true, both_ways, false≢true, false_from_ne_true, or_left}
+use Rattle.uri_pct.specs.Sets.{TableSet, is_one_of, scheme_set}
 use Rattle.uri_pct.specs.Tokens.{is_valid_for}
 use Rattle.uri_pct.specs.Fronts.{front, after}
-use Rattle.uri_pct.proofs.Cuts.{ascii_marks, to_mark, excludes, cut, front_zero_mark}
+use Rattle.uri_pct.proofs.Cuts.{ascii_marks, to_mark, cut, front_zero_mark}
 use Rattle.uri_parts.specs.Components.{before_any, from_any, starts, has_authority, has_scheme, after_scheme, after_authority, components, when}
 use Rattle.uri_parts.specs.Grammar.{Kind, if_some, is_scheme, is_authority, has_colon_first, is_of_kind}
 use Rattle.uri_parts.specs.Reading.{reads_path, reads_authority, reads_relative, reads_hier, reads_schemeless, reads}

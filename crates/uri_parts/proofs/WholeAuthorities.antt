@@ -1,18 +1,18 @@
 -- What is read of a whole authority is the test of the grammar.
-use Rattle.std.proofs.Common.{◌≡◌, ℕ, suc, ◌+◌, ◌<◌, ◌≤◌, Bool, true, false, cond, eqb, not, List, [], ◌∷◌, ◌++◌, length, get_or, take, drop, refl, sym, ap, ◌∙◌, arith, ◌||◌, ◌&&◌, ⊎_elim, append_assoc, append-nil, length-append, subst}
-use Rattle.std.specs.Prelude.{codes, Option, Some, None, is_some, bytes_eq}
+use Rattle.std.proofs.Common.{◌≡◌, ℕ, Bool, true, false, cond, eqb, List, [], ◌∷◌, ◌++◌, length, take, drop, refl, sym, ap, ◌∙◌, arith, ◌||◌, ◌&&◌, ⊎_elim, append_assoc, append-nil, length-append}
+use Rattle.std.specs.Prelude.{codes, Option, Some, is_some, bytes_eq}
 use Rattle.std.specs.Option.{option_map_or}
-use Rattle.std.proofs.lemmas.Bool.{cases_Bool, cond-true, cond-false, and_left, and_right, and_from, and_parts, eqb-true, eq-eqb, both_ways, false≢true, false_from_ne_true}
+use Rattle.std.proofs.lemmas.Bool.{cases_Bool, cond-true, cond-false, and_left, eqb-true, eq-eqb, both_ways, false≢true, false_from_ne_true}
 use Rattle.std.proofs.lemmas.Bool.Decides.{nat_tests}
 use Rattle.std.proofs.lemmas.Slice.Eq.{bytes_eq-Decides}
 use Rattle.uri_pct.specs.Sets.{TableSet, digit_set, is_one_of}
 use Rattle.uri_pct.specs.Tokens.{is_valid_for}
 use Rattle.uri_parts.specs.Components.{marked, starts, before_any, from_any, when, Lacks}
-use Rattle.uri_parts.specs.Hosts.{is_host, literal_of, bracketed, ipv4_value, ipv6_value, is_ipv_future}
-use Rattle.uri_parts.specs.Authority.{authority_text, behind_userinfo, host_before, behind_host, authority_parts, is_authority_for}
+use Rattle.uri_parts.specs.Hosts.{is_host, bracketed, ipv6_value, is_ipv_future}
+use Rattle.uri_parts.specs.Authority.{host_before, behind_host, is_authority_for}
 use Rattle.uri_parts.specs.AuthorityReading.{is_literal, is_name, ends_in_port, reads_host_and_port, reads_whole_authority}
 use Rattle.uri_pct.proofs.Cuts.{other_len}
-use Rattle.uri_parts.proofs.Cuts.{Begins, IsCut, IsCut-any}
+use Rattle.uri_parts.proofs.Cuts.{Begins, IsCut-any}
 use Rattle.uri_parts.proofs.Hosts.{literal_at}
 
 same : (xs ys : List ℕ) → xs ≡ ys → bytes_eq xs ys ≡ true

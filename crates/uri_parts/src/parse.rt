@@ -1,12 +1,14 @@
 //! The parser of the four kinds.
-ghost use Rattle.std.specs.Prelude.{◌≡◌, ◌↔◌, ◌+◌, drop, IfErr, IfOk, IsOk, OnOk, is_ok, Some, None};
+ghost use Rattle.std.specs.Prelude.{◌≡◌, ◌↔◌, ◌+◌, ◌&&◌, drop, IfErr, IfOk, IfSome, IsOk, OnOk, is_ok, is_some, Some, None};
+ghost use Rattle.std.specs.Str.{IsCharBoundary};
+ghost use Rattle.uri_pct.specs.Fronts.{front};
 ghost use Rattle.uri_pct.specs.Tables.{set_of};
 ghost use Rattle.uri_parts.specs.Errors.{IsErrorIn};
 ghost use Rattle.uri_parts.specs.Grammar.{IsOfKind, uri, uri_ref, iri, iri_ref};
 ghost use Rattle.uri_parts.specs.Grammars.{kind_of};
 ghost use Rattle.uri_parts.specs.Positions.{AreAt};
 ghost use Rattle.uri_parts.specs.Readers.{rest_of, text_of, place_of};
-ghost use Rattle.uri_parts.specs.Reading.{reads_fragment, reads_end, reads_path, finds_authority, found_length, found_authority, reads_authority, reads_relative, reads_hier, reads_schemeless, reads, query_end_at, path_positions, authority_positions, relative_positions, hier_positions, schemeless_positions, read_positions};
+ghost use Rattle.uri_parts.specs.Reading.{reads_fragment, reads_end, reads_path, finds_name, name_length, finds_other, other_authority, finds_authority, found_length, found_authority, reads_authority, reads_relative, reads_hier, reads_schemeless, reads, query_end_at, path_positions, authority_positions, relative_positions, hier_positions, schemeless_positions, read_positions};
 
 use crate::error::ParseError;
 use crate::fault::authority_fault;
@@ -49,34 +51,103 @@ fn read_end(reader: &mut Reader<'_>, grammar: &Grammar) -> Result<Option<usize>,
     Ok(query_end)
 }
 
-/// The rest of a path that begins at `path_start`, and what follows it.
+/// What stands before the rest of a path.
+#[derive(Clone, Copy)]
+struct BeforePath {
+    scheme_end: Option<usize>,
+    authority: Option<AuthorityPositions>,
+    path_start: usize,
+}
+
+/// The rest of a path, and what follows it.
 #[tactic(auto, unfolding(crate::specs::Reading::reads_path, crate::specs::Reading::path_positions))]
 #[inline(always)]
 fn read_path(
     reader: &mut Reader<'_>,
     grammar: &Grammar,
-    scheme_end: Option<usize>,
-    authority: Option<AuthorityPositions>,
-    path_start: usize,
+    before: BeforePath,
 ) -> Result<Positions, ParseError>
     ensures accepts { is_ok result ≡ reads_path (kind_of grammar.now) (rest_of reader.old) }
-    ensures places { IfOk result (λ p. p ≡ path_positions (kind_of grammar.now) scheme_end authority path_start (place_of reader.old) (rest_of reader.old)) }
+    ensures places { IfOk result (λ p. p ≡ path_positions (kind_of grammar.now) before.scheme_end before.authority before.path_start (place_of reader.old) (rest_of reader.old)) }
     ensures err { IfErr result (IsErrorIn (text_of reader.old)) }
 {
     reader.pass(&grammar.path)?;
     let path_end = reader.position();
     let query_end = read_end(reader, grammar)?;
     Ok(Positions {
-        scheme_end,
-        authority,
-        path_start,
+        scheme_end: before.scheme_end,
+        authority: before.authority,
+        path_start: before.path_start,
         path_end,
         query_end,
     })
 }
 
+/// Passes a registered name and the port behind it, if there is one. Answers where the name ends,
+/// if nothing else of the authority is left.
+#[tactic(auto, using(uri_pct::proofs::Constants::digit_table, crate::proofs::AuthorityCuts::behind_port), unfolding(crate::specs::Reading::finds_name, crate::specs::Reading::name_length, crate::specs::Reading::port_length))]
+#[inline(always)]
+fn find_name(reader: &mut Reader<'_>, grammar: &Grammar) -> Option<usize>
+    ensures finds { is_some result ≡ finds_name (kind_of grammar.now) (rest_of reader.old) }
+    ensures end { IfSome result (λ n. n ≡ place_of reader.old + front (set_of grammar.now.reg_name) (rest_of reader.old)) }
+    ensures text { text_of reader.new ≡ text_of reader.old }
+    ensures place { place_of reader.new ≡ place_of reader.old + name_length (kind_of grammar.now) (rest_of reader.old) }
+    ensures rest { rest_of reader.new ≡ drop (name_length (kind_of grammar.now) (rest_of reader.old)) (rest_of reader.old) }
+{
+    reader.read(&grammar.reg_name);
+    let name_end = reader.position();
+    if reader.skip(b':') {
+        reader.read(&DIGIT);
+    }
+    if reader.ends_authority() {
+        Some(name_end)
+    } else {
+        None
+    }
+}
+
+/// An authority that is more than a name and a port: where it lies, and its host.
+#[tactic(auto, unfolding(crate::specs::Reading::finds_user, crate::specs::Reading::finds_other, crate::specs::Reading::other_authority))]
+#[inline(never)]
+fn find_other_authority(
+    reader: Reader<'_>,
+    grammar: &Grammar,
+) -> Result<AuthorityPositions, ParseError>
+    ensures accepts { is_ok result ≡ finds_other (kind_of grammar.now) (rest_of reader.entry) }
+    ensures found { IfOk result (λ a. a ≡ other_authority (kind_of grammar.now) (place_of reader.entry) (rest_of reader.entry)) }
+    ensures boundary { IfOk result (λ a. IsCharBoundary (text_of reader.entry) a.end) }
+    ensures err { IfErr result (IsErrorIn (text_of reader.entry)) }
+{
+    let start = reader.position();
+    let mut name = reader;
+    name.read(&grammar.userinfo);
+    if name.skip(b'@') {
+        let host_start = name.position();
+        if let Some(host_end) = find_name(&mut name, grammar) {
+            return Ok(AuthorityPositions {
+                start,
+                host_start,
+                host_end,
+                end: name.position(),
+            });
+        }
+    }
+    let mut whole = reader;
+    let authority = whole.pass_authority();
+    match find_host(grammar, authority) {
+        Some(host) => Ok(AuthorityPositions {
+            start,
+            host_start: start + host.start,
+            host_end: start + host.end,
+            end: whole.position(),
+        }),
+        None => Err(authority_fault(reader, grammar)),
+    }
+}
+
 /// An authority: where it lies, and its host.
-#[tactic(auto, using(uri_pct::proofs::Constants::digit_table, crate::proofs::AuthorityCuts::behind_port), unfolding(crate::specs::Reading::finds_authority, crate::specs::Reading::is_plain_name, crate::specs::Reading::is_name_and_port, crate::specs::Reading::found_length, crate::specs::Reading::found_authority))]
+#[tactic(auto, unfolding(crate::specs::Reading::finds_authority, crate::specs::Reading::found_length, crate::specs::Reading::found_authority, crate::specs::Reading::other_length, crate::specs::Reading::other_authority))]
+#[inline(always)]
 fn find_authority(
     reader: &mut Reader<'_>,
     grammar: &Grammar,
@@ -90,111 +161,129 @@ fn find_authority(
 {
     let start = reader.position();
     let mut name = *reader;
-    name.read(&grammar.reg_name);
-    let host_end = name.position();
-    if name.ends_authority() {
+    if let Some(host_end) = find_name(&mut name, grammar) {
         *reader = name;
         return Ok(AuthorityPositions {
             start,
             host_start: start,
             host_end,
-            end: host_end,
+            end: name.position(),
         });
     }
-    if name.skip(b':') {
-        name.read(&DIGIT);
-        if name.ends_authority() {
-            *reader = name;
-            return Ok(AuthorityPositions {
-                start,
-                host_start: start,
-                host_end,
-                end: name.position(),
-            });
-        }
-    }
-    let refused = *reader;
-    let authority = reader.pass_authority();
-    match find_host(grammar, authority) {
-        Some(host) => Ok(AuthorityPositions {
-            start,
-            host_start: start + host.start,
-            host_end: start + host.end,
-            end: reader.position(),
-        }),
-        None => Err(authority_fault(refused, grammar)),
-    }
+    let authority = find_other_authority(*reader, grammar)?;
+    *reader = Reader::at(reader.text(), authority.end);
+    Ok(authority)
 }
 
-/// An authority, and what follows it.
+/// An authority, of what stands before a path.
 #[tactic(auto, unfolding(crate::specs::Reading::reads_authority, crate::specs::Reading::authority_positions))]
-fn read_authority(
+#[inline(always)]
+fn pass_authority(
     reader: &mut Reader<'_>,
     grammar: &Grammar,
     scheme_end: Option<usize>,
-) -> Result<Positions, ParseError>
-    ensures accepts { is_ok result ≡ reads_authority (kind_of grammar.now) (rest_of reader.old) }
-    ensures places { IfOk result (λ p. p ≡ authority_positions (kind_of grammar.now) scheme_end (place_of reader.old) (rest_of reader.old)) }
+) -> Result<BeforePath, ParseError>
+    ensures accepts { reads_authority (kind_of grammar.now) (rest_of reader.old) ≡ (is_ok result && reads_path (kind_of grammar.now) (rest_of reader.new)) }
+    ensures places { IfOk result (λ b. authority_positions (kind_of grammar.now) scheme_end (place_of reader.old) (rest_of reader.old) ≡ path_positions (kind_of grammar.now) b.scheme_end b.authority b.path_start (place_of reader.new) (rest_of reader.new)) }
+    ensures text { text_of reader.new ≡ text_of reader.old }
     ensures err { IfErr result (IsErrorIn (text_of reader.old)) }
 {
     let authority = find_authority(reader, grammar)?;
-    let path_start = reader.position();
-    read_path(reader, grammar, scheme_end, Some(authority), path_start)
+    Ok(BeforePath {
+        scheme_end,
+        authority: Some(authority),
+        path_start: reader.position(),
+    })
 }
 
-/// What follows a scheme.
+/// What follows a scheme, before a path.
 #[tactic(auto, unfolding(crate::specs::Reading::reads_hier, crate::specs::Reading::hier_positions))]
 #[inline(always)]
-fn read_hier(
+fn pass_hier(
     reader: &mut Reader<'_>,
     grammar: &Grammar,
     scheme_end: usize,
-) -> Result<Positions, ParseError>
-    ensures accepts { is_ok result ≡ reads_hier (kind_of grammar.now) (rest_of reader.old) }
-    ensures places { IfOk result (λ p. p ≡ hier_positions (kind_of grammar.now) (Some scheme_end) (place_of reader.old) (rest_of reader.old)) }
+) -> Result<BeforePath, ParseError>
+    ensures accepts { reads_hier (kind_of grammar.now) (rest_of reader.old) ≡ (is_ok result && reads_path (kind_of grammar.now) (rest_of reader.new)) }
+    ensures places { IfOk result (λ b. hier_positions (kind_of grammar.now) (Some scheme_end) (place_of reader.old) (rest_of reader.old) ≡ path_positions (kind_of grammar.now) b.scheme_end b.authority b.path_start (place_of reader.new) (rest_of reader.new)) }
+    ensures text { text_of reader.new ≡ text_of reader.old }
     ensures err { IfErr result (IsErrorIn (text_of reader.old)) }
 {
     if reader.skip_slashes() {
-        read_authority(reader, grammar, Some(scheme_end))
+        pass_authority(reader, grammar, Some(scheme_end))
     } else {
-        let path_start = reader.position();
-        read_path(reader, grammar, Some(scheme_end), None, path_start)
+        Ok(BeforePath {
+            scheme_end: Some(scheme_end),
+            authority: None,
+            path_start: reader.position(),
+        })
     }
 }
 
-/// A path that begins the text, so far as its first segment is read with no colon, and what
-/// follows it.
+/// A path that begins the text, so far as its first segment is read with no colon.
 #[tactic(auto, unfolding(crate::specs::Reading::reads_relative, crate::specs::Reading::relative_positions))]
 #[inline(always)]
-fn read_relative(reader: &mut Reader<'_>, grammar: &Grammar) -> Result<Positions, ParseError>
-    ensures accepts { is_ok result ≡ reads_relative (set_of grammar.now.segment_nz_nc) (kind_of grammar.now) (rest_of reader.old) }
-    ensures places { IfOk result (λ p. p ≡ relative_positions (set_of grammar.now.segment_nz_nc) (kind_of grammar.now) (place_of reader.old) (rest_of reader.old)) }
+fn pass_relative(reader: &mut Reader<'_>, grammar: &Grammar) -> Result<BeforePath, ParseError>
+    ensures accepts { reads_relative (set_of grammar.now.segment_nz_nc) (kind_of grammar.now) (rest_of reader.old) ≡ (is_ok result && reads_path (kind_of grammar.now) (rest_of reader.new)) }
+    ensures places { IfOk result (λ b. relative_positions (set_of grammar.now.segment_nz_nc) (kind_of grammar.now) (place_of reader.old) (rest_of reader.old) ≡ path_positions (kind_of grammar.now) b.scheme_end b.authority b.path_start (place_of reader.new) (rest_of reader.new)) }
+    ensures text { text_of reader.new ≡ text_of reader.old }
     ensures err { IfErr result (IsErrorIn (text_of reader.old)) }
 {
     reader.pass(&grammar.segment_nz_nc)?;
     if reader.sees(b':') {
         return Err(reader.unexpected());
     }
-    read_path(reader, grammar, None, None, 0)
+    Ok(BeforePath {
+        scheme_end: None,
+        authority: None,
+        path_start: 0,
+    })
 }
 
-/// A text that has no scheme, behind the characters that might have been one.
+/// What stands before a path in a text that has no scheme, behind the characters that might have
+/// been one.
 #[tactic(auto, unfolding(crate::specs::Reading::reads_schemeless, crate::specs::Reading::schemeless_positions))]
 #[inline(always)]
-fn read_schemeless(reader: &mut Reader<'_>, grammar: &Grammar) -> Result<Positions, ParseError>
-    ensures accepts { is_ok result ≡ reads_schemeless (set_of grammar.now.segment_nz_nc) (kind_of grammar.now) (place_of reader.old) (rest_of reader.old) }
-    ensures places { IfOk result (λ p. p ≡ schemeless_positions (set_of grammar.now.segment_nz_nc) (kind_of grammar.now) (place_of reader.old) (rest_of reader.old)) }
+fn pass_schemeless(reader: &mut Reader<'_>, grammar: &Grammar) -> Result<BeforePath, ParseError>
+    ensures accepts { reads_schemeless (set_of grammar.now.segment_nz_nc) (kind_of grammar.now) (place_of reader.old) (rest_of reader.old) ≡ (is_ok result && reads_path (kind_of grammar.now) (rest_of reader.new)) }
+    ensures places { IfOk result (λ b. schemeless_positions (set_of grammar.now.segment_nz_nc) (kind_of grammar.now) (place_of reader.old) (rest_of reader.old) ≡ path_positions (kind_of grammar.now) b.scheme_end b.authority b.path_start (place_of reader.new) (rest_of reader.new)) }
+    ensures text { text_of reader.new ≡ text_of reader.old }
     ensures err { IfErr result (IsErrorIn (text_of reader.old)) }
 {
     if reader.position() == 0 && reader.skip_slashes() {
-        read_authority(reader, grammar, None)
+        pass_authority(reader, grammar, None)
     } else {
-        read_relative(reader, grammar)
+        pass_relative(reader, grammar)
     }
 }
 
-/// Reads a whole text.
+/// What stands before a path, from the beginning of the text on.
 #[tactic(auto, using(uri_pct::proofs::Constants::scheme_table), unfolding(crate::specs::Reading::reads, crate::specs::Reading::read_positions))]
+#[inline(always)]
+fn pass_front(reader: &mut Reader<'_>, grammar: &Grammar) -> Result<BeforePath, ParseError>
+    requires { place_of reader.old ≡ 0 }
+    ensures accepts { reads (set_of grammar.now.segment_nz_nc) (kind_of grammar.now) (text_of reader.old) ≡ (is_ok result && reads_path (kind_of grammar.now) (rest_of reader.new)) }
+    ensures places { IfOk result (λ b. read_positions (set_of grammar.now.segment_nz_nc) (kind_of grammar.now) (text_of reader.old) ≡ path_positions (kind_of grammar.now) b.scheme_end b.authority b.path_start (place_of reader.new) (rest_of reader.new)) }
+    ensures text { text_of reader.new ≡ text_of reader.old }
+    ensures err { IfErr result (IsErrorIn (text_of reader.old)) }
+{
+    let not_a_letter = reader.unexpected();
+    reader.pass(&SCHEME)?;
+    let scheme_end = reader.position();
+    if reader.skip(b':') {
+        if !reader.text().as_bytes()[0].is_ascii_alphabetic() {
+            return Err(not_a_letter);
+        }
+        return pass_hier(reader, grammar, scheme_end);
+    }
+    if grammar.needs_scheme {
+        return Err(reader.unexpected());
+    }
+    pass_schemeless(reader, grammar)
+}
+
+/// Reads a whole text.
+#[tactic(auto)]
 #[inline(always)]
 fn read_text(grammar: &Grammar, text: &str) -> Result<Positions, ParseError>
     ensures accepts { is_ok result ≡ reads (set_of grammar.now.segment_nz_nc) (kind_of grammar.now) text.now }
@@ -202,19 +291,8 @@ fn read_text(grammar: &Grammar, text: &str) -> Result<Positions, ParseError>
     ensures err { IfErr result (IsErrorIn text.now) }
 {
     let mut reader = Reader::new(text);
-    let not_a_letter = reader.unexpected();
-    reader.pass(&SCHEME)?;
-    let scheme_end = reader.position();
-    if reader.skip(b':') {
-        if !text.as_bytes()[0].is_ascii_alphabetic() {
-            return Err(not_a_letter);
-        }
-        return read_hier(&mut reader, grammar, scheme_end);
-    }
-    if grammar.needs_scheme {
-        return Err(reader.unexpected());
-    }
-    read_schemeless(&mut reader, grammar)
+    let before = pass_front(&mut reader, grammar)?;
+    read_path(&mut reader, grammar, before)
 }
 
 /// Where the components of a URI lie (RFC 3986, section 3), or why the text is none.

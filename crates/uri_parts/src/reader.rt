@@ -70,7 +70,7 @@ impl<'a> Reader<'a> {
     }
 
     /// Passes the longest front of the rest that the table allows.
-    #[inline]
+    #[inline(always)]
     pub fn read(&mut self, table: &Table)
         ensures text { text_of self.new ≡ text_of self.old }
         ensures place { place_of self.new ≡ place_of self.old + front (set_of table.now) (rest_of self.old) }
@@ -106,7 +106,7 @@ impl<'a> Reader<'a> {
     /// Passes the longest front of the rest that the table allows; a `%` behind it that begins no
     /// octet is refused, where the table allows octets.
     #[tactic(auto, using(crate::proofs::Next::stray_fault, crate::proofs::Next::starts_at))]
-    #[inline]
+    #[inline(always)]
     pub fn pass(&mut self, table: &Table) -> Result<(), ParseError>
         ensures text { text_of self.new ≡ text_of self.old }
         ensures place { OnOk result (place_of self.new ≡ place_of self.old + front (set_of table.now) (rest_of self.old)) }

@@ -24,10 +24,33 @@ impl Table {
 
     /// Where the longest piece ends that begins at `start` and is spelt by what the table allows,
     /// both as byte offsets.
+    ///
+    /// Most pieces are ASCII characters alone, and these are read without a call.
+    #[inline(always)]
     #[doc(hidden)]
     pub fn read(&self, text: &str, start: usize) -> usize
         requires { IsCharBoundary text.now start }
         ensures end { result ≡ start + front (set_of self.now) (drop start text.now) }
+        ensures boundary { IsCharBoundary text.now result }
+    {
+        let i = self.pass_ascii(text, start);
+        let bytes = text.as_bytes();
+        if i == bytes.len() {
+            return i;
+        }
+        let byte = bytes[i];
+        if byte < 128 && byte != b'%' {
+            i
+        } else {
+            self.read_on(text, i)
+        }
+    }
+
+    /// Where the longest piece ends that begins at `start`, whatever it is spelt by.
+    #[inline(never)]
+    fn read_on(self, text: &str, start: usize) -> usize
+        requires { IsCharBoundary text.now start }
+        ensures end { result ≡ start + front (set_of self) (drop start text.now) }
         ensures boundary { IsCharBoundary text.now result }
     {
         let bytes = text.as_bytes();

@@ -140,7 +140,7 @@ impl Table {
 
     /// Where the run of ASCII characters ends that begins at `start` and that the table allows,
     /// both as byte offsets.
-    #[inline]
+    #[inline(always)]
     #[doc(hidden)]
     pub fn pass_ascii(&self, text: &str, start: usize) -> usize
         requires { IsCharBoundary text.now start }

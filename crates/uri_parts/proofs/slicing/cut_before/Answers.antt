@@ -1,4 +1,4 @@
-use Rattle.std.proofs.Common.{◌≡◌, ap, sym, ◌∙◌, rules, subst, ℕ}
+use Rattle.std.proofs.Common.{◌≡◌, ap, sym, ◌∙◌, rules, subst}
 use Rattle.std.specs.Str.{IsCharBoundary}
 use Rattle.uri_pct.proofs.Cuts.{ascii_marks, mark_boundary, to_mark}
 use Rattle.uri_parts.proofs.slicing.cut_before.Goals as goal

@@ -1,5 +1,4 @@
-use Rattle.std.proofs.Common.{◌≡◌, ℕ, List, Some, sym, ap, ◌∙◌}
-use Rattle.std.specs.Prelude.{option_map}
+use Rattle.std.proofs.Common.{◌≡◌, Some}
 use Rattle.uri_parts.specs.Components.{components}
 use Rattle.uri_parts.proofs.Parts.{fragment_valid}
 use Rattle.uri_parts.proofs.core_text.CoreText.fragment.Goals as goal

@@ -1,5 +1,3 @@
-use Rattle.std.proofs.Common.{◌≡◌, ℕ, List, sym}
-use Rattle.uri_parts.specs.Components.{components}
 use Rattle.uri_parts.proofs.Parts.{path_valid}
 use Rattle.uri_parts.proofs.core_text.CoreText.path.Goals as goal
 

@@ -2,7 +2,7 @@ use Rattle.std.proofs.Common.{length, ◌-◌, ◌≡◌, ◌+◌, drop}
 use Rattle.std.specs.Str.{IsCharBoundary}
 use Rattle.uri_pct.specs.Fronts.{front}
 use Rattle.uri_pct.specs.Tables.{set_of}
-use Rattle.uri_pct.proofs.table.Table.read.Given as goal
+use Rattle.uri_pct.proofs.table.Table.read_on.Given as goal
 
 abbrev pub invariant-loop-i : goal.invariant-loop-i
 invariant-loop-i l = record {
