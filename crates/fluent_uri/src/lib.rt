@@ -36,8 +36,8 @@ pub mod pct_enc {
     /// The encoders: which characters and octets each component consists of.
     pub mod encoder {
         pub use uri_pct::encoder::{
-            Encoder, Fragment, IFragment, IPath, IQuery, IRegName, IUserinfo, Path, PathEncoder,
-            Port, Query, RegName, Userinfo,
+            Data, Encoder, Fragment, IData, IFragment, IPath, IQuery, IRegName, IUserinfo, Path,
+            PathEncoder, Port, Query, RegName, Userinfo,
         };
     }
 
