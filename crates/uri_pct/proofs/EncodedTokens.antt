@@ -1,5 +1,5 @@
 -- The tokens of encoded texts and bytes: they may be printed and read back, and a set with octets allows them.
-use Rattle.std.proofs.Common.{◌≡◌, ℕ, zero, suc, ◌+◌, ◌/◌, ◌%◌, ◌<◌, ◌≤◌, Bool, true, false, ltb, List, [], ◌∷◌, ◌++◌, get_or, map, refl, sym, ap, ◌∙◌, arith, ◌&&◌, ⊎_elim}
+use Rattle.std.proofs.Common.{◌≡◌, ℕ, suc, ◌+◌, ◌/◌, ◌%◌, ◌<◌, Bool, true, ltb, List, [], ◌∷◌, get_or, map, refl, sym, ap, ◌∙◌, arith, ⊎_elim}
 use Rattle.std.specs.List.{list_all, flat_map, All}
 use Rattle.std.specs.Char.{IsScalar, encode_utf8}
 use Rattle.std.specs.Str.{chars, IsUtf8, all_scalars}
@@ -9,7 +9,7 @@ use Rattle.std.proofs.lemmas.List.Folds.{list_all-append}
 use Rattle.std.proofs.lemmas.List.Elements.{All-head, All-tail}
 use Rattle.std.proofs.lemmas.Str.{encode_ascii, scalars-chars}
 use Rattle.uri_pct.specs.Sets.{TableSet, LacksPercent, IsSubset, allows}
-use Rattle.uri_pct.specs.Tokens.{Token, Char, Octet, allows_token}
+use Rattle.uri_pct.specs.Tokens.{Octet, allows_token}
 use Rattle.uri_pct.specs.Pieces.{Piece, WellFormed, IllFormed, IsOfCharacter, char_of, piece_bytes, bytes_of_pieces, utf8_pieces}
 use Rattle.uri_pct.specs.Encoding.{encode_char, encode_text, encode_piece, encode_bytes}
 use Rattle.uri_pct.specs.Reading.{is_printable}

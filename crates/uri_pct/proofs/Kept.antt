@@ -1,5 +1,5 @@
 -- What was there, where the text behind it is cut off again.
-use Rattle.std.proofs.Common.{◌≡◌, ℕ, ◌≤◌, List, length, take, sym, ap, arith, subst, string_bytes, String}
+use Rattle.std.proofs.Common.{◌≡◌, ◌≤◌, length, take, sym, ap, arith, subst, string_bytes, String}
 use Rattle.std.specs.Str.{IsUtf8}
 use Rattle.std.specs.String.Boundary.{IsSplitPoint}
 use Rattle.std.proofs.lemmas.List.{length-take}

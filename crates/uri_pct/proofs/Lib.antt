@@ -31,3 +31,5 @@ pub mod Encodings
 pub mod Kept
 pub mod EncodedTokens
 pub mod Growing
+pub mod EncodingLaws
+mod EncodingRows

@@ -17,8 +17,8 @@ invariant_of-self g c =
     let more = print (encode_bytes (set_of c.table.result) c.args.bytes.now) in
     record {
       valid = valid_either set old new more c.append_bytes.result c.append_bytes.ensures.ok c.append_bytes.ensures.err before.valid
-      (λ e. (by_bytes set sub old new c.args.bytes.now before.lacks_percent c.requires.subset c.requires.octets (IsUtf8-string_bytes before.text) (all_small c.args.bytes.now (λ i. (c.type_inv.bytes i).fits)) before.valid
-      (e ∙ ap (λ s. old ++ print (encode_bytes s c.args.bytes.now)) c.table.ensures)).valid);
+          (λ e. (by_bytes set sub old new c.args.bytes.now before.lacks_percent c.requires.subset c.requires.octets (IsUtf8-string_bytes before.text) (all_small c.args.bytes.now (λ i. (c.type_inv.bytes i).fits)) before.valid
+          (e ∙ ap (λ s. old ++ print (encode_bytes s c.args.bytes.now)) c.table.ensures)).valid);
       lacks_percent = before.lacks_percent;
     }
 

@@ -16,8 +16,8 @@ invariant_of-self g c =
     let more = print (encode_text (set_of c.table.result) c.args.text.now) in
     record {
       valid = valid_either set old new more c.append_text.result c.append_text.ensures.ok c.append_text.ensures.err before.valid
-      (λ e. (by_text set sub old new c.args.text.now before.lacks_percent c.requires.subset c.requires.octets (IsUtf8-string_bytes before.text) c.utf8.text before.valid
-      (e ∙ ap (λ s. old ++ print (encode_text s c.args.text.now)) c.table.ensures)).valid);
+          (λ e. (by_text set sub old new c.args.text.now before.lacks_percent c.requires.subset c.requires.octets (IsUtf8-string_bytes before.text) c.utf8.text before.valid
+          (e ∙ ap (λ s. old ++ print (encode_text s c.args.text.now)) c.table.ensures)).valid);
       lacks_percent = before.lacks_percent;
     }
 

@@ -1,4 +1,4 @@
-use Rattle.std.proofs.Common.{◌++◌, ap, ◌∙◌, string_bytes, sym}
+use Rattle.std.proofs.Common.{◌++◌, ap, ◌∙◌, string_bytes}
 use Rattle.uri_pct.specs.Tokens.{tokens}
 use Rattle.std.proofs.lemmas.Str.{IsUtf8-string_bytes}
 use Rattle.uri_pct.proofs.Growing.{by_valid, valid_pushed}
@@ -13,7 +13,7 @@ invariant_of-self g c =
     let text = c.as_str.result.now in
     record {
       valid = valid_pushed set old new text c.push_str.result c.push_str.ensures.bytes before.valid
-      (λ e. (by_valid set old new text before.lacks_percent (IsUtf8-string_bytes before.text) before.valid c.as_str.ensures.valid e).valid);
+          (λ e. (by_valid set old new text before.lacks_percent (IsUtf8-string_bytes before.text) before.valid c.as_str.ensures.valid e).valid);
       lacks_percent = before.lacks_percent;
     }
 
