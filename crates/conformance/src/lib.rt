@@ -5,4 +5,6 @@
 #[cfg(test)]
 mod encoding;
 #[cfg(test)]
+mod owned_encoding;
+#[cfg(test)]
 mod parsing;

@@ -30,7 +30,9 @@ pub mod net {
 
 /// Texts that are percent-encoded over an encoder's set.
 pub mod pct_enc {
-    pub use uri_pct::pct_enc::{CowSlice, CowStr, Decode, DecodeError, DecodedChunk, EStr, Split};
+    pub use uri_pct::pct_enc::{
+        CowSlice, CowStr, Decode, DecodeError, DecodedChunk, EStr, EString, Split,
+    };
     pub use uri_pct::table::Table;
 
     /// The encoders: which characters and octets each component consists of.
