@@ -1,7 +1,12 @@
+use crate::owned_encoding::{Nothing, Octets, Private, valid};
+use fluent_uri::UriRef;
 use fluent_uri::component::Scheme;
-use fluent_uri::pct_enc::encoder::{Encoder, Fragment, Path, Port, Query, RegName, Userinfo};
-use fluent_uri::pct_enc::{EStr, Table, table};
+use fluent_uri::pct_enc::encoder::{
+    Encoder, Fragment, IPath, Path, Port, Query, RegName, Userinfo,
+};
+use fluent_uri::pct_enc::{CowSlice, CowStr, DecodeError, DecodedChunk, EStr, Table, table};
 use std::process::Abort;
+use std::test::Fail;
 
 const LETTERS: &str = "ABCDEFGHIJKLMNOPQRSTUVWXYZabcdefghijklmnopqrstuvwxyz";
 
@@ -110,9 +115,8 @@ fn encoders_refuse(rt: HostRuntime) {
 #[test]
 fn given_texts(rt: HostRuntime) {
     assert!(rt; EStr::<Path>::EMPTY.is_empty());
-    if EStr::<Path>::new("a/b").is_some() {
-        assert_eq!(rt; EStr::<Path>::new_or_panic("a/b").as_str(), "a/b");
-    }
+    assert_eq!(rt; EStr::<Path>::default().as_str(), "");
+    assert_eq!(rt; valid::<_, Path>(&rt, "a/b").as_str(), "a/b");
 }
 
 /// RFC 3986, section 3.1.
@@ -135,4 +139,203 @@ fn schemes(rt: HostRuntime) {
             "{text}"
         );
     }
+}
+
+/// The text, which is borrowed where that is wanted, and else owned.
+fn decoded<'a, R: Abort>(rt: &R, text: &'a CowStr<'_>, borrowed: bool) -> &'a str {
+    match text {
+        CowStr::Borrowed(text) => {
+            assert!(rt; borrowed, "{text}");
+            text
+        }
+        CowStr::Owned(text) => {
+            assert!(rt; !borrowed, "{text}");
+            text.as_str()
+        }
+    }
+}
+
+/// Unicode, section 3.9.
+#[test]
+fn decoded_lossily(rt: HostRuntime) -> Result<(), Fail> {
+    for (text, wanted, borrowed) in [
+        ("%F0%90%8Cx%80", "\u{FFFD}x\u{FFFD}", false),
+        ("%ED%A0%80", "\u{FFFD}\u{FFFD}\u{FFFD}", false),
+        ("%E2%82%41", "\u{FFFD}A", false),
+        ("%C2%A1Ol%C3%A9%21", "¡Olé!", false),
+        ("a+b", "a+b", true),
+        ("", "", true),
+    ] {
+        let path = valid::<_, Path>(&rt, text);
+        let lossy = path.decode().to_string_lossy(rt.alloc())?;
+        assert_eq!(rt; decoded(&rt, &lossy, borrowed), wanted, "{text}");
+    }
+    Ok(())
+}
+
+#[test]
+fn decoded_to_text(rt: HostRuntime) -> Result<(), Fail> {
+    for (text, wanted, borrowed) in [
+        ("%e5%BC%a0", "张", false),
+        ("%2541", "%41", false),
+        ("a+b", "a+b", true),
+    ] {
+        let path = valid::<_, Path>(&rt, text);
+        let string = path.decode().to_string(rt.alloc())?;
+        assert_eq!(rt; decoded(&rt, &string, borrowed), wanted, "{text}");
+    }
+    Ok(())
+}
+
+#[test]
+fn decoded_bytes(rt: HostRuntime) -> Result<(), Fail> {
+    let path = valid::<_, Path>(&rt, "%F0%90%8Cx%80");
+    let wanted: &[u8] = &[0xF0, 0x90, 0x8C, 0x78, 0x80];
+    match path.decode().to_bytes(rt.alloc())? {
+        CowSlice::Owned(bytes) => assert_eq!(rt; bytes.as_slice(), wanted),
+        CowSlice::Borrowed(_) => assert!(rt; false),
+    }
+    match path.decode().to_string(rt.alloc()) {
+        Err(DecodeError::NotUtf8(bytes)) => assert_eq!(rt; bytes.as_slice(), wanted),
+        _ => assert!(rt; false),
+    }
+    match valid::<_, Path>(&rt, "a/b").decode().to_bytes(rt.alloc())? {
+        CowSlice::Borrowed(bytes) => assert_eq!(rt; bytes, b"a/b"),
+        CowSlice::Owned(_) => assert!(rt; false),
+    }
+    Ok(())
+}
+
+#[test]
+fn chunks(rt: HostRuntime) {
+    let mut chunks = valid::<_, Path>(&rt, "ab%20%2fc").decode();
+    assert_eq!(rt; chunks.next(), Some(DecodedChunk::Unencoded("ab")));
+    assert_eq!(rt; chunks.next(), Some(DecodedChunk::PctDecoded(0x20)));
+    assert_eq!(rt; chunks.next(), Some(DecodedChunk::PctDecoded(0x2F)));
+    assert_eq!(rt; chunks.next(), Some(DecodedChunk::Unencoded("c")));
+    assert_eq!(rt; chunks.next(), None);
+    assert_eq!(rt; chunks.next(), None);
+}
+
+/// What is left after a part was taken.
+#[test]
+fn rest_that_is_decoded(rt: HostRuntime) -> Result<(), Fail> {
+    let mut chunks = valid::<_, Path>(&rt, "%FFab").decode();
+    assert_eq!(rt; chunks.next(), Some(DecodedChunk::PctDecoded(0xFF)));
+    let string = chunks.to_string(rt.alloc())?;
+    assert_eq!(rt; decoded(&rt, &string, true), "ab");
+    Ok(())
+}
+
+#[test]
+fn pieces_from_both_ends(rt: HostRuntime) {
+    assert!(rt; table::RESERVED.allows('/'));
+    let mut pieces = valid::<_, Path>(&rt, "a/b/c").split('/');
+    assert_eq!(rt; pieces.next().map(EStr::as_str), Some("a"));
+    assert_eq!(rt; pieces.next_back().map(EStr::as_str), Some("c"));
+    assert_eq!(rt; pieces.next().map(EStr::as_str), Some("b"));
+    assert_eq!(rt; pieces.next().map(EStr::as_str), None);
+    assert_eq!(rt; pieces.next_back().map(EStr::as_str), None);
+}
+
+#[test]
+fn empty_pieces(rt: HostRuntime) {
+    assert!(rt; table::RESERVED.allows(','));
+    let mut pieces = valid::<_, Path>(&rt, ",").split(',');
+    assert_eq!(rt; pieces.next().map(EStr::as_str), Some(""));
+    assert_eq!(rt; pieces.next().map(EStr::as_str), Some(""));
+    assert_eq!(rt; pieces.next().map(EStr::as_str), None);
+    let mut pieces = EStr::<Path>::EMPTY.split(',');
+    assert_eq!(rt; pieces.next_back().map(EStr::as_str), Some(""));
+    assert_eq!(rt; pieces.next_back().map(EStr::as_str), None);
+}
+
+#[test]
+fn cut_once(rt: HostRuntime) {
+    assert!(rt; table::RESERVED.allows(';'));
+    let path = valid::<_, Path>(&rt, "foo;bar;baz");
+    let texts = |(before, after): (EStr<'static, Path>, EStr<'static, Path>)| (before.as_str(), after.as_str());
+    assert_eq!(rt; path.split_once(';').map(texts), Some(("foo", "bar;baz")));
+    assert_eq!(rt; path.rsplit_once(';').map(texts), Some(("foo;bar", "baz")));
+    assert_eq!(rt; path.split_once(',').map(texts), None);
+    assert_eq!(rt; path.rsplit_once(',').map(texts), None);
+}
+
+/// RFC 3986, section 3.3.
+#[test]
+fn segments(rt: HostRuntime) -> Result<(), Fail> {
+    let path = valid::<_, Path>(&rt, "/path/to//dir/");
+    assert!(rt; path.is_absolute() && !path.is_rootless());
+    let mut pieces = path.segments_if_absolute().ok_or("absolute")?;
+    for wanted in ["path", "to", "", "dir", ""] {
+        assert_eq!(rt; pieces.next().map(EStr::as_str), Some(wanted));
+    }
+    assert_eq!(rt; pieces.next().map(EStr::as_str), None);
+    let path = valid::<_, IPath>(&rt, "bar/baz");
+    assert!(rt; !path.is_absolute() && path.is_rootless());
+    assert!(rt; path.segments_if_absolute().is_none());
+    Ok(())
+}
+
+#[test]
+fn pairs_of_a_query(rt: HostRuntime) -> Result<(), Fail> {
+    let reference = UriRef::<&str>::parse("?name=%E5%BC%A0%E4%B8%89&speech=%C2%A1Ol%C3%A9%21")?;
+    let query = reference.query().ok_or("a query")?;
+    let mut pieces = query.split('&');
+    for (name, value) in [("name", "张三"), ("speech", "¡Olé!")] {
+        let piece = pieces.next().ok_or("a piece")?;
+        let (before, after) = piece.split_once('=').ok_or("a name")?;
+        let before = before.decode().to_string_lossy(rt.alloc())?;
+        let after = after.decode().to_string_lossy(rt.alloc())?;
+        assert_eq!(rt; decoded(&rt, &before, true), name);
+        assert_eq!(rt; decoded(&rt, &after, false), value);
+    }
+    assert_eq!(rt; pieces.next().map(EStr::as_str), None);
+    Ok(())
+}
+
+/// RFC 3986, section 2.1.
+#[test]
+fn encoded_bytes(rt: HostRuntime) {
+    assert!(rt; Path::table().allows_pct_encoded());
+    assert_eq!(rt; EStr::<Path>::encode_byte(0x31).as_str(), "%31");
+    assert_eq!(rt; EStr::<Path>::encode_byte(0xAF).as_str(), "%AF");
+    assert!(rt; !EStr::<Path>::encode_byte(0).is_unencoded());
+    assert!(rt; valid::<_, Path>(&rt, "a/b").is_unencoded());
+}
+
+#[test]
+fn upcast_texts(rt: HostRuntime) {
+    assert!(rt; Path::table().is_subset(&Query::table()));
+    let path = valid::<_, Path>(&rt, "/a%2F");
+    assert_eq!(rt; path.upcast::<Query>().as_str(), "/a%2F");
+    assert!(rt; Nothing::table().is_subset(&Private::table()));
+    assert_eq!(rt; EStr::<Nothing>::EMPTY.upcast::<Private>().as_str(), "");
+}
+
+#[test]
+fn texts_compare_by_bytes(rt: HostRuntime) -> Result<(), Fail> {
+    let (first, second) = (valid::<_, Path>(&rt, "%41"), valid::<_, Path>(&rt, "A"));
+    assert!(rt; first == first && first != second && first < second);
+    assert_eq!(rt; format!(in rt.alloc(); "{first}{second}")?.as_str(), "%41A");
+    Ok(())
+}
+
+/// The calls at encoders of a caller: octets alone, private use alone, and nothing.
+#[test]
+fn own_encoders(rt: HostRuntime) -> Result<(), Fail> {
+    let octets = valid::<_, Octets>(&rt, "%61%ff");
+    assert_eq!(rt; octets.decode().next(), Some(DecodedChunk::PctDecoded(0x61)));
+    assert_eq!(rt; EStr::<Octets>::encode_byte(b'a').as_str(), "%61");
+    assert_eq!(rt; octets.split('/').next_back().map(EStr::as_str), Some("%61%ff"));
+    let private = valid::<_, Private>(&rt, "\u{F8FF}\u{F0000}");
+    assert_eq!(rt; private.len(), 7);
+    assert!(rt; private.is_unencoded() && private.split_once('&').is_none());
+    assert_eq!(rt; private.split('&').next().map(EStr::as_str), Some("\u{F8FF}\u{F0000}"));
+    assert_eq!(rt; private.to_owned(rt.alloc())?.as_estr(), private);
+    let nothing = valid::<_, Nothing>(&rt, "");
+    assert!(rt; nothing.is_empty() && nothing == EStr::default());
+    assert!(rt; nothing.rsplit_once('=').is_none());
+    assert_eq!(rt; nothing.split('=').next().map(EStr::as_str), Some(""));
+    Ok(())
 }

@@ -11,4 +11,6 @@ mod encoding;
 #[cfg(test)]
 mod original;
 #[cfg(test)]
+mod owned_encoding;
+#[cfg(test)]
 mod parsing;

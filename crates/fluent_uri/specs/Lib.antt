@@ -2,6 +2,8 @@ pub mod IriRefs
 pub mod Iris
 pub use Rattle.uri_pct.specs.Cows
 pub use Rattle.uri_pct.specs.EStrs
+pub use Rattle.uri_pct.specs.EStrings
+pub use Rattle.uri_pct.specs.Encoding
 pub use Rattle.uri_pct.specs.Fronts
 pub use Rattle.uri_pct.specs.Masks
 pub use Rattle.uri_pct.specs.Sets

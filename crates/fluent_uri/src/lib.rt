@@ -30,14 +30,16 @@ pub mod net {
 
 /// Texts that are percent-encoded over an encoder's set.
 pub mod pct_enc {
-    pub use uri_pct::pct_enc::{CowSlice, CowStr, Decode, DecodeError, DecodedChunk, EStr, Split};
+    pub use uri_pct::pct_enc::{
+        CowSlice, CowStr, Decode, DecodeError, DecodedChunk, EStr, EString, Split,
+    };
     pub use uri_pct::table::Table;
 
     /// The encoders: which characters and octets each component consists of.
     pub mod encoder {
         pub use uri_pct::encoder::{
-            Encoder, Fragment, IFragment, IPath, IQuery, IRegName, IUserinfo, Path, PathEncoder,
-            Port, Query, RegName, Userinfo,
+            Data, Encoder, Fragment, IData, IFragment, IPath, IQuery, IRegName, IUserinfo, Path,
+            PathEncoder, Port, Query, RegName, Userinfo,
         };
     }
 

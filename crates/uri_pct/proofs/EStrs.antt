@@ -26,7 +26,7 @@ char_in_more s t c subset e = ⊎_elim
     (λ high. allows-past t c high ∙ past_in_more s t c subset (sym (allows-past s c high) ∙ e))
     (cases_lt c 128)
 
-tokens_in_more : (s t : TableSet) (ts : List Token) → IsSubset s t → list_all (allows_token s) ts ≡ true → list_all (allows_token t) ts ≡ true
+pub tokens_in_more : (s t : TableSet) (ts : List Token) → IsSubset s t → list_all (allows_token s) ts ≡ true → list_all (allows_token t) ts ≡ true
 tokens_in_more s t [] subset e = refl
 tokens_in_more s t (Char c ∷ ts) subset e =
     let p = and_parts (allows s c) _ e in

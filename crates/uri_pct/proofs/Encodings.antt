@@ -152,7 +152,7 @@ chars_pieces set (c ∷ cs) e =
     let p = and_parts _ (all_scalars cs) e in
     ap (λ x. x ++ flat_map (encode_piece set) (map of_char cs)) (ap (encode_char set) (char_of-encode c p.0)) ∙ ap (λ x. encode_char set c ++ x) (chars_pieces set cs p.1)
 
-text_as_pieces : (set : TableSet) (text : List ℕ) → IsUtf8 text → flat_map (encode_piece set) (utf8_pieces text) ≡ encode_text set text
+pub text_as_pieces : (set : TableSet) (text : List ℕ) → IsUtf8 text → flat_map (encode_piece set) (utf8_pieces text) ≡ encode_text set text
 text_as_pieces set text u =
     let all = encodes-chars text u in
     ap (λ x. flat_map (encode_piece set) (utf8_pieces x)) (sym (append-nil text) ∙ ap (λ x. x ++ []) (sym all))

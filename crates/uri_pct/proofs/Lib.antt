@@ -28,3 +28,8 @@ pub mod PartPieces
 pub mod Taking
 pub mod Appending
 pub mod Encodings
+pub mod Kept
+pub mod EncodedTokens
+pub mod Growing
+pub mod EncodingLaws
+mod EncodingRows

@@ -15,3 +15,4 @@ pub mod Parts
 pub mod Cows
 pub mod TakenBytes
 pub mod Encoding
+pub mod EStrings

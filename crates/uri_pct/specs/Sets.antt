@@ -160,6 +160,10 @@ query_set = encoded is_query_char
 abbrev pub fragment_set : TableSet
 fragment_set = encoded is_query_char
 
+-- RFC 3986, section 2.4: data, in which a reserved character stands as an octet
+abbrev pub data_set : TableSet
+data_set = encoded is_unreserved
+
 -- RFC 3987, section 2.2: the same with the characters of `ucschar`; in a query those of `iprivate` too
 abbrev pub international : TableSet → TableSet
 international set = record set { ucschar = true }
@@ -181,3 +185,6 @@ iquery_set = record (international query_set) { iprivate = true }
 
 abbrev pub ifragment_set : TableSet
 ifragment_set = international fragment_set
+
+abbrev pub idata_set : TableSet
+idata_set = international data_set

@@ -1,5 +1,5 @@
 //! Percent-encoding of texts and bytes (RFC 3986, section 2.1).
-ghost use Rattle.std.specs.Prelude.{◌≡◌, ◌++◌, OnOk, length, map, take, string_bytes};
+ghost use Rattle.std.specs.Prelude.{◌≡◌, ◌++◌, OnOk, OnErr, length, map, take, string_bytes};
 ghost use Rattle.uri_pct.specs.Encoding.{encode_text, encode_bytes};
 ghost use Rattle.uri_pct.specs.Tables.{set_of};
 ghost use Rattle.uri_pct.specs.Tokens.{Octet, print};
@@ -58,6 +58,36 @@ pub fn push_bytes(table: &Table, bytes: &[u8], out: &mut String) -> Result<(), A
     for chunk in bytes.utf8_chunks() {
         push_text(table, chunk.valid(), out)?;
         push_octets(chunk.invalid(), out)?;
+    }
+    Ok(())
+}
+
+/// Appends what `push_text` does. After an error the text is as it was.
+#[doc(hidden)]
+pub fn append_text(table: &Table, text: &str, out: &mut String) -> Result<(), AllocError>
+    ensures ok { OnOk result
+        (string_bytes out.new ≡ string_bytes out.old ++ print (encode_text (set_of table.now) text.now)) }
+    ensures err { OnErr result (string_bytes out.new ≡ string_bytes out.old) }
+{
+    let len = out.as_str().len();
+    if let Err(error) = push_text(table, text, out) {
+        out.truncate(len);
+        return Err(error);
+    }
+    Ok(())
+}
+
+/// Appends what `push_bytes` does. After an error the text is as it was.
+#[doc(hidden)]
+pub fn append_bytes(table: &Table, bytes: &[u8], out: &mut String) -> Result<(), AllocError>
+    ensures ok { OnOk result
+        (string_bytes out.new ≡ string_bytes out.old ++ print (encode_bytes (set_of table.now) bytes.now)) }
+    ensures err { OnErr result (string_bytes out.new ≡ string_bytes out.old) }
+{
+    let len = out.as_str().len();
+    if let Err(error) = push_bytes(table, bytes, out) {
+        out.truncate(len);
+        return Err(error);
     }
     Ok(())
 }

@@ -189,3 +189,34 @@ impl Encoder for IFragment {
         table::IFRAGMENT
     }
 }
+
+/// The encoder of data that goes into a URI (RFC 3986, section 2.4): unreserved characters and
+/// percent-encoded octets, so that no delimiter is left.
+#[derive(Clone, Copy)]
+pub struct Data;
+
+impl Encoder for Data {
+    ghost use Rattle.uri_pct.specs.Sets.{data_set};
+
+    ghost set = { data_set };
+
+    #[tactic(auto, using(crate::proofs::Constants::unreserved_table))]
+    fn table() -> Table {
+        table::UNRESERVED.or_pct_encoded()
+    }
+}
+
+/// The encoder of data that goes into an IRI (RFC 3987, section 2.2): as `Data`, with the
+/// characters of `ucschar`.
+#[derive(Clone, Copy)]
+pub struct IData;
+
+impl Encoder for IData {
+    ghost use Rattle.uri_pct.specs.Sets.{idata_set};
+
+    ghost set = { idata_set };
+
+    fn table() -> Table {
+        Data::table().or_ucschar()
+    }
+}

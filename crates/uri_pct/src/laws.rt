@@ -6,6 +6,7 @@ ghost use Rattle.std.specs.Char.{IsScalar, encode_utf8};
 ghost use Rattle.std.specs.List.{list_all};
 ghost use Rattle.std.specs.Str.{IsUtf8};
 ghost use Rattle.std.specs.Str.Lossy.{utf8_lossy};
+ghost use Rattle.uri_pct.specs.Encoding.{encode_text, encode_bytes};
 ghost use Rattle.uri_pct.specs.Sets.{TableSet, LacksPercent, IsSubset, unreserved_set};
 ghost use Rattle.uri_pct.specs.Tokens.{Token, Char, Octet, tokens, token_bytes, print, allows_token, IsValidFor};
 ghost use Rattle.uri_pct.specs.Pieces.{WellFormed, IsOfCharacter, is_well_formed, begins_within, bytes_of_pieces, utf8_pieces, lossy_text};
@@ -18,6 +19,18 @@ pub fn printing()
     ensures tokens { (ts : List Token) → list_all is_printable ts ≡ true → tokens (print ts) ≡ ts }
     ensures valid { (set : TableSet) (ts : List Token) → list_all is_printable ts ≡ true → list_all (allows_token set) ts ≡ true → IsValidFor set (print ts) }
     ensures printable { (set : TableSet) (text : List ℕ) → LacksPercent set → IsValidFor set text → list_all is_printable (tokens text) ≡ true }
+{}
+
+/// What is encoded is read back as the same tokens, these decode to the text or the bytes that were
+/// given, also behind others, and a text is encoded as its bytes are (RFC 3986, section 2.1).
+#[doc(hidden)]
+#[tactic(auto, using(crate::proofs::EncodingLaws::encoding_laws))]
+pub fn encoding()
+    ensures text { (set : TableSet) (text : List ℕ) → IsUtf8 text → token_bytes (encode_text set text) ≡ text }
+    ensures bytes { (set : TableSet) (bytes : List ℕ) → token_bytes (encode_bytes set bytes) ≡ bytes }
+    ensures behind { (before behind : List Token) → token_bytes (before ++ behind) ≡ token_bytes before ++ token_bytes behind }
+    ensures tokens { (set : TableSet) (text : List ℕ) → LacksPercent set → IsUtf8 text → tokens (print (encode_text set text)) ≡ encode_text set text }
+    ensures same { (set : TableSet) (text : List ℕ) → IsUtf8 text → encode_bytes set text ≡ encode_text set text }
 {}
 
 /// The pieces of bytes are together these bytes, those that are well-formed are characters, and they

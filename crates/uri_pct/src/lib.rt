@@ -11,6 +11,8 @@ pub mod decode_text;
 pub mod encode;
 pub mod encoder;
 #[doc(hidden)]
+pub mod estring;
+#[doc(hidden)]
 pub mod laws;
 #[doc(hidden)]
 pub mod octet;

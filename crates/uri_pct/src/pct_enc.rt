@@ -7,6 +7,7 @@ ghost use Rattle.uri_pct.specs.Texts.{is_unencoded, is_absolute};
 pub use crate::cow::{CowSlice, CowStr, DecodeError};
 pub use crate::decode::{Decode, DecodedChunk};
 use crate::encoder::{Encoder, PathEncoder};
+pub use crate::estring::EString;
 use crate::octet::pct_encoded;
 pub use crate::split::Split;
 use std::alloc::AllocError;

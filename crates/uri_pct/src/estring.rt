@@ -1,0 +1,245 @@
+//! Owned texts that are percent-encoded over an encoder's set (RFC 3986, section 2.1).
+ghost use Rattle.std.specs.Prelude.{◌≡◌, ◌≤◌, ◌++◌, ◌∷◌, [], OnOk, OnErr, IfOk, IsTrue, true, encode_utf8, string_bytes};
+ghost use Rattle.std.specs.String.{string_capacity};
+ghost use Rattle.uri_pct.specs.EStrs.{text_of};
+ghost use Rattle.uri_pct.specs.Encoding.{encode_text, encode_bytes};
+ghost use Rattle.uri_pct.specs.Sets.{IsSubset, LacksPercent, allows};
+ghost use Rattle.uri_pct.specs.Tokens.{Char, tokens, print, is_valid_for, IsValidFor};
+
+use crate::encode::{append_bytes, append_text};
+use crate::encoder::Encoder;
+use crate::pct_enc::EStr;
+use std::alloc::{AllocError, Global};
+use std::cmp::Ordering;
+use std::fmt;
+use std::hash::{Hash, Hasher};
+use std::marker::PhantomData;
+
+/// A text of its own that is valid for `E`, as an `EStr<E>` is. It grows, and keeps the allocator
+/// that it was handed.
+#[derive(Drop)]
+pub struct EString<E: Encoder> {
+    text: String,
+    encoder: PhantomData<E>,
+    pub ghost valid: { is_valid_for E.set (string_bytes text) ≡ true },
+    pub ghost lacks_percent: { LacksPercent E.set },
+}
+
+#[tactic(auto, using(crate::proofs::EStrs::valid_empty))]
+impl<E: Encoder> EString<E> {
+    ghost use Rattle.uri_pct.specs.EStrings.{owned_text, owned_capacity};
+
+    /// The text, which the table of `E` allows.
+    fn of_text(text: String) -> EString<E>
+        requires { IsValidFor E.set (string_bytes text) }
+        ensures text { owned_text result ≡ string_bytes text }
+        ensures capacity { owned_capacity result ≡ string_capacity text }
+    {
+        let _table = E::table();
+        EString {
+            text,
+            encoder: PhantomData,
+        }
+    }
+
+    /// The empty text, which takes no memory yet.
+    pub fn new(alloc: Global) -> EString<E>
+        ensures { owned_text result ≡ [] }
+    {
+        EString::of_text(String::new(alloc))
+    }
+
+    /// The empty text, with room for `capacity` bytes.
+    pub fn with_capacity(alloc: Global, capacity: usize) -> Result<EString<E>, AllocError>
+        ensures text { IfOk result (λ s. owned_text s ≡ []) }
+        ensures capacity { IfOk result (λ s. capacity ≤ owned_capacity s) }
+    {
+        Ok(EString::of_text(String::with_capacity(alloc, capacity)?))
+    }
+
+    /// The text, for as long as the value is borrowed.
+    pub fn as_estr(&self) -> EStr<'_, E>
+        ensures { text_of result ≡ owned_text self.now }
+    {
+        EStr::new_unchecked(self.text.as_str())
+    }
+
+    /// How many bytes the text may have before it takes more memory.
+    pub fn capacity(&self) -> usize
+        ensures { result ≡ owned_capacity self.now }
+    {
+        self.text.capacity()
+    }
+
+    /// Leaves the empty text, and keeps the memory.
+    pub fn clear(&mut self)
+        ensures text { owned_text self.new ≡ [] }
+        ensures capacity { owned_capacity self.new ≡ owned_capacity self.old }
+    {
+        self.text.clear();
+    }
+
+    /// The text as it stands.
+    pub fn into_string(self) -> String
+        ensures { string_bytes result ≡ owned_text self }
+    {
+        self.text
+    }
+
+    /// Appends the text, encoded by `SubE`: each character that its table allows as it is, and
+    /// each other as the octets of its UTF-8 (RFC 3986, section 2.1).
+    ///
+    /// The table of `E` allows all that the table of `SubE` allows, and this one allows
+    /// percent-encoded octets: `Table::is_subset` and `Table::allows_pct_encoded` test it.
+    /// Where memory is refused, the text is as it was.
+    pub fn encode_str<SubE: Encoder>(&mut self, text: &str) -> Result<(), AllocError>
+        requires subset { IsSubset SubE.set E.set }
+        requires octets { IsTrue (SubE.set).pct_encoded }
+        ensures text { OnOk result (owned_text self.new ≡ owned_text self.old ++ print (encode_text SubE.set text.now)) }
+        ensures tokens { OnOk result (tokens (owned_text self.new) ≡ tokens (owned_text self.old) ++ encode_text SubE.set text.now) }
+        ensures kept { OnErr result (owned_text self.new ≡ owned_text self.old) }
+    {
+        append_text(&SubE::table(), text, &mut self.text)?;
+        Ok(())
+    }
+
+    /// Appends the bytes, encoded by `SubE`: each character in UTF-8 as `encode_str` does, and each
+    /// byte of an ill-formed part as an octet (RFC 3986, section 2.1).
+    ///
+    /// The table of `E` allows all that the table of `SubE` allows, and this one allows
+    /// percent-encoded octets: `Table::is_subset` and `Table::allows_pct_encoded` test it.
+    /// Where memory is refused, the text is as it was.
+    pub fn encode_bytes<SubE: Encoder>(&mut self, bytes: &[u8]) -> Result<(), AllocError>
+        requires subset { IsSubset SubE.set E.set }
+        requires octets { IsTrue (SubE.set).pct_encoded }
+        ensures text { OnOk result (owned_text self.new ≡ owned_text self.old ++ print (encode_bytes SubE.set bytes.now)) }
+        ensures tokens { OnOk result (tokens (owned_text self.new) ≡ tokens (owned_text self.old) ++ encode_bytes SubE.set bytes.now) }
+        ensures kept { OnErr result (owned_text self.new ≡ owned_text self.old) }
+    {
+        append_bytes(&SubE::table(), bytes, &mut self.text)?;
+        Ok(())
+    }
+
+    /// Appends a character that the table of `E` allows: `Table::allows` tests it.
+    ///
+    /// Where memory is refused, the text is as it was.
+    pub fn push(&mut self, ch: char) -> Result<(), AllocError>
+        requires { IsTrue (allows E.set ch) }
+        ensures text { OnOk result (owned_text self.new ≡ owned_text self.old ++ encode_utf8 ch) }
+        ensures tokens { OnOk result (tokens (owned_text self.new) ≡ tokens (owned_text self.old) ++ Char ch ∷ []) }
+        ensures kept { OnErr result (owned_text self.new ≡ owned_text self.old) }
+    {
+        self.text.push(ch)?;
+        Ok(())
+    }
+
+    /// Appends the text as it stands.
+    ///
+    /// Where memory is refused, the text is as it was.
+    pub fn push_estr(&mut self, text: EStr<'_, E>) -> Result<(), AllocError>
+        ensures text { OnOk result (owned_text self.new ≡ owned_text self.old ++ text_of text.entry) }
+        ensures tokens { OnOk result (tokens (owned_text self.new) ≡ tokens (owned_text self.old) ++ tokens (text_of text.entry)) }
+        ensures kept { OnErr result (owned_text self.new ≡ owned_text self.old) }
+    {
+        self.text.push_str(text.as_str())?;
+        Ok(())
+    }
+}
+
+impl<'a, E: Encoder> EStr<'a, E> {
+    ghost use Rattle.uri_pct.specs.EStrings.{owned_text};
+
+    /// The same text, of its own.
+    pub fn to_owned(self, alloc: Global) -> Result<EString<E>, AllocError>
+        ensures { IfOk result (λ s. owned_text s ≡ text_of self.entry) }
+    {
+        Ok(EString::of_text(String::from_str(alloc, self.as_str())?))
+    }
+}
+
+impl<E: Encoder> fmt::Display for EString<E> {
+    ghost use Rattle.std.specs.Prelude.{Some};
+    ghost use Rattle.uri_pct.specs.EStrings.{owned_text};
+
+    ghost output = { λ e. Some (owned_text e) };
+
+    fn fmt<W: fmt::Write>(&self, f: &mut fmt::Formatter<W>) -> fmt::Result {
+        f.write_str(self.text.as_str())
+    }
+}
+
+impl<E: Encoder> PartialEq for EString<E> {
+    ghost use Rattle.std.proofs.Common.{rules};
+    ghost use Rattle.std.specs.Prelude.{◌==◌};
+    ghost use Rattle.std.specs.Cmp.Rules.{comparing};
+    ghost use Rattle.std.specs.Ordering.{on};
+    ghost use Rattle.std.specs.Cmp.Lexicographic.{pointwise};
+    ghost use Rattle.uri_pct.specs.EStrings.{owned_text};
+
+    ghost eq = { on owned_text (pointwise ◌==◌) };
+
+    ghost laws = { Prim.search (comparing, rules) };
+
+    fn eq(&self, other: &Self) -> bool {
+        self.text.as_str() == other.text.as_str()
+    }
+}
+
+impl<E: Encoder> Eq for EString<E> {
+    ghost use Rattle.std.proofs.Common.{rules};
+    ghost use Rattle.std.specs.Cmp.Rules.{comparing};
+
+    ghost laws = { Prim.search (comparing, rules) };
+}
+
+impl<E: Encoder> Ord for EString<E> {
+    ghost use Rattle.std.proofs.Common.{rules};
+    ghost use Rattle.std.specs.Cmp.Rules.{comparing};
+    ghost use Rattle.std.specs.Ordering.{on, nat_cmp};
+    ghost use Rattle.std.specs.Cmp.Lexicographic.{slice_cmp};
+    ghost use Rattle.uri_pct.specs.EStrings.{owned_text};
+
+    ghost cmp = { on owned_text (slice_cmp nat_cmp) };
+
+    ghost total = { Prim.search (comparing, rules) };
+
+    ghost matches_partial_cmp = { Prim.search (comparing, rules) };
+
+    ghost matches_eq = { Prim.search (comparing, rules) };
+
+    fn cmp(&self, other: &Self) -> Ordering {
+        self.text.as_str().cmp(other.text.as_str())
+    }
+}
+
+impl<E: Encoder> PartialOrd for EString<E> {
+    ghost use Rattle.std.proofs.Common.{rules};
+    ghost use Rattle.std.specs.Cmp.Rules.{comparing};
+    ghost use Rattle.std.specs.Cmp.{partial_order_from_own_ties};
+    ghost use Rattle.std.specs.Ordering.{on, nat_cmp, as_partial_cmp};
+    ghost use Rattle.std.specs.Cmp.Lexicographic.{slice_cmp};
+    ghost use Rattle.uri_pct.specs.EStrings.{owned_text};
+
+    ghost partial_cmp = { as_partial_cmp (on owned_text (slice_cmp nat_cmp)) };
+
+    ghost laws = { partial_order_from_own_ties (Prim.search (comparing, rules)) (Prim.search (comparing, rules)) };
+
+    fn partial_cmp(&self, other: &Self) -> Option<Ordering> {
+        Some(self.cmp(other))
+    }
+}
+
+impl<E: Encoder> Hash for EString<E> {
+    ghost use Rattle.std.proofs.Common.{rules};
+    ghost use Rattle.std.specs.Hash as fed;
+    ghost use Rattle.std.specs.Cmp.Rules.{comparing, hashing};
+    ghost use Rattle.uri_pct.specs.EStrings.{owned_text};
+
+    ghost hash_input = { λ e. fed.str (owned_text e) };
+
+    ghost respects_eq = { Prim.search (hashing, rules) };
+
+    fn hash<H: Hasher>(&self, state: &mut H) {
+        self.text.as_str().hash(state);
+    }
+}
