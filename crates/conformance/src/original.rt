@@ -1,13 +1,13 @@
 //! What the original answers, replayed.
 mod recorded;
 
-use self::recorded::RECORDED;
+use self::recorded::Row;
 use fluent_uri::component::{Authority, Scheme};
 use fluent_uri::pct_enc::EStr;
 use fluent_uri::pct_enc::encoder::Encoder;
 use fluent_uri::{Iri, IriRef, ParseError, Uri, UriRef};
 use std::alloc::{AllocError, Global};
-use std::test::Fail;
+use std::process::Abort;
 
 /// A kind that a text is parsed as.
 #[derive(Clone, Copy)]
@@ -98,11 +98,50 @@ fn push_line(out: &mut String, name: &str, component: Option<&str>) -> Result<()
     Ok(())
 }
 
-#[test]
-fn answers_are_those_of_the_original(rt: HostRuntime) -> Result<(), Fail> {
-    for &(kind, text, wanted) in RECORDED {
-        let got = answer(rt.alloc(), kind, text)?;
+fn replays<R: Abort>(rt: &R, alloc: Global, kind: Kind, rows: &[Row]) -> Result<(), AllocError> {
+    for &(text, wanted) in rows {
+        let got = answer(alloc, kind, text)?;
         assert_eq!(rt; got.as_str(), wanted, "{text}");
     }
     Ok(())
+}
+
+#[test]
+fn uris_that_are_accepted(rt: HostRuntime) -> Result<(), AllocError> {
+    replays(&rt, rt.alloc(), Kind::Uri, recorded::URI_ACCEPTED)
+}
+
+#[test]
+fn refused_uris(rt: HostRuntime) -> Result<(), AllocError> {
+    replays(&rt, rt.alloc(), Kind::Uri, recorded::URI_REFUSED)
+}
+
+#[test]
+fn uri_references_that_are_accepted(rt: HostRuntime) -> Result<(), AllocError> {
+    replays(&rt, rt.alloc(), Kind::UriRef, recorded::URI_REF_ACCEPTED)
+}
+
+#[test]
+fn refused_uri_references(rt: HostRuntime) -> Result<(), AllocError> {
+    replays(&rt, rt.alloc(), Kind::UriRef, recorded::URI_REF_REFUSED)
+}
+
+#[test]
+fn iris_that_are_accepted(rt: HostRuntime) -> Result<(), AllocError> {
+    replays(&rt, rt.alloc(), Kind::Iri, recorded::IRI_ACCEPTED)
+}
+
+#[test]
+fn refused_iris(rt: HostRuntime) -> Result<(), AllocError> {
+    replays(&rt, rt.alloc(), Kind::Iri, recorded::IRI_REFUSED)
+}
+
+#[test]
+fn iri_references_that_are_accepted(rt: HostRuntime) -> Result<(), AllocError> {
+    replays(&rt, rt.alloc(), Kind::IriRef, recorded::IRI_REF_ACCEPTED)
+}
+
+#[test]
+fn refused_iri_references(rt: HostRuntime) -> Result<(), AllocError> {
+    replays(&rt, rt.alloc(), Kind::IriRef, recorded::IRI_REF_REFUSED)
 }
