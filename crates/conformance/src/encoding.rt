@@ -187,22 +187,38 @@ fn decoded_to_text(rt: HostRuntime) -> Result<(), Fail> {
     Ok(())
 }
 
+/// The bytes, which are borrowed where that is wanted, and else owned.
+fn bytes_of<'a, R: Abort>(rt: &R, bytes: &'a CowSlice<'_, u8>, borrowed: bool) -> &'a [u8] {
+    match bytes {
+        CowSlice::Borrowed(bytes) => {
+            assert!(rt; borrowed, "{bytes:?}");
+            bytes
+        }
+        CowSlice::Owned(bytes) => {
+            assert!(rt; !borrowed, "{bytes:?}");
+            bytes.as_slice()
+        }
+    }
+}
+
+/// The bytes that are not UTF-8.
+fn refused<'a>(answer: &'a Result<CowStr<'_>, DecodeError>) -> Option<&'a [u8]> {
+    match answer {
+        Err(DecodeError::NotUtf8(bytes)) => Some(bytes.as_slice()),
+        _ => None,
+    }
+}
+
 #[test]
 fn decoded_bytes(rt: HostRuntime) -> Result<(), Fail> {
+    let wanted = [0xF0, 0x90, 0x8C, 0x78, 0x80];
     let path = valid::<_, Path>(&rt, "%F0%90%8Cx%80");
-    let wanted: &[u8] = &[0xF0, 0x90, 0x8C, 0x78, 0x80];
-    match path.decode().to_bytes(rt.alloc())? {
-        CowSlice::Owned(bytes) => assert_eq!(rt; bytes.as_slice(), wanted),
-        CowSlice::Borrowed(_) => assert!(rt; false),
-    }
-    match path.decode().to_string(rt.alloc()) {
-        Err(DecodeError::NotUtf8(bytes)) => assert_eq!(rt; bytes.as_slice(), wanted),
-        _ => assert!(rt; false),
-    }
-    match valid::<_, Path>(&rt, "a/b").decode().to_bytes(rt.alloc())? {
-        CowSlice::Borrowed(bytes) => assert_eq!(rt; bytes, b"a/b"),
-        CowSlice::Owned(_) => assert!(rt; false),
-    }
+    let bytes = path.decode().to_bytes(rt.alloc())?;
+    assert!(rt; bytes_of(&rt, &bytes, false) == wanted.as_slice());
+    let string = path.decode().to_string(rt.alloc());
+    assert!(rt; refused(&string).is_some_and(|bytes| bytes == wanted.as_slice()));
+    let bytes = valid::<_, Path>(&rt, "a/b").decode().to_bytes(rt.alloc())?;
+    assert!(rt; bytes_of(&rt, &bytes, true) == b"a/b".as_slice());
     Ok(())
 }
 
@@ -228,6 +244,7 @@ fn rest_that_is_decoded(rt: HostRuntime) -> Result<(), Fail> {
 }
 
 #[test]
+#[tactic(auto, using(crate::proofs::Delimiters::reserved))]
 fn pieces_from_both_ends(rt: HostRuntime) {
     assert!(rt; table::RESERVED.allows('/'));
     let mut pieces = valid::<_, Path>(&rt, "a/b/c").split('/');
@@ -239,6 +256,7 @@ fn pieces_from_both_ends(rt: HostRuntime) {
 }
 
 #[test]
+#[tactic(auto, using(crate::proofs::Delimiters::reserved))]
 fn empty_pieces(rt: HostRuntime) {
     assert!(rt; table::RESERVED.allows(','));
     let mut pieces = valid::<_, Path>(&rt, ",").split(',');
@@ -250,11 +268,15 @@ fn empty_pieces(rt: HostRuntime) {
     assert_eq!(rt; pieces.next_back().map(EStr::as_str), None);
 }
 
+fn texts<'a>((before, after): (EStr<'a, Path>, EStr<'a, Path>)) -> (&'a str, &'a str) {
+    (before.as_str(), after.as_str())
+}
+
 #[test]
+#[tactic(auto, using(crate::proofs::Delimiters::reserved))]
 fn cut_once(rt: HostRuntime) {
     assert!(rt; table::RESERVED.allows(';'));
     let path = valid::<_, Path>(&rt, "foo;bar;baz");
-    let texts = |(before, after): (EStr<'static, Path>, EStr<'static, Path>)| (before.as_str(), after.as_str());
     assert_eq!(rt; path.split_once(';').map(texts), Some(("foo", "bar;baz")));
     assert_eq!(rt; path.rsplit_once(';').map(texts), Some(("foo;bar", "baz")));
     assert_eq!(rt; path.split_once(',').map(texts), None);
@@ -278,6 +300,7 @@ fn segments(rt: HostRuntime) -> Result<(), Fail> {
 }
 
 #[test]
+#[tactic(auto, using(crate::proofs::Delimiters::reserved))]
 fn pairs_of_a_query(rt: HostRuntime) -> Result<(), Fail> {
     let reference = UriRef::<&str>::parse("?name=%E5%BC%A0%E4%B8%89&speech=%C2%A1Ol%C3%A9%21")?;
     let query = reference.query().ok_or("a query")?;
@@ -323,16 +346,26 @@ fn texts_compare_by_bytes(rt: HostRuntime) -> Result<(), Fail> {
 
 /// The calls at encoders of a caller: octets alone, private use alone, and nothing.
 #[test]
+#[tactic(auto, using(crate::proofs::Delimiters::reserved))]
 fn own_encoders(rt: HostRuntime) -> Result<(), Fail> {
     let octets = valid::<_, Octets>(&rt, "%61%ff");
-    assert_eq!(rt; octets.decode().next(), Some(DecodedChunk::PctDecoded(0x61)));
+    assert_eq!(rt;
+        octets.decode().next(),
+        Some(DecodedChunk::PctDecoded(0x61))
+    );
     assert_eq!(rt; EStr::<Octets>::encode_byte(b'a').as_str(), "%61");
-    assert_eq!(rt; octets.split('/').next_back().map(EStr::as_str), Some("%61%ff"));
+    assert_eq!(rt;
+        octets.split('/').next_back().map(EStr::as_str),
+        Some("%61%ff")
+    );
     let private = valid::<_, Private>(&rt, "\u{F8FF}\u{F0000}");
     assert_eq!(rt; private.len(), 7);
     assert!(rt; private.is_unencoded() && private.split_once('&').is_none());
-    assert_eq!(rt; private.split('&').next().map(EStr::as_str), Some("\u{F8FF}\u{F0000}"));
-    assert_eq!(rt; private.to_owned(rt.alloc())?.as_estr(), private);
+    assert_eq!(rt;
+        private.split('&').next().map(EStr::as_str),
+        Some("\u{F8FF}\u{F0000}")
+    );
+    assert!(rt; private.to_owned(rt.alloc())?.as_estr() == private);
     let nothing = valid::<_, Nothing>(&rt, "");
     assert!(rt; nothing.is_empty() && nothing == EStr::default());
     assert!(rt; nothing.rsplit_once('=').is_none());
