@@ -1,8 +1,4 @@
 use Rattle.std.proofs.Common.{refl}
-use Rattle.std.specs.Str.{chars}
-use Rattle.uri_pct.specs.Tokens.{is_valid_for, tokens_of}
-use Rattle.uri_parts.specs.Authority.{is_authority_for}
-use Rattle.uri_parts.specs.Hosts.{is_host, ipv4_value}
 use Rattle.uri_parts.proofs.AuthorityPlaces.{empty_is}
 use Rattle.uri_parts.proofs.component.Authority.EMPTY.Goals as goal
 

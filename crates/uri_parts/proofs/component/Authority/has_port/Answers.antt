@@ -1,8 +1,8 @@
-use Rattle.std.proofs.Common.{◌≡◌, ℕ, ◌<◌, ◌∙◌, length, not, eqb, ap, sym, arith, ⊎_elim}
+use Rattle.std.proofs.Common.{◌≡◌, ◌∙◌, length, not, eqb, ap, arith, ⊎_elim}
 use Rattle.std.specs.Prelude.{is_some}
 use Rattle.std.specs.Str.{IsUtf8}
 use Rattle.std.proofs.lemmas.Bool.{eq-eqb, ne_eqb}
-use Rattle.uri_parts.proofs.AuthorityPlaces.{HasPort, port_place}
+use Rattle.uri_parts.proofs.AuthorityPlaces.{port_place}
 use Rattle.uri_parts.specs.Positions.{host_end_of}
 use Rattle.uri_parts.proofs.component.Authority.has_port.Goals as goal
 

@@ -1,7 +1,5 @@
-use Rattle.std.proofs.Common.{◌≡◌, ℕ, ◌∙◌, ap, sym, subst}
-use Rattle.std.specs.Prelude.{slice_range}
-use Rattle.std.specs.Str.{IsCharBoundary}
-use Rattle.uri_parts.proofs.AuthorityPlaces.{LiesIn, host_place}
+use Rattle.std.proofs.Common.{◌∙◌}
+use Rattle.uri_parts.proofs.AuthorityPlaces.{host_place}
 use Rattle.uri_parts.proofs.component.Authority.host.Goals as goal
 
 pub range-requires-clause-start_boundary : goal.range-requires-clause-start_boundary

@@ -1,9 +1,8 @@
-use Rattle.std.proofs.Common.{◌≡◌, ℕ, ◌∙◌, List, ap, sym, true, false, Some, None, Bool, drop}
-use Rattle.std.specs.Prelude.{codes, option_map, is_some}
+use Rattle.std.proofs.Common.{◌≡◌, ◌∙◌, ap, sym, true, false, Some, None, drop}
+use Rattle.std.specs.Prelude.{codes}
 use Rattle.uri_parts.specs.Addresses.{ipv4_octets, ipv6_segments}
-use Rattle.uri_parts.specs.Authority.{authority_parts}
 use Rattle.uri_parts.specs.Components.{starts, before_any}
-use Rattle.uri_parts.specs.Hosts.{host_kind, ipv4_value, ipv6_value}
+use Rattle.uri_parts.specs.Hosts.{host_kind, ipv4_value}
 use Rattle.uri_parts.proofs.AuthorityPlaces.{holds, name_valid, name_kind_of, literal_kind_of}
 use Rattle.uri_parts.proofs.component.Authority.host_parsed.Goals as goal
 

@@ -1,8 +1,8 @@
-use Rattle.std.proofs.Common.{◌≡◌, ℕ, ◌<◌, ◌≤◌, ◌+◌, ◌^◌, ◌∙◌, length, drop, ap, sym, subst, arith, ⊎_elim, None, Some}
-use Rattle.std.specs.Str.{IsUtf8, IsCharBoundary}
+use Rattle.std.proofs.Common.{◌≡◌, ◌∙◌, length, ap, sym, arith, ⊎_elim, Some}
+use Rattle.std.specs.Str.{IsUtf8}
 use Rattle.uri_pct.specs.Sets.{digit_set}
 use Rattle.uri_pct.specs.Tokens.{is_valid_for}
-use Rattle.uri_parts.proofs.AuthorityPlaces.{HasPort, port_place, with_port}
+use Rattle.uri_parts.proofs.AuthorityPlaces.{port_place, with_port}
 use Rattle.uri_parts.specs.Authority.{authority_parts}
 use Rattle.uri_parts.specs.Positions.{host_end_of}
 use Rattle.uri_parts.proofs.component.Authority.port.Goals as goal

@@ -1,6 +1,6 @@
-use Rattle.std.proofs.Common.{◌≡◌, ℕ, ◌<◌, ◌-◌, ◌∙◌, take, ap, sym, subst, arith}
+use Rattle.std.proofs.Common.{◌≡◌, ◌<◌, ◌-◌, ◌∙◌, take, ap, arith}
 use Rattle.uri_pct.specs.Tokens.{is_valid_for}
-use Rattle.uri_parts.proofs.AuthorityPlaces.{HasUser, user_place}
+use Rattle.uri_parts.proofs.AuthorityPlaces.{user_place}
 use Rattle.uri_parts.specs.Positions.{host_start_of}
 use Rattle.uri_parts.proofs.component.Authority.userinfo.Goals as goal
 
