@@ -1,5 +1,5 @@
 -- Texts without octets and without characters past ASCII.
-use Rattle.std.proofs.Common.{◌≡◌, ℕ, Bool, true, false, ltb, List, [], ◌∷◌, refl, sym, ap, ◌∙◌, ◌&&◌, ⊎_elim}
+use Rattle.std.proofs.Common.{◌≡◌, ℕ, Bool, false, ltb, List, [], ◌∷◌, refl, sym, ap, ◌∙◌, ◌&&◌, ⊎_elim}
 use Rattle.std.specs.List.{list_all}
 use Rattle.std.specs.Str.{IsUtf8, continuation_len}
 use Rattle.std.proofs.lemmas.Bool.{cases_lt, and_left, cond-true, lt-ltb, le-ltb}

@@ -1,8 +1,6 @@
 -- Rows of the table of default ports, and ports as numbers.
-use Rattle.std.proofs.Common.{◌≡◌, ℕ, true, false, List, [], ◌∷◌, map, length, refl, Some, None, codes, bytes_eq, ◌&&◌, not}
-use Rattle.std.specs.List.{list_all}
+use Rattle.std.proofs.Common.{◌≡◌, [], map, length, refl, Some, None, codes}
 use Rattle.std.specs.Str.{str_to_ascii_lowercase}
-use Rattle.uri_parts.specs.Grammar.{is_scheme}
 use Rattle.uri_parts.specs.PortNumbers.{port_number}
 use Rattle.uri_parts.specs.SchemePorts.{scheme_ports, default_port}
 

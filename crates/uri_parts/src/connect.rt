@@ -72,10 +72,7 @@ impl<'a, U: Encoder, R: Encoder> Authority<'a, U, R> {
             HostOf::Ipv4(address) => Ok(SocketTarget::V4(address, port)),
             HostOf::Ipv6(address) => Ok(SocketTarget::V6(address, port)),
             HostOf::IpvFuture => Err(SocketError::UnsupportedMechanism),
-            HostOf::RegName(name) => match decoded_name(alloc, name) {
-                Ok(name) => Ok(SocketTarget::Name(name, port)),
-                Err(error) => Err(error),
-            },
+            HostOf::RegName(name) => Ok(SocketTarget::Name(decoded_name(alloc, name)?, port)),
         }
     }
 }
