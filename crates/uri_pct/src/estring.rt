@@ -1,5 +1,5 @@
 //! Owned texts that are percent-encoded over an encoder's set (RFC 3986, section 2.1).
-ghost use Rattle.std.specs.Prelude.{◌≡◌, ◌≤◌, ◌++◌, ◌∷◌, [], OnOk, OnErr, IfOk, IsTrue, true, encode_utf8, string_bytes};
+ghost use Rattle.std.specs.Prelude.{◌≡◌, ◌<◌, ◌≤◌, ◌+◌, ◌++◌, ◌∷◌, [], OnOk, OnErr, IfOk, IsTrue, true, encode_utf8, length, string_bytes};
 ghost use Rattle.std.specs.String.{string_capacity};
 ghost use Rattle.uri_pct.specs.EStrs.{text_of};
 ghost use Rattle.uri_pct.specs.Encoding.{encode_text, encode_bytes};
@@ -122,12 +122,13 @@ impl<E: Encoder> EString<E> {
 
     /// Appends a character that the table of `E` allows: `Table::allows` tests it.
     ///
-    /// Where memory is refused, the text is as it was.
+    /// Where memory is refused, which it isn't within the capacity, the text is as it was.
     pub fn push(&mut self, ch: char) -> Result<(), AllocError>
         requires { IsTrue (allows E.set ch) }
         ensures text { OnOk result (owned_text self.new ≡ owned_text self.old ++ encode_utf8 ch) }
         ensures tokens { OnOk result (tokens (owned_text self.new) ≡ tokens (owned_text self.old) ++ Char ch ∷ []) }
         ensures kept { OnErr result (owned_text self.new ≡ owned_text self.old) }
+        ensures full { OnErr result (owned_capacity self.old < length (owned_text self.old) + length (encode_utf8 ch)) }
     {
         self.text.push(ch)?;
         Ok(())
@@ -135,11 +136,12 @@ impl<E: Encoder> EString<E> {
 
     /// Appends the text as it stands.
     ///
-    /// Where memory is refused, the text is as it was.
+    /// Where memory is refused, which it isn't within the capacity, the text is as it was.
     pub fn push_estr(&mut self, text: EStr<'_, E>) -> Result<(), AllocError>
         ensures text { OnOk result (owned_text self.new ≡ owned_text self.old ++ text_of text.entry) }
         ensures tokens { OnOk result (tokens (owned_text self.new) ≡ tokens (owned_text self.old) ++ tokens (text_of text.entry)) }
         ensures kept { OnErr result (owned_text self.new ≡ owned_text self.old) }
+        ensures full { OnErr result (owned_capacity self.old < length (owned_text self.old) + length (text_of text.entry)) }
     {
         self.text.push_str(text.as_str())?;
         Ok(())
