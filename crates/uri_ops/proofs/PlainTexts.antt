@@ -1,16 +1,15 @@
 -- Texts without octets and without characters past ASCII, such as schemes, and the same in lower case.
-use Rattle.std.proofs.Common.{◌≡◌, ℕ, zero, suc, Bool, true, false, eqb, ltb, List, [], ◌∷◌, refl, sym, ap, ◌∙◌, arith, ◌&&◌, ⊎_elim}
+use Rattle.std.proofs.Common.{◌≡◌, ℕ, zero, suc, Bool, true, false, eqb, ltb, List, [], ◌∷◌, refl, sym, ap, ◌∙◌, arith}
 use Rattle.std.specs.Prelude.{slice_index}
 use Rattle.std.specs.Char.{is_ascii_alphabetic, to_ascii_lowercase}
 use Rattle.std.specs.List.{list_all}
-use Rattle.std.specs.Str.{IsUtf8, IsAscii, continuation_len, str_to_ascii_lowercase}
+use Rattle.std.specs.Str.{IsUtf8, IsAscii, str_to_ascii_lowercase}
 use Rattle.std.proofs.lemmas.Str.{IsUtf8-from_ascii}
 use Rattle.std.proofs.lemmas.Str.Ascii.{lowercase_ascii, lowercase-lowercase}
-use Rattle.std.proofs.lemmas.Bool.{cases_lt, and_left, and_right, and_from, cond-false, eqb-true, both_ways, false_from_ne_true, and_parts, cond-true, lt-ltb, le-ltb, ltb-true}
+use Rattle.std.proofs.lemmas.Bool.{and_left, and_right, and_from, cond-false, eqb-true, both_ways, false_from_ne_true, and_parts, cond-true, lt-ltb, ltb-true}
 use Rattle.std.proofs.lemmas.Bool.Decides.{nat_tests}
-use Rattle.uri_pct.specs.Sets.{TableSet, LacksPercent, plain, is_scheme_char, allows_past_ascii}
-use Rattle.uri_pct.specs.Tokens.{is_valid_for}
-use Rattle.uri_pct.proofs.Validity.{valid_from, valid_cons, is_valid_for-bytes, allows_first-ascii, allows_first-past}
+use Rattle.uri_pct.specs.Sets.{TableSet, LacksPercent, is_scheme_char}
+use Rattle.uri_pct.proofs.Validity.{valid_from, valid_cons, is_valid_for-bytes, allows_first-ascii}
 use Rattle.uri_parts.specs.Grammar.{is_scheme}
 pub use Rattle.uri_parts.proofs.PlainSets.{is_plain_char, valid_plain}
 use Rattle.uri_ops.proofs.Parts.{is_part, part_from}
