@@ -1,10 +1,9 @@
 -- The set of the characters that are read where octets spell them.
-use Rattle.std.proofs.Common.{◌≡◌, ℕ, ◌<◌, Bool, true, false, refl, sym, ap, ◌∙◌, arith, ◌||◌, ⊎_elim}
+use Rattle.std.proofs.Common.{◌≡◌, ℕ, ◌<◌, false, sym, ap, ◌∙◌, arith, ◌||◌, ⊎_elim}
 use Rattle.std.proofs.Math.Bool.{or-false}
 use Rattle.std.proofs.lemmas.Bool.{cond-true, cond-false, le-ltb, lt-ltb, false_from_ne_true, cases_lt}
-use Rattle.uri_pct.specs.Masks.{has_bit}
 use Rattle.uri_pct.specs.Reading.{is_readable}
-use Rattle.uri_pct.specs.Sets.{TableSet, allows, allows_past_ascii, is_unreserved, unreserved_set}
+use Rattle.uri_pct.specs.Sets.{TableSet, allows, allows_past_ascii, is_unreserved}
 use Rattle.uri_pct.proofs.Allowed.{past_ascii_scalar}
 use Rattle.uri_pct.proofs.Constants.{unreserved_table, unreserved_past}
 use Rattle.uri_pct.proofs.Tables.{set_of_masks}
