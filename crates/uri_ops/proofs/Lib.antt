@@ -37,3 +37,7 @@ pub mod EncodedTargets
 pub mod EncodedAuthorities
 pub mod EncodedMeanings
 pub mod WiderKinds
+pub mod ReadParts
+pub mod Cased
+pub mod TakenReadings
+pub mod Decodable

@@ -8,5 +8,9 @@ pub mod canonical;
 #[doc(hidden)]
 pub mod laws;
 #[doc(hidden)]
+pub mod normal_authority;
+#[doc(hidden)]
+pub mod reading;
+#[doc(hidden)]
 pub mod swap;
 pub mod traits;

@@ -17,6 +17,7 @@ pub mod Pieces
 pub mod CharacterPieces
 pub mod Printing
 pub mod Allowed
+pub mod Readable
 pub mod Reading
 pub mod Rereading
 pub mod Octets

@@ -10,7 +10,8 @@ use crate::utf8::char_at;
 use std::alloc::AllocError;
 
 /// Appends each byte as an octet.
-fn push_octets(bytes: &[u8], out: &mut String) -> Result<(), AllocError>
+#[doc(hidden)]
+pub fn push_octets(bytes: &[u8], out: &mut String) -> Result<(), AllocError>
     ensures ok { OnOk result
         (string_bytes out.new ≡ string_bytes out.old ++ print (map Octet bytes.now)) }
     ensures keeps { take (length (string_bytes out.old)) (string_bytes out.new) ≡ string_bytes out.old }

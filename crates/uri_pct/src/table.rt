@@ -1,10 +1,11 @@
 //! Sets of characters (RFC 3986, appendix A; RFC 3987, section 2.2).
-ghost use Rattle.std.specs.Prelude.{◌≡◌, ◌<◌, ◌≤◌, ◌+◌, ◌↔◌, ◌==◌, IsTrue, true, false, length, drop, slice_index};
+ghost use Rattle.std.specs.Prelude.{◌≡◌, ◌<◌, ◌≤◌, ◌+◌, ◌↔◌, ◌==◌, ℕ, IsTrue, true, false, length, drop, slice_index};
 ghost use Rattle.std.specs.Int.{bit_at};
 ghost use Rattle.std.specs.List.{list_all};
 ghost use Rattle.std.specs.Str.{IsCharBoundary};
 ghost use Rattle.uri_pct.specs.Fronts.{front};
 ghost use Rattle.uri_pct.specs.Masks.{has_bit, is_plain_ascii};
+ghost use Rattle.uri_pct.specs.Reading.{is_readable};
 ghost use Rattle.uri_pct.specs.Sets.{allows, allows_past_ascii, is_ucschar, is_iprivate, is_one_of, plain, union, difference, IsSubset};
 
 /// A set of ASCII characters other than `%`, and three flags: whether percent-encoded octets,
@@ -176,6 +177,21 @@ impl Table {
             self.allows_ascii(ch as u8)
         } else {
             self.allows_past_ascii(ch)
+        }
+    }
+
+    /// The characters that are read where octets spell them (RFC 3986, section 6.2.2.2; RFC 3987,
+    /// section 5.3.2.3): the unreserved ones, and those past ASCII that the table allows.
+    #[doc(hidden)]
+    pub fn readable(&self) -> Table
+        ensures { (c : ℕ) → allows (set_of result) c ≡ is_readable (set_of self.now) c }
+    {
+        Table {
+            low: UNRESERVED.low,
+            high: UNRESERVED.high,
+            pct_encoded: false,
+            ucschar: self.ucschar,
+            iprivate: self.iprivate,
         }
     }
 }

@@ -1,0 +1,112 @@
+//! Authorities in normal form (RFC 3986, sections 6.2.2 and 6.2.3; RFC 3987, section 5.3.2).
+ghost use Rattle.std.specs.Prelude.{◌≡◌, ◌++◌, ◌==◌, [], OnOk, codes, false, option_map, string_bytes};
+ghost use Rattle.std.specs.Option.{option_map_or};
+ghost use Rattle.uri_pct.specs.Reading.{read};
+ghost use Rattle.uri_pct.specs.Tokens.{print};
+ghost use Rattle.uri_parts.specs.Authority.{authority_parts};
+ghost use Rattle.uri_parts.specs.AuthorityTexts.{authority_text};
+ghost use Rattle.uri_parts.specs.Components.{marked};
+ghost use Rattle.uri_parts.specs.Grammar.{Kind};
+ghost use Rattle.uri_parts.specs.Hosts.{host_kind};
+ghost use Rattle.uri_ops.specs.Meaning.{authority_meaning, host_meaning, port_meaning};
+ghost use Rattle.uri_ops.specs.Normal.{host_text, normal_authority};
+
+use crate::reading::{push_component, push_lower, push_read_host};
+use std::alloc::{AllocError, Global};
+use uri_parts::component::{Authority, HostOf};
+use uri_pct::encoder::Encoder;
+
+/// Appends the normal form of the authority, where `default` is the default port of its scheme: the
+/// userinfo and the host as they are read, and the port unless it is empty or the default.
+///
+/// After an error some of it may stand behind what was there.
+#[doc(hidden)]
+pub fn push_authority<U: Encoder, R: Encoder>(
+    alloc: Global,
+    authority: Authority<'_, U, R>,
+    default: Option<u16>,
+    out: &mut String,
+) -> Result<(), AllocError>
+    ensures { (kind : Kind) → kind.userinfo ≡ U.set → kind.reg_name ≡ R.set → OnOk result (string_bytes out.new ≡ string_bytes out.old ++ normal_authority (authority_meaning kind default (authority_text authority.entry))) }
+{
+    push_userinfo(alloc, authority, out)?;
+    push_host(alloc, authority, out)?;
+    push_port(authority, default, out)
+}
+
+/// Appends what is read of the userinfo, and its `@`.
+fn push_userinfo<U: Encoder, R: Encoder>(
+    alloc: Global,
+    authority: Authority<'_, U, R>,
+    out: &mut String,
+) -> Result<(), AllocError>
+    ensures { let p = authority_parts (authority_text authority.entry) in OnOk result (string_bytes out.new ≡ string_bytes out.old ++ marked [] (option_map print (option_map (read U.set) p.userinfo)) (codes "@")) }
+{
+    let Some(userinfo) = authority.userinfo() else {
+        return Ok(());
+    };
+    push_component(alloc, userinfo, out)?;
+    out.push('@')
+}
+
+/// Appends the normal form of the host: an IPv6 address by its numbers (RFC 5952), and every other
+/// host with its ASCII letters in lower case, a name as it is read.
+///
+/// After an error some of it may stand behind what was there.
+#[doc(hidden)]
+pub fn push_host<U: Encoder, R: Encoder>(
+    alloc: Global,
+    authority: Authority<'_, U, R>,
+    out: &mut String,
+) -> Result<(), AllocError>
+    ensures { let host = (authority_parts (authority_text authority.entry)).host in OnOk result (string_bytes out.new ≡ string_bytes out.old ++ host_text (host_meaning R.set host (host_kind host))) }
+{
+    let host = authority.host();
+    match authority.host_parsed() {
+        HostOf::Ipv4(_) => push_read_host(alloc, &R::table(), host, out),
+        HostOf::Ipv6(address) => write!(out, "[{address}]"),
+        HostOf::IpvFuture => push_lower(alloc, host, out),
+        HostOf::RegName(name) => push_read_host(alloc, &R::table(), name.as_str(), out),
+    }
+}
+
+/// Appends the port's `:` and its digits, unless it is empty or the default.
+fn push_port<U: Encoder, R: Encoder>(
+    authority: Authority<'_, U, R>,
+    default: Option<u16>,
+    out: &mut String,
+) -> Result<(), AllocError>
+    ensures { let p = authority_parts (authority_text authority.entry) in OnOk result (string_bytes out.new ≡ string_bytes out.old ++ marked (codes ":") (port_meaning default p.port) []) }
+{
+    let Some(digits) = kept_port(authority, default) else {
+        return Ok(());
+    };
+    out.push(':')?;
+    out.push_str(digits)
+}
+
+/// The port's digits, unless there are none or they write the default. A port over 65535 is no
+/// default.
+fn kept_port<'a, U: Encoder, R: Encoder>(
+    authority: Authority<'a, U, R>,
+    default: Option<u16>,
+) -> Option<&'a str>
+    ensures { let p = authority_parts (authority_text authority.entry) in option_map (λ digits. digits.now) result ≡ port_meaning default p.port }
+{
+    let port = authority.port()?;
+    match authority.port_to_u16() {
+        Ok(None) => None,
+        Ok(Some(number)) if is_number_of(default, number) => None,
+        _ => Some(port.as_str()),
+    }
+}
+
+/// Whether there is a default port, and it is this number.
+fn is_number_of(default: Option<u16>, number: u16) -> bool
+    ensures { result ≡ option_map_or (λ port. number == port) default false }
+{
+    match default {
+        Some(port) => number == port,
+        None => false,
+    }
+}

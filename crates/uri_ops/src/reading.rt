@@ -1,0 +1,141 @@
+//! Components as they are read (RFC 3986, sections 6.2.2.1 and 6.2.2.2; RFC 3987, section 5.3.2.3).
+ghost use Rattle.std.specs.Prelude.{◌≡◌, ◌++◌, OnOk, map, string_bytes};
+ghost use Rattle.std.specs.Str.{str_to_ascii_lowercase};
+ghost use Rattle.uri_pct.specs.Chunks.{widest_set};
+ghost use Rattle.uri_pct.specs.EStrs.{text_of};
+ghost use Rattle.uri_pct.specs.Reading.{read, lower_token};
+ghost use Rattle.uri_pct.specs.Tables.{set_of};
+ghost use Rattle.uri_pct.specs.Tokens.{print, IsValidFor};
+ghost use Rattle.uri_ops.specs.Readings.{cased};
+
+use std::alloc::{AllocError, Global};
+use std::mem;
+use uri_pct::decode::Decode;
+use uri_pct::encode::{push_octets, push_text};
+use uri_pct::encoder::Encoder;
+use uri_pct::parts::TakeParts;
+use uri_pct::pct_enc::EStr;
+use uri_pct::table::Table;
+
+/// A text that grows by what is read of a component, perhaps with its letters lowered.
+#[derive(Drop)]
+struct Reading {
+    alloc: Global,
+    table: Table,
+    lowers: bool,
+    text: String,
+}
+
+impl TakeParts for Reading {
+    ghost use Rattle.uri_ops.specs.Readings.{TookReading, took_nothing, took_on};
+
+    ghost took = { TookReading };
+
+    ghost takes_nothing = { took_nothing };
+
+    ghost takes_on = { took_on };
+
+    fn take_unencoded(&mut self, text: &str) -> Result<(), AllocError> {
+        if self.lowers {
+            push_lower(self.alloc, text, &mut self.text)
+        } else {
+            self.text.push_str(text)
+        }
+    }
+
+    fn take_well_formed(&mut self, text: &str) -> Result<(), AllocError> {
+        let readable = self.table.readable();
+        if self.lowers {
+            let lower = text.to_ascii_lowercase(self.alloc)?;
+            push_text(&readable, &lower, &mut self.text)
+        } else {
+            push_text(&readable, text, &mut self.text)
+        }
+    }
+
+    fn take_ill_formed(&mut self, bytes: &[u8]) -> Result<(), AllocError> {
+        push_octets(bytes, &mut self.text)
+    }
+}
+
+/// Appends what is read of the text, with its letters lowered where that is asked.
+fn push_cased(
+    alloc: Global,
+    table: &Table,
+    lowers: bool,
+    text: &str,
+    out: &mut String,
+) -> Result<(), AllocError>
+    requires { IsValidFor widest_set text.now }
+    ensures { OnOk result (string_bytes out.new ≡ string_bytes out.old ++ print (cased lowers (read (set_of table.now) text.now))) }
+{
+    let mut reading = Reading {
+        alloc,
+        table: *table,
+        lowers,
+        text: mem::replace(out, String::new(alloc)),
+    };
+    let taken = Decode::of_text(text).take_parts(alloc, &mut reading);
+    *out = reading.text;
+    taken
+}
+
+/// Appends what is read of the text: each character that octets spell as it is where it is readable,
+/// every other octet with upper-case digits, and all else as it stands.
+///
+/// After an error some of it may stand behind what was there.
+#[doc(hidden)]
+pub fn push_read(
+    alloc: Global,
+    table: &Table,
+    text: &str,
+    out: &mut String,
+) -> Result<(), AllocError>
+    requires { IsValidFor widest_set text.now }
+    ensures { OnOk result (string_bytes out.new ≡ string_bytes out.old ++ print (read (set_of table.now) text.now)) }
+{
+    push_cased(alloc, table, false, text, out)
+}
+
+/// Appends what is read of a component over its encoder, as `push_read` does.
+///
+/// After an error some of it may stand behind what was there.
+#[doc(hidden)]
+pub fn push_component<E: Encoder>(
+    alloc: Global,
+    component: EStr<'_, E>,
+    out: &mut String,
+) -> Result<(), AllocError>
+    ensures { OnOk result (string_bytes out.new ≡ string_bytes out.old ++ print (read E.set (text_of component.entry))) }
+{
+    push_read(alloc, &E::table(), component.as_str(), out)
+}
+
+/// Appends what is read of a name: as `push_read` does, with the ASCII letters in lower case, also
+/// those that octets spell.
+///
+/// After an error some of it may stand behind what was there.
+#[doc(hidden)]
+pub fn push_read_host(
+    alloc: Global,
+    table: &Table,
+    text: &str,
+    out: &mut String,
+) -> Result<(), AllocError>
+    requires { IsValidFor widest_set text.now }
+    ensures { OnOk result (string_bytes out.new ≡ string_bytes out.old ++ print (map lower_token (read (set_of table.now) text.now))) }
+{
+    push_cased(alloc, table, true, text, out)
+}
+
+/// Appends the text with its ASCII letters in lower case.
+#[doc(hidden)]
+pub fn push_lower(alloc: Global, text: &str, out: &mut String) -> Result<(), AllocError>
+    ensures { OnOk result (string_bytes out.new ≡ string_bytes out.old ++ str_to_ascii_lowercase text.now) }
+{
+    if text.as_bytes().iter().any(|byte| byte.is_ascii_uppercase()) {
+        let lower = text.to_ascii_lowercase(alloc)?;
+        return out.push_str(&lower);
+    }
+    out.push_str(text)
+}
