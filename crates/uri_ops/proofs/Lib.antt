@@ -37,3 +37,5 @@ pub mod EncodedTargets
 pub mod EncodedAuthorities
 pub mod EncodedMeanings
 pub mod WiderKinds
+pub mod AsciiTexts
+pub mod Conversions
