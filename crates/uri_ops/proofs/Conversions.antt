@@ -12,10 +12,12 @@ use Rattle.uri_ops.specs.declared.convert.ConvertError.{ConvertError}
 use Rattle.uri_ops.specs.declared.convert.ConvertError.TheVariants.{NoScheme, NotAscii}
 use Rattle.uri_ops.specs.ComponentSets.{HasComponentSets}
 use Rattle.uri_ops.specs.Conversions.{is_past_ascii, first_past_ascii, scheme_refusal, ascii_refusal, uri_refusal}
-use Rattle.uri_ops.specs.Encoded.{encoded_text, ascii_kind}
+use Rattle.uri_ops.specs.Encoded.{encoded_text, ascii_kind, MeanTheSame}
+use Rattle.uri_ops.specs.Meaning.{bare_meaning_of}
+use Rattle.uri_ops.specs.Ports.{no_defaults}
 use Rattle.uri_ops.specs.Texts.{IsTextOf}
 use Rattle.uri_ops.proofs.AsciiTexts.{text_ascii}
-use Rattle.uri_ops.proofs.EncodedMeanings.{encoded_is_text}
+use Rattle.uri_ops.proofs.EncodedMeanings.{encoded_is_text, meaning_of-encoded}
 use Rattle.uri_ops.proofs.EncodedPaths.{encoded-ascii}
 use Rattle.uri_ops.proofs.FourKinds.{uri_sets, uri_ref_sets, iri_sets, iri_ref_sets}
 use Rattle.uri_ops.proofs.PlainTexts.{utf8_ascii}
@@ -126,3 +128,24 @@ uri_is_iri text u h = (text_wider uri iri iri_sets (ascii_within iri) text (reco
 
 pub uri_ref_is_iri_ref : (text : List ℕ) → IsUtf8 text → IsOfKind uri_ref text → IsOfKind iri_ref text
 uri_ref_is_iri_ref text u h = (text_wider uri_ref iri_ref iri_ref_sets (ascii_within iri_ref) text (record { utf8 = u; grammar = h })).grammar
+
+-- an IRI with its characters past ASCII as octets is a URI of the same meaning
+module _ (kind : Kind) (sets : HasComponentSets kind) where
+  encoded_of_kind : (text encoded : List ℕ) → encoded ≡ encoded_text text → IsUtf8 text → IsOfKind kind text → IsOfKind (ascii_kind kind) encoded
+  encoded_of_kind text encoded e u h = ap (are_components (ascii_kind kind)) (ap components e) ∙ (encoded_is_text kind sets text (record { utf8 = u; grammar = h })).grammar
+
+  encoded_means : (text encoded : List ℕ) → encoded ≡ encoded_text text → IsUtf8 text → IsOfKind kind text → MeanTheSame kind encoded text
+  unfolding MeanTheSame
+  encoded_means text encoded e u h = ap (bare_meaning_of kind) e ∙ meaning_of-encoded kind sets no_defaults text (record { utf8 = u; grammar = h })
+
+pub iri_encoded : (text encoded : List ℕ) → encoded ≡ encoded_text text → IsUtf8 text → IsOfKind iri text → IsOfKind uri encoded
+iri_encoded text encoded e u h = encoded_of_kind iri iri_sets text encoded e u h
+
+pub iri_ref_encoded : (text encoded : List ℕ) → encoded ≡ encoded_text text → IsUtf8 text → IsOfKind iri_ref text → IsOfKind uri_ref encoded
+iri_ref_encoded text encoded e u h = encoded_of_kind iri_ref iri_ref_sets text encoded e u h
+
+pub iri_means : (text encoded : List ℕ) → encoded ≡ encoded_text text → IsUtf8 text → IsOfKind iri text → MeanTheSame iri encoded text
+iri_means text encoded e u h = encoded_means iri iri_sets text encoded e u h
+
+pub iri_ref_means : (text encoded : List ℕ) → encoded ≡ encoded_text text → IsUtf8 text → IsOfKind iri_ref text → MeanTheSame iri_ref encoded text
+iri_ref_means text encoded e u h = encoded_means iri_ref iri_ref_sets text encoded e u h

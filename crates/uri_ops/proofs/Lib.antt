@@ -39,3 +39,4 @@ pub mod EncodedMeanings
 pub mod WiderKinds
 pub mod AsciiTexts
 pub mod Conversions
+pub mod EncodedRuns

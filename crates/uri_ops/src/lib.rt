@@ -7,6 +7,8 @@ pub mod across;
 pub mod canonical;
 pub mod convert;
 #[doc(hidden)]
+pub mod encoded;
+#[doc(hidden)]
 pub mod laws;
 #[doc(hidden)]
 pub mod swap;
