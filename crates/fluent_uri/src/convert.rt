@@ -1,7 +1,8 @@
 //! IRIs and their references from URIs and theirs, and the other way round (RFC 3987, section 3.1).
-ghost use Rattle.std.specs.Prelude.{◌≡◌};
-ghost use Rattle.uri_parts.specs.Grammar.{iri, uri, uri_ref};
+ghost use Rattle.std.specs.Prelude.{◌≡◌, IfOk};
+ghost use Rattle.uri_parts.specs.Grammar.{iri, iri_ref, uri, uri_ref};
 ghost use Rattle.uri_ops.specs.Conversions.{Converts, ConvertsOwned, scheme_refusal, ascii_refusal, uri_refusal};
+ghost use Rattle.uri_ops.specs.Encoded.{encoded_text, MeanTheSame};
 ghost use Rattle.uri_ascii.specs.UriRefs.{uri_ref_text};
 ghost use Rattle.uri_ascii.specs.Uris.{uri_text};
 ghost use Rattle.fluent_uri.specs.IriRefs.{iri_ref_text};
@@ -9,10 +10,12 @@ ghost use Rattle.fluent_uri.specs.Iris.{iri_text};
 
 use crate::iri::Iri;
 use crate::iri_ref::IriRef;
+use std::alloc::{AllocError, Global};
 use std::convert::{AsStr, TryFrom};
 use uri_ascii::uri::Uri;
 use uri_ascii::uri_ref::UriRef;
 use uri_ops::convert::{self, ConvertError};
+use uri_ops::encoded::encoded;
 use uri_ops::traits::RiMaybeRef;
 
 #[tactic(auto, using(uri_ops::proofs::Conversions::uri_is_iri))]
@@ -213,5 +216,59 @@ impl TryFrom<IriRef<String>> for Uri<String> {
         }
         let (text, positions) = value.into_parts();
         Ok(Uri::of_parts(text, positions))
+    }
+}
+
+#[tactic(auto, using(uri_ops::proofs::Conversions::iri_encoded, uri_ops::proofs::Conversions::iri_means))]
+impl<T: AsStr> Iri<T> {
+    /// The IRI as a URI: each character past ASCII becomes the octets of its UTF-8, with
+    /// upper-case digits, and all else stays (RFC 3987, section 3.1). No name of a host is written in
+    /// Punycode.
+    ///
+    /// Read as an IRI it means what the IRI means.
+    ///
+    /// # Errors
+    ///
+    /// Only if memory is refused.
+    ///
+    /// # Examples
+    ///
+    /// `http://example.com/é` becomes `http://example.com/%C3%A9`.
+    pub fn to_uri(&self, alloc: Global) -> Result<Uri<String>, AllocError>
+        ensures text { IfOk result (λ encoded. uri_text encoded ≡ encoded_text (iri_text self.now)) }
+        ensures meaning { IfOk result (λ encoded. MeanTheSame iri (uri_text encoded) (iri_text self.now)) }
+    {
+        let text = encoded(alloc, self.core().as_str())?;
+        match Uri::<String>::parse(text) {
+            Ok(encoded) => Ok(encoded),
+            Err(_) => unreachable!(),
+        }
+    }
+}
+
+#[tactic(auto, using(uri_ops::proofs::Conversions::iri_ref_encoded, uri_ops::proofs::Conversions::iri_ref_means))]
+impl<T: AsStr> IriRef<T> {
+    /// The IRI reference as a URI reference: each character past ASCII becomes the octets of its UTF-8, with
+    /// upper-case digits, and all else stays (RFC 3987, section 3.1). No name of a host is written in
+    /// Punycode.
+    ///
+    /// Read as an IRI reference it means what the IRI reference means.
+    ///
+    /// # Errors
+    ///
+    /// Only if memory is refused.
+    ///
+    /// # Examples
+    ///
+    /// `é?q` becomes `%C3%A9?q`.
+    pub fn to_uri_ref(&self, alloc: Global) -> Result<UriRef<String>, AllocError>
+        ensures text { IfOk result (λ encoded. uri_ref_text encoded ≡ encoded_text (iri_ref_text self.now)) }
+        ensures meaning { IfOk result (λ encoded. MeanTheSame iri_ref (uri_ref_text encoded) (iri_ref_text self.now)) }
+    {
+        let text = encoded(alloc, self.core().as_str())?;
+        match UriRef::<String>::parse(text) {
+            Ok(encoded) => Ok(encoded),
+            Err(_) => unreachable!(),
+        }
     }
 }

@@ -95,11 +95,12 @@ none_past text e =
 
 module _ (kind : Kind) (sets : HasComponentSets kind) where
   ascii_text : (text : List ℕ) → IsUtf8 text → IsOfKind kind text → (ascii_refusal text ≡ None ↔ IsOfKind (ascii_kind kind) text)
-  ascii_text text u h =
-      (λ e.
-      let plain = all_ascii text e in
-      ap (are_components (ascii_kind kind)) (ap components (sym (encoded-ascii text plain))) ∙ (encoded_is_text kind sets text (record { utf8 = u; grammar = h })).grammar,
-      λ w. none_past text (text_ascii kind sets text (record { utf8 = u; grammar = w })))
+  ascii_text text u h = (
+    λ e.
+        let plain = all_ascii text e in
+        ap (are_components (ascii_kind kind)) (ap components (sym (encoded-ascii text plain))) ∙ (encoded_is_text kind sets text (record { utf8 = u; grammar = h })).grammar,
+    λ w. none_past text (text_ascii kind sets text (record { utf8 = u; grammar = w })),
+  )
 
 pub iri_of_ascii : (text : List ℕ) → IsUtf8 text → IsOfKind iri text → (ascii_refusal text ≡ None ↔ IsOfKind uri text)
 iri_of_ascii text u h = ascii_text iri iri_sets text u h
@@ -116,11 +117,12 @@ none_both a b e f = ap (λ o. option_or o b) e ∙ f
 
 pub uri_of_ascii : (text : List ℕ) → IsUtf8 text → IsOfKind iri_ref text → (uri_refusal text ≡ None ↔ IsOfKind uri text)
 unfolding uri_refusal
-uri_of_ascii text u h =
-    (λ e. let p = both_none (scheme_refusal text) (ascii_refusal text) e in (uri_with_scheme text ((iri_ref_of_ascii text u h).0 p.1)).0 p.0,
-    λ w.
-    let reference = uri_is_uri_ref text w in
-    none_both (scheme_refusal text) (ascii_refusal text) ((uri_with_scheme text reference).1 w) ((iri_ref_of_ascii text u h).1 reference))
+uri_of_ascii text u h = (
+  λ e. let p = both_none (scheme_refusal text) (ascii_refusal text) e in (uri_with_scheme text ((iri_ref_of_ascii text u h).0 p.1)).0 p.0,
+  λ w.
+      let reference = uri_is_uri_ref text w in
+      none_both (scheme_refusal text) (ascii_refusal text) ((uri_with_scheme text reference).1 w) ((iri_ref_of_ascii text u h).1 reference),
+)
 
 -- a URI is an IRI
 pub uri_is_iri : (text : List ℕ) → IsUtf8 text → IsOfKind uri text → IsOfKind iri text
