@@ -30,6 +30,8 @@ pub use Rattle.uri_parts.specs.PortNumbers
 pub use Rattle.uri_parts.specs.Positions
 pub use Rattle.uri_parts.specs.SchemePorts
 pub use Rattle.uri_parts.specs.Schemes
+pub use Rattle.uri_ops.specs.Conversions
+pub use Rattle.uri_ops.specs.Encoded
 pub use Rattle.uri_ascii.specs.Parses
 pub use Rattle.uri_ascii.specs.UriRefs
 pub use Rattle.uri_ascii.specs.Uris

@@ -108,6 +108,26 @@ impl<T: AsStr> Ri for Iri<T> {
 impl<T: AsStr> Iri<T> {
     ghost use Rattle.fluent_uri.specs.Iris.{iri_text};
 
+    /// The value of this text, with the positions of its components.
+    #[doc(hidden)]
+    pub fn of_parts(text: T, positions: Positions) -> Self
+        requires of_kind { IsOfKind iri (T.text text) }
+        requires at { AreAt (T.text text) positions }
+        ensures { iri_text result ≡ T.text text }
+    {
+        Iri { text, positions }
+    }
+
+    /// The text, and the positions of its components.
+    #[doc(hidden)]
+    pub fn into_parts(self) -> (T, Positions)
+        ensures text { T.text result.0 ≡ iri_text self }
+        ensures of_kind { IsOfKind iri (T.text result.0) }
+        ensures at { AreAt (T.text result.0) result.1 }
+    {
+        (self.text, self.positions)
+    }
+
     /// Whether there is an authority.
     pub fn has_authority(&self) -> bool
         ensures { result ≡ is_some (components (iri_text self.now)).authority }

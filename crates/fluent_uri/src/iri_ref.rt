@@ -107,6 +107,26 @@ impl<T: AsStr, B: AsStr> RefOf<Iri<B>> for IriRef<T> {
 impl<T: AsStr> IriRef<T> {
     ghost use Rattle.fluent_uri.specs.IriRefs.{iri_ref_text};
 
+    /// The value of this text, with the positions of its components.
+    #[doc(hidden)]
+    pub fn of_parts(text: T, positions: Positions) -> Self
+        requires of_kind { IsOfKind iri_ref (T.text text) }
+        requires at { AreAt (T.text text) positions }
+        ensures { iri_ref_text result ≡ T.text text }
+    {
+        IriRef { text, positions }
+    }
+
+    /// The text, and the positions of its components.
+    #[doc(hidden)]
+    pub fn into_parts(self) -> (T, Positions)
+        ensures text { T.text result.0 ≡ iri_ref_text self }
+        ensures of_kind { IsOfKind iri_ref (T.text result.0) }
+        ensures at { AreAt (T.text result.0) result.1 }
+    {
+        (self.text, self.positions)
+    }
+
     /// Whether there is a scheme.
     pub fn has_scheme(&self) -> bool
         ensures { result ≡ is_some (components (iri_ref_text self.now)).scheme }

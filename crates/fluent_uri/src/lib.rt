@@ -1,6 +1,7 @@
 //! Generic URIs (RFC 3986), IRIs (RFC 3987) and their references, read, taken apart and proved.
 #![tactic(auto)]
 
+mod convert;
 mod iri;
 mod iri_ref;
 
@@ -8,6 +9,7 @@ pub use iri::Iri;
 pub use iri_ref::IriRef;
 pub use uri_ascii::uri::Uri;
 pub use uri_ascii::uri_ref::UriRef;
+pub use uri_ops::convert::ConvertError;
 pub use uri_ops::traits::{RefOf, Ri, RiMaybeRef};
 pub use uri_parts::error::{ParseError, ParseErrorKind};
 

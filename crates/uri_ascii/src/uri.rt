@@ -1,5 +1,6 @@
 //! URIs (RFC 3986, section 3).
 ghost use Rattle.std.specs.Prelude.{◌≡◌, ◌↔◌, IsOk, IfOk, IfErr, Some, is_some, option_map, string_bytes};
+ghost use Rattle.std.specs.Str.{IsUtf8};
 ghost use Rattle.uri_parts.specs.Components.{components};
 ghost use Rattle.uri_parts.specs.Errors.{IsErrorIn};
 ghost use Rattle.uri_parts.specs.Grammar.{IsOfKind, uri};
@@ -106,6 +107,28 @@ impl<T: AsStr> Ri for Uri<T> {
 
 impl<T: AsStr> Uri<T> {
     ghost use Rattle.uri_ascii.specs.Uris.{uri_text};
+
+    /// The value of this text, with the positions of its components.
+    #[doc(hidden)]
+    pub fn of_parts(text: T, positions: Positions) -> Self
+        requires of_kind { IsOfKind uri (T.text text) }
+        requires at { AreAt (T.text text) positions }
+        ensures { uri_text result ≡ T.text text }
+    {
+        Uri { text, positions }
+    }
+
+    /// The text, and the positions of its components.
+    #[doc(hidden)]
+    pub fn into_parts(self) -> (T, Positions)
+        ensures text { T.text result.0 ≡ uri_text self }
+        ensures of_kind { IsOfKind uri (T.text result.0) }
+        ensures at { AreAt (T.text result.0) result.1 }
+        ensures utf8 { IsUtf8 (T.text result.0) }
+    {
+        let _text = self.text.as_str();
+        (self.text, self.positions)
+    }
 
     /// Whether there is an authority.
     pub fn has_authority(&self) -> bool

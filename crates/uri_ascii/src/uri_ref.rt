@@ -1,5 +1,6 @@
 //! URI references (RFC 3986, section 4.1).
 ghost use Rattle.std.specs.Prelude.{◌≡◌, ◌↔◌, IsOk, IfOk, IfErr, Some, is_some, option_map, string_bytes};
+ghost use Rattle.std.specs.Str.{IsUtf8};
 ghost use Rattle.uri_parts.specs.Components.{components};
 ghost use Rattle.uri_parts.specs.Errors.{IsErrorIn};
 ghost use Rattle.uri_parts.specs.Grammar.{IsOfKind, uri_ref};
@@ -106,6 +107,28 @@ impl<T: AsStr, B: AsStr> RefOf<Uri<B>> for UriRef<T> {
 
 impl<T: AsStr> UriRef<T> {
     ghost use Rattle.uri_ascii.specs.UriRefs.{uri_ref_text};
+
+    /// The value of this text, with the positions of its components.
+    #[doc(hidden)]
+    pub fn of_parts(text: T, positions: Positions) -> Self
+        requires of_kind { IsOfKind uri_ref (T.text text) }
+        requires at { AreAt (T.text text) positions }
+        ensures { uri_ref_text result ≡ T.text text }
+    {
+        UriRef { text, positions }
+    }
+
+    /// The text, and the positions of its components.
+    #[doc(hidden)]
+    pub fn into_parts(self) -> (T, Positions)
+        ensures text { T.text result.0 ≡ uri_ref_text self }
+        ensures of_kind { IsOfKind uri_ref (T.text result.0) }
+        ensures at { AreAt (T.text result.0) result.1 }
+        ensures utf8 { IsUtf8 (T.text result.0) }
+    {
+        let _text = self.text.as_str();
+        (self.text, self.positions)
+    }
 
     /// Whether there is a scheme.
     pub fn has_scheme(&self) -> bool

@@ -62,14 +62,14 @@ plain_ascii test (c ∷ text) e =
     let p = and_parts (is_plain_char test c) (list_all (is_plain_char test) text) e in
     and_from _ _ (and_parts (ltb c 128) (test c) p.0).0 (plain_ascii test text p.1)
 
-bracketed_ascii : (address : List ℕ) → list_all (λ c. ltb c 128) address ≡ true → list_all (λ c. ltb c 128) (bracketed address) ≡ true
+pub bracketed_ascii : (address : List ℕ) → list_all (λ c. ltb c 128) address ≡ true → list_all (λ c. ltb c 128) (bracketed address) ≡ true
 bracketed_ascii address e = list_all-append (λ c. ltb c 128) address (codes "]") ∙ and_from _ _ e refl
 
-address_ascii : (text : List ℕ) → is_address_text text ≡ true → list_all (λ c. ltb c 128) text ≡ true
+pub address_ascii : (text : List ℕ) → is_address_text text ≡ true → list_all (λ c. ltb c 128) text ≡ true
 unfolding is_address_text
 address_ascii text e = plain_ascii is_address_char text (plain_addresses text e)
 
-dotted_ascii : (text octets : List ℕ) → IsDotted text octets → list_all (λ c. ltb c 128) text ≡ true
+pub dotted_ascii : (text octets : List ℕ) → IsDotted text octets → list_all (λ c. ltb c 128) text ≡ true
 dotted_ascii text octets h =
     list_all-from_AllPass (λ c. ltb c 128) text (All-weaker IsDigitOrDot (λ c. ltb c 128 ≡ true) below text (ipv4_chars text octets h))
   where

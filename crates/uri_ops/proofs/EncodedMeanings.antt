@@ -1,9 +1,9 @@
 -- A text without characters past ASCII is of the kind of URIs that goes with its kind, and means what the text means.
-use Rattle.std.proofs.Common.{◌≡◌, ℕ, true, false, eqb, not, List, refl, sym, ap, subst, ◌∙◌, ◌&&◌, ◌||◌, option_map}
+use Rattle.std.proofs.Common.{◌≡◌, ℕ, true, false, eqb, ltb, not, List, refl, sym, ap, subst, ◌∙◌, ◌&&◌, ◌||◌, option_map}
 use Rattle.std.specs.Prelude.{codes, Option, Some, None, IfSome, is_some, slice_index}
 use Rattle.std.specs.Option.{option_and_then}
 use Rattle.std.specs.Char.{is_ascii_alphabetic}
-use Rattle.std.specs.List.{list_any}
+use Rattle.std.specs.List.{list_all, list_any}
 use Rattle.std.specs.Str.{IsUtf8, str_to_ascii_lowercase}
 use Rattle.std.proofs.lemmas.Bool.{and_parts, and_from, not-true, not_from_false}
 use Rattle.uri_pct.specs.Sets.{TableSet, is_scheme_char, scheme_set}
@@ -36,10 +36,13 @@ scheme_percent : is_scheme_char 37 ≡ false
 unfolding is_scheme_char
 scheme_percent = refl
 
-scheme_ascii : (s : List ℕ) → IsUtf8 s → is_scheme s ≡ true → encoded_text s ≡ s
-scheme_ascii s u e =
+pub scheme_plain : (s : List ℕ) → IsUtf8 s → is_scheme s ≡ true → list_all (λ c. ltb c 128) s ≡ true
+scheme_plain s u e =
     let p = and_parts (is_ascii_alphabetic (slice_index s 0)) (is_valid_for scheme_set s) e in
-    encoded-ascii s (plain_ascii is_scheme_char s (sym (valid_plain is_scheme_char scheme_percent s u) ∙ p.1))
+    plain_ascii is_scheme_char s (sym (valid_plain is_scheme_char scheme_percent s u) ∙ p.1)
+
+scheme_ascii : (s : List ℕ) → IsUtf8 s → is_scheme s ≡ true → encoded_text s ≡ s
+scheme_ascii s u e = encoded-ascii s (scheme_plain s u e)
 
 scheme_kept : (o : Option (List ℕ)) → IfSome o (λ s. IsUtf8 s × (is_scheme s ≡ true)) → option_map encoded_text o ≡ o
 scheme_kept None h = refl

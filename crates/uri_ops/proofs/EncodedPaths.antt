@@ -44,7 +44,7 @@ pub encoded_first : (b : ℕ) (x : List ℕ) → b < 128 → encoded_text (b ∷
 unfolding encoded_text
 encoded_first b x h = ap (λ t. t ++ flat_map encoded_byte x) (cond-true _ _ _ (lt-ltb b 128 h))
 
-encoded_octet : (b : ℕ) (x : List ℕ) → 128 ≤ b → encoded_text (b ∷ x) ≡ octet_text b ++ encoded_text x
+pub encoded_octet : (b : ℕ) (x : List ℕ) → 128 ≤ b → encoded_text (b ∷ x) ≡ octet_text b ++ encoded_text x
 unfolding encoded_text
 encoded_octet b x h = ap (λ t. t ++ flat_map encoded_byte x) (cond-false _ _ _ (le-ltb b 128 h))
 

@@ -41,3 +41,6 @@ pub mod ReadParts
 pub mod Cased
 pub mod TakenReadings
 pub mod Decodable
+pub mod AsciiTexts
+pub mod Conversions
+pub mod EncodedRuns

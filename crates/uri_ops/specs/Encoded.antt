@@ -1,9 +1,10 @@
 -- Texts and kinds without characters past ASCII: RFC 3987, section 3.1.
-use Rattle.std.specs.Prelude.{ℕ, nat_lt, List, [], ◌∷◌, false, if◌then◌else◌}
+use Rattle.std.specs.Prelude.{◌≡◌, ℕ, nat_lt, List, [], ◌∷◌, false, if◌then◌else◌}
 use Rattle.std.specs.List.{flat_map}
 use Rattle.uri_pct.specs.Sets.{TableSet}
 use Rattle.uri_pct.specs.Tokens.{Octet, text_of_token}
 use Rattle.uri_parts.specs.Grammar.{Kind}
+use Rattle.uri_ops.specs.Meaning.{bare_meaning_of}
 
 -- a byte of a character past ASCII as an octet, with upper-case digits
 abbrev pub encoded_byte : ℕ → List ℕ
@@ -26,3 +27,7 @@ ascii_kind kind = record kind {
   query = ascii_set kind.query;
   fragment = ascii_set kind.fragment;
 }
+
+-- read as texts of the kind, both have the same meaning, whichever default ports there are
+unfoldable pub MeanTheSame : Kind → List ℕ → List ℕ → Type 0
+MeanTheSame kind text other = bare_meaning_of kind text ≡ bare_meaning_of kind other

@@ -5,6 +5,9 @@
 pub mod across;
 #[doc(hidden)]
 pub mod canonical;
+pub mod convert;
+#[doc(hidden)]
+pub mod encoded;
 #[doc(hidden)]
 pub mod laws;
 #[doc(hidden)]

@@ -1,0 +1,274 @@
+//! IRIs and their references from URIs and theirs, and the other way round (RFC 3987, section 3.1).
+ghost use Rattle.std.specs.Prelude.{◌≡◌, IfOk};
+ghost use Rattle.uri_parts.specs.Grammar.{iri, iri_ref, uri, uri_ref};
+ghost use Rattle.uri_ops.specs.Conversions.{Converts, ConvertsOwned, scheme_refusal, ascii_refusal, uri_refusal};
+ghost use Rattle.uri_ops.specs.Encoded.{encoded_text, MeanTheSame};
+ghost use Rattle.uri_ascii.specs.UriRefs.{uri_ref_text};
+ghost use Rattle.uri_ascii.specs.Uris.{uri_text};
+ghost use Rattle.fluent_uri.specs.IriRefs.{iri_ref_text};
+ghost use Rattle.fluent_uri.specs.Iris.{iri_text};
+
+use crate::iri::Iri;
+use crate::iri_ref::IriRef;
+use std::alloc::{AllocError, Global};
+use std::convert::{AsStr, TryFrom};
+use uri_ascii::uri::Uri;
+use uri_ascii::uri_ref::UriRef;
+use uri_ops::convert::{self, ConvertError};
+use uri_ops::encoded::encoded;
+use uri_ops::traits::RiMaybeRef;
+
+#[tactic(auto, using(uri_ops::proofs::Conversions::uri_is_iri))]
+impl<T: AsStr> From<Uri<T>> for Iri<T> {
+    ghost from_gives = { λ value wider. iri_text wider ≡ uri_text value };
+
+    /// The same text, as an IRI.
+    fn from(value: Uri<T>) -> Iri<T> {
+        let (text, positions) = value.into_parts();
+        Iri::of_parts(text, positions)
+    }
+}
+
+#[tactic(auto, using(uri_parts::proofs::KindLemmas::uri_is_uri_ref, uri_ops::proofs::Conversions::uri_ref_is_iri_ref))]
+impl<T: AsStr> From<Uri<T>> for IriRef<T> {
+    ghost from_gives = { λ value wider. iri_ref_text wider ≡ uri_text value };
+
+    /// The same text, as an IRI reference.
+    fn from(value: Uri<T>) -> IriRef<T> {
+        let (text, positions) = value.into_parts();
+        IriRef::of_parts(text, positions)
+    }
+}
+
+#[tactic(auto, using(uri_ops::proofs::Conversions::uri_ref_is_iri_ref))]
+impl<T: AsStr> From<UriRef<T>> for IriRef<T> {
+    ghost from_gives = { λ value wider. iri_ref_text wider ≡ uri_ref_text value };
+
+    /// The same text, as an IRI reference.
+    fn from(value: UriRef<T>) -> IriRef<T> {
+        let (text, positions) = value.into_parts();
+        IriRef::of_parts(text, positions)
+    }
+}
+
+#[tactic(auto, using(uri_parts::proofs::KindLemmas::iri_is_iri_ref))]
+impl<T: AsStr> From<Iri<T>> for IriRef<T> {
+    ghost from_gives = { λ value wider. iri_ref_text wider ≡ iri_text value };
+
+    /// The same text, as an IRI reference.
+    fn from(value: Iri<T>) -> IriRef<T> {
+        let (text, positions) = value.into_parts();
+        IriRef::of_parts(text, positions)
+    }
+}
+
+#[tactic(auto, using(uri_ops::proofs::Conversions::iri_with_scheme))]
+impl<'a> TryFrom<IriRef<&'a str>> for Iri<&'a str> {
+    type Error = ConvertError;
+
+    ghost try_from_gives = { λ value result. Converts iri iri_text (iri_ref_text value) (scheme_refusal (iri_ref_text value)) result };
+
+    /// The same text, as an IRI.
+    ///
+    /// # Errors
+    ///
+    /// `NoScheme`, exactly if the reference has no scheme.
+    fn try_from(value: IriRef<&'a str>) -> Result<Iri<&'a str>, ConvertError> {
+        convert::needs_scheme(value.core())?;
+        let (text, positions) = value.into_parts();
+        Ok(Iri::of_parts(text, positions))
+    }
+}
+
+#[tactic(auto, using(uri_ops::proofs::Conversions::iri_with_scheme))]
+impl TryFrom<IriRef<String>> for Iri<String> {
+    type Error = (ConvertError, IriRef<String>);
+
+    ghost try_from_gives = { λ value result. ConvertsOwned iri iri_text (iri_ref_text value) (scheme_refusal (iri_ref_text value)) value result };
+
+    /// The same text, as an IRI.
+    ///
+    /// # Errors
+    ///
+    /// `NoScheme`, exactly if the reference has no scheme;
+    /// the reference comes back beside it.
+    fn try_from(value: IriRef<String>) -> Result<Iri<String>, (ConvertError, IriRef<String>)> {
+        if let Err(error) = convert::needs_scheme(value.core()) {
+            return Err((error, value));
+        }
+        let (text, positions) = value.into_parts();
+        Ok(Iri::of_parts(text, positions))
+    }
+}
+
+#[tactic(auto, using(uri_ops::proofs::Conversions::iri_of_ascii))]
+impl<'a> TryFrom<Iri<&'a str>> for Uri<&'a str> {
+    type Error = ConvertError;
+
+    ghost try_from_gives = { λ value result. Converts uri uri_text (iri_text value) (ascii_refusal (iri_text value)) result };
+
+    /// The same text, as a URI.
+    ///
+    /// # Errors
+    ///
+    /// `NotAscii`, exactly if the IRI has a character past ASCII.
+    fn try_from(value: Iri<&'a str>) -> Result<Uri<&'a str>, ConvertError> {
+        convert::needs_ascii(value.as_str())?;
+        let (text, positions) = value.into_parts();
+        Ok(Uri::of_parts(text, positions))
+    }
+}
+
+#[tactic(auto, using(uri_ops::proofs::Conversions::iri_of_ascii))]
+impl TryFrom<Iri<String>> for Uri<String> {
+    type Error = (ConvertError, Iri<String>);
+
+    ghost try_from_gives = { λ value result. ConvertsOwned uri uri_text (iri_text value) (ascii_refusal (iri_text value)) value result };
+
+    /// The same text, as a URI.
+    ///
+    /// # Errors
+    ///
+    /// `NotAscii`, exactly if the IRI has a character past ASCII;
+    /// the IRI comes back beside it.
+    fn try_from(value: Iri<String>) -> Result<Uri<String>, (ConvertError, Iri<String>)> {
+        if let Err(error) = convert::needs_ascii(value.as_str()) {
+            return Err((error, value));
+        }
+        let (text, positions) = value.into_parts();
+        Ok(Uri::of_parts(text, positions))
+    }
+}
+
+#[tactic(auto, using(uri_ops::proofs::Conversions::iri_ref_of_ascii))]
+impl<'a> TryFrom<IriRef<&'a str>> for UriRef<&'a str> {
+    type Error = ConvertError;
+
+    ghost try_from_gives = { λ value result. Converts uri_ref uri_ref_text (iri_ref_text value) (ascii_refusal (iri_ref_text value)) result };
+
+    /// The same text, as a URI reference.
+    ///
+    /// # Errors
+    ///
+    /// `NotAscii`, exactly if the reference has a character past ASCII.
+    fn try_from(value: IriRef<&'a str>) -> Result<UriRef<&'a str>, ConvertError> {
+        convert::needs_ascii(value.as_str())?;
+        let (text, positions) = value.into_parts();
+        Ok(UriRef::of_parts(text, positions))
+    }
+}
+
+#[tactic(auto, using(uri_ops::proofs::Conversions::iri_ref_of_ascii))]
+impl TryFrom<IriRef<String>> for UriRef<String> {
+    type Error = (ConvertError, IriRef<String>);
+
+    ghost try_from_gives = { λ value result. ConvertsOwned uri_ref uri_ref_text (iri_ref_text value) (ascii_refusal (iri_ref_text value)) value result };
+
+    /// The same text, as a URI reference.
+    ///
+    /// # Errors
+    ///
+    /// `NotAscii`, exactly if the reference has a character past ASCII;
+    /// the reference comes back beside it.
+    fn try_from(value: IriRef<String>) -> Result<UriRef<String>, (ConvertError, IriRef<String>)> {
+        if let Err(error) = convert::needs_ascii(value.as_str()) {
+            return Err((error, value));
+        }
+        let (text, positions) = value.into_parts();
+        Ok(UriRef::of_parts(text, positions))
+    }
+}
+
+#[tactic(auto, using(uri_ops::proofs::Conversions::uri_of_ascii))]
+impl<'a> TryFrom<IriRef<&'a str>> for Uri<&'a str> {
+    type Error = ConvertError;
+
+    ghost try_from_gives = { λ value result. Converts uri uri_text (iri_ref_text value) (uri_refusal (iri_ref_text value)) result };
+
+    /// The same text, as a URI.
+    ///
+    /// # Errors
+    ///
+    /// `NoScheme`, exactly if the reference has no scheme, and else `NotAscii`, exactly if it has a
+    /// character past ASCII.
+    fn try_from(value: IriRef<&'a str>) -> Result<Uri<&'a str>, ConvertError> {
+        convert::needs_uri(value.as_str(), value.has_scheme())?;
+        let (text, positions) = value.into_parts();
+        Ok(Uri::of_parts(text, positions))
+    }
+}
+
+#[tactic(auto, using(uri_ops::proofs::Conversions::uri_of_ascii))]
+impl TryFrom<IriRef<String>> for Uri<String> {
+    type Error = (ConvertError, IriRef<String>);
+
+    ghost try_from_gives = { λ value result. ConvertsOwned uri uri_text (iri_ref_text value) (uri_refusal (iri_ref_text value)) value result };
+
+    /// The same text, as a URI.
+    ///
+    /// # Errors
+    ///
+    /// `NoScheme`, exactly if the reference has no scheme, and else `NotAscii`, exactly if it has a
+    /// character past ASCII; the reference comes back beside it.
+    fn try_from(value: IriRef<String>) -> Result<Uri<String>, (ConvertError, IriRef<String>)> {
+        if let Err(error) = convert::needs_uri(value.as_str(), value.has_scheme()) {
+            return Err((error, value));
+        }
+        let (text, positions) = value.into_parts();
+        Ok(Uri::of_parts(text, positions))
+    }
+}
+
+#[tactic(auto, using(uri_ops::proofs::Conversions::iri_encoded, uri_ops::proofs::Conversions::iri_means))]
+impl<T: AsStr> Iri<T> {
+    /// The IRI as a URI: each character past ASCII becomes the octets of its UTF-8, with
+    /// upper-case digits, and all else stays (RFC 3987, section 3.1). No name of a host is written in
+    /// Punycode.
+    ///
+    /// Read as an IRI it means what the IRI means.
+    ///
+    /// # Errors
+    ///
+    /// Only if memory is refused.
+    ///
+    /// # Examples
+    ///
+    /// `http://example.com/é` becomes `http://example.com/%C3%A9`.
+    pub fn to_uri(&self, alloc: Global) -> Result<Uri<String>, AllocError>
+        ensures text { IfOk result (λ encoded. uri_text encoded ≡ encoded_text (iri_text self.now)) }
+        ensures meaning { IfOk result (λ encoded. MeanTheSame iri (uri_text encoded) (iri_text self.now)) }
+    {
+        let text = encoded(alloc, self.core().as_str())?;
+        match Uri::<String>::parse(text) {
+            Ok(encoded) => Ok(encoded),
+            Err(_) => unreachable!(),
+        }
+    }
+}
+
+#[tactic(auto, using(uri_ops::proofs::Conversions::iri_ref_encoded, uri_ops::proofs::Conversions::iri_ref_means))]
+impl<T: AsStr> IriRef<T> {
+    /// The IRI reference as a URI reference: each character past ASCII becomes the octets of its UTF-8, with
+    /// upper-case digits, and all else stays (RFC 3987, section 3.1). No name of a host is written in
+    /// Punycode.
+    ///
+    /// Read as an IRI reference it means what the IRI reference means.
+    ///
+    /// # Errors
+    ///
+    /// Only if memory is refused.
+    ///
+    /// # Examples
+    ///
+    /// `é?q` becomes `%C3%A9?q`.
+    pub fn to_uri_ref(&self, alloc: Global) -> Result<UriRef<String>, AllocError>
+        ensures text { IfOk result (λ encoded. uri_ref_text encoded ≡ encoded_text (iri_ref_text self.now)) }
+        ensures meaning { IfOk result (λ encoded. MeanTheSame iri_ref (uri_ref_text encoded) (iri_ref_text self.now)) }
+    {
+        let text = encoded(alloc, self.core().as_str())?;
+        match UriRef::<String>::parse(text) {
+            Ok(encoded) => Ok(encoded),
+            Err(_) => unreachable!(),
+        }
+    }
+}

@@ -1,0 +1,111 @@
+//! Whether a value of one kind is one of another.
+ghost use Rattle.std.specs.Prelude.{◌≡◌, ◌↔◌, ℕ, List, None, is_some};
+ghost use Rattle.std.specs.Result.{result_err};
+ghost use Rattle.std.specs.Str.{IsUtf8};
+ghost use Rattle.uri_parts.specs.Components.{components};
+ghost use Rattle.uri_parts.specs.CoreTexts.{core_text};
+ghost use Rattle.uri_parts.specs.Grammar.{IsOfKind, iri, iri_ref, uri, uri_ref};
+ghost use Rattle.uri_ops.specs.Conversions.{first_past_ascii, scheme_refusal, ascii_refusal, uri_refusal};
+
+use thiserror::Error;
+use uri_parts::core_text::CoreText;
+use uri_parts::rules::Encoders;
+
+/// Why a value of one kind is none of another.
+#[derive(Clone, Copy, Debug, PartialEq, Eq, Error)]
+pub enum ConvertError {
+    /// There is no scheme, which a URI or an IRI needs (RFC 3986, section 3).
+    #[error("scheme not present")]
+    NoScheme,
+    /// There is a character past ASCII, which no URI or URI reference has (RFC 3987, section 3.1).
+    #[error("non-ASCII character at index {index}")]
+    NotAscii {
+        /// Where the first such character begins, as a byte offset.
+        index: usize,
+    },
+}
+
+/// Where the first character past ASCII begins, if there is one.
+#[tactic(auto, unfolding(crate::specs::Conversions::first_past_ascii))]
+fn first_past_ascii(text: &str) -> Option<usize>
+    ensures { result ≡ first_past_ascii text.now }
+{
+    text.as_bytes().iter().position(|byte| *byte >= 128)
+}
+
+/// Refuses a text that has no scheme.
+///
+/// # Errors
+///
+/// `NoScheme`, exactly if there is none.
+#[doc(hidden)]
+#[tactic(auto, unfolding(crate::specs::Conversions::scheme_refusal))]
+pub fn needs_scheme<K: Encoders>(core: CoreText<'_, K>) -> Result<(), ConvertError>
+    ensures { result_err result ≡ scheme_refusal (core_text core.entry) }
+{
+    if core.has_scheme() {
+        Ok(())
+    } else {
+        Err(ConvertError::NoScheme)
+    }
+}
+
+/// Refuses a text that has a character past ASCII.
+///
+/// # Errors
+///
+/// `NotAscii`, exactly if there is one, with the place of the first.
+#[doc(hidden)]
+#[tactic(auto, unfolding(crate::specs::Conversions::ascii_refusal))]
+pub fn needs_ascii(text: &str) -> Result<(), ConvertError>
+    ensures { result_err result ≡ ascii_refusal text.now }
+{
+    match first_past_ascii(text) {
+        Some(index) => Err(ConvertError::NotAscii { index }),
+        None => Ok(()),
+    }
+}
+
+/// Refuses an IRI reference that is no URI.
+///
+/// # Errors
+///
+/// `NoScheme`, exactly if there is no scheme, and else `NotAscii`, exactly if there is a character
+/// past ASCII.
+#[doc(hidden)]
+#[tactic(auto, unfolding(crate::specs::Conversions::uri_refusal, crate::specs::Conversions::scheme_refusal))]
+pub fn needs_uri(text: &str, has_scheme: bool) -> Result<(), ConvertError>
+    requires { has_scheme ≡ is_some (components text.now).scheme }
+    ensures { result_err result ≡ uri_refusal text.now }
+{
+    if has_scheme {
+        needs_ascii(text)
+    } else {
+        Err(ConvertError::NoScheme)
+    }
+}
+
+/// A reference is a URI, or an IRI, exactly if it has a scheme (RFC 3986, sections 3 and 4.1).
+#[doc(hidden)]
+pub fn references_with_a_scheme()
+    ensures uri { (text : List ℕ) → IsOfKind uri_ref text → (scheme_refusal text ≡ None ↔ IsOfKind uri text) }
+    ensures iri { (text : List ℕ) → IsOfKind iri_ref text → (scheme_refusal text ≡ None ↔ IsOfKind iri text) }
+{}
+
+/// An IRI is a URI, and an IRI reference a URI reference, exactly if it has no character past
+/// ASCII (RFC 3987, section 3.1).
+#[doc(hidden)]
+pub fn iris_of_ascii()
+    ensures uri { (text : List ℕ) → IsUtf8 text → IsOfKind iri text → (ascii_refusal text ≡ None ↔ IsOfKind uri text) }
+    ensures uri_ref { (text : List ℕ) → IsUtf8 text → IsOfKind iri_ref text → (ascii_refusal text ≡ None ↔ IsOfKind uri_ref text) }
+    ensures both { (text : List ℕ) → IsUtf8 text → IsOfKind iri_ref text → (uri_refusal text ≡ None ↔ IsOfKind uri text) }
+{}
+
+/// A URI is an IRI, and a URI reference an IRI reference (RFC 3987, section 3.1).
+#[doc(hidden)]
+pub fn uris_are_iris()
+    ensures uri { (text : List ℕ) → IsUtf8 text → IsOfKind uri text → IsOfKind iri text }
+    ensures uri_ref { (text : List ℕ) → IsUtf8 text → IsOfKind uri_ref text → IsOfKind iri_ref text }
+    ensures reference { (text : List ℕ) → IsOfKind uri text → IsOfKind uri_ref text }
+    ensures iri_reference { (text : List ℕ) → IsOfKind iri text → IsOfKind iri_ref text }
+{}
