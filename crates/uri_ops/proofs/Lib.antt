@@ -31,6 +31,7 @@ pub mod JoinedMeanings
 pub mod Outcomes
 pub mod Swaps
 pub mod TargetTexts
+pub mod ResolvedTexts
 pub mod EncodedTokens
 pub mod EncodedReadings
 pub mod EncodedPaths

@@ -1,8 +1,8 @@
 //! The removal of dot segments (RFC 3986, section 5.2.4).
-ghost use Rattle.std.specs.Prelude.{◌≡◌, ◌≤◌, ◌++◌, IfOk, OnOk, length, drop, take, string_bytes};
+ghost use Rattle.std.specs.Prelude.{◌≡◌, ◌≤◌, ◌++◌, ◌+◌, IfOk, false, OnOk, length, drop, take, string_bytes};
 ghost use Rattle.std.specs.String.Boundary.{IsSplitPoint};
 ghost use Rattle.uri_ops.specs.Places.{IsSlashOrAt};
-ghost use Rattle.uri_ops.specs.Dots.{IsAbsolute, before_last_slash, is_double_dot, is_empty, is_single_dot, remove_dot_segments, underflows};
+ghost use Rattle.uri_ops.specs.Dots.{IsAbsolute, before_last_slash, has_slash, is_double_dot, is_empty, is_single_dot, remove_dot_segments, underflows};
 
 use std::alloc::AllocError;
 
@@ -14,7 +14,7 @@ fn is_single_dot(segment: &str) -> bool
 }
 
 /// Whether a segment is `..`, where each dot may be percent-encoded.
-fn is_double_dot(segment: &str) -> bool
+pub(crate) fn is_double_dot(segment: &str) -> bool
     ensures { result ≡ is_double_dot segment.now }
 {
     matches!(
@@ -24,9 +24,10 @@ fn is_double_dot(segment: &str) -> bool
 }
 
 /// Where the last `/` stands that is not before `start`, or `start` if there is none.
-fn last_slash(bytes: &[u8], start: usize) -> usize
+pub(crate) fn last_slash(bytes: &[u8], start: usize) -> usize
     requires { start ≤ length bytes.now }
     ensures front { take result bytes.now ≡ take start bytes.now ++ before_last_slash (drop start bytes.now) }
+    ensures last { has_slash (drop (result + 1) bytes.now) ≡ false }
     ensures place { IsSlashOrAt bytes.now start result }
 {
     let mut end = bytes.len();

@@ -9,6 +9,7 @@ pub mod canonical;
 pub mod dot_segments;
 #[doc(hidden)]
 pub mod laws;
+pub mod resolve;
 #[doc(hidden)]
 pub mod swap;
 pub mod traits;
