@@ -5,6 +5,8 @@ pub mod Characters
 pub mod Targets
 pub mod Segments
 pub mod Slashed
+pub mod LastSlashes
+pub mod KeptSegments
 pub mod DotLaws
 pub mod Parts
 pub mod DotBytes
@@ -29,6 +31,7 @@ pub mod JoinedMeanings
 pub mod Outcomes
 pub mod Swaps
 pub mod TargetTexts
+pub mod ResolvedTexts
 pub mod EncodedTokens
 pub mod EncodedReadings
 pub mod EncodedPaths

@@ -50,10 +50,10 @@ segment_front (c ∷ s) rest e =
     (ap (λ n. take n ((c ∷ s) ++ slashed rest)) m ∙ ap (λ t. c ∷ t) ih.0, ap (λ n. drop n ((c ∷ s) ++ slashed rest)) m ∙ ih.1)
 
 -- the cut at the last `/`
-any_slash : (s t : List ℕ) → has_slash t ≡ true → has_slash (s ++ t) ≡ true
+pub any_slash : (s t : List ℕ) → has_slash t ≡ true → has_slash (s ++ t) ≡ true
 any_slash s t e = list_any-append (λ c. eqb c 47) s t ∙ or_right _ _ e
 
-before_append : (s t : List ℕ) → has_slash t ≡ true → before_last_slash (s ++ t) ≡ s ++ before_last_slash t
+pub before_append : (s t : List ℕ) → has_slash t ≡ true → before_last_slash (s ++ t) ≡ s ++ before_last_slash t
 before_append [] t e = refl
 before_append (c ∷ s) t e = cond-true _ _ _ (any_slash s t e) ∙ ap (λ r. c ∷ r) (before_append s t e)
 
@@ -172,7 +172,7 @@ unfolding underflows
 underflows_slashed segs e = ap (λ b. b.underflowed) (run_slashed segs e)
 
 -- the directory
-last_append : (s t : List ℕ) → has_slash t ≡ true → last_segment (s ++ t) ≡ last_segment t
+pub last_append : (s t : List ℕ) → has_slash t ≡ true → last_segment (s ++ t) ≡ last_segment t
 last_append [] t e = refl
 last_append (c ∷ s) t e = cond-true _ _ _ (any_slash s t e) ∙ last_append s t e
 

@@ -9,7 +9,10 @@ pub mod convert;
 #[doc(hidden)]
 pub mod encoded;
 #[doc(hidden)]
+pub mod dot_segments;
+#[doc(hidden)]
 pub mod laws;
+pub mod resolve;
 #[doc(hidden)]
 pub mod normal_authority;
 #[doc(hidden)]
