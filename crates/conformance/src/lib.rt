@@ -7,6 +7,8 @@ mod addresses;
 #[cfg(test)]
 mod connecting;
 #[cfg(test)]
+mod converting;
+#[cfg(test)]
 mod encoding;
 #[cfg(test)]
 mod original;
