@@ -5,6 +5,8 @@ pub mod Characters
 pub mod Targets
 pub mod Segments
 pub mod Slashed
+pub mod LastSlashes
+pub mod KeptSegments
 pub mod DotLaws
 pub mod Parts
 pub mod DotBytes

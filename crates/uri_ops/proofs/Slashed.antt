@@ -53,7 +53,7 @@ segment_front (c ∷ s) rest e =
 any_slash : (s t : List ℕ) → has_slash t ≡ true → has_slash (s ++ t) ≡ true
 any_slash s t e = list_any-append (λ c. eqb c 47) s t ∙ or_right _ _ e
 
-before_append : (s t : List ℕ) → has_slash t ≡ true → before_last_slash (s ++ t) ≡ s ++ before_last_slash t
+pub before_append : (s t : List ℕ) → has_slash t ≡ true → before_last_slash (s ++ t) ≡ s ++ before_last_slash t
 before_append [] t e = refl
 before_append (c ∷ s) t e = cond-true _ _ _ (any_slash s t e) ∙ ap (λ r. c ∷ r) (before_append s t e)
 

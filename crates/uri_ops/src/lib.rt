@@ -6,6 +6,8 @@ pub mod across;
 #[doc(hidden)]
 pub mod canonical;
 #[doc(hidden)]
+pub mod dot_segments;
+#[doc(hidden)]
 pub mod laws;
 #[doc(hidden)]
 pub mod normal_authority;
