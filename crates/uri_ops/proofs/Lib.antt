@@ -43,3 +43,6 @@ pub mod ReadParts
 pub mod Cased
 pub mod TakenReadings
 pub mod Decodable
+pub mod ReferenceKinds
+pub mod NormalPieces
+pub mod NormalForms

@@ -5,12 +5,16 @@
 pub mod across;
 #[doc(hidden)]
 pub mod canonical;
+pub mod default_port;
 #[doc(hidden)]
 pub mod dot_segments;
 #[doc(hidden)]
 pub mod laws;
 #[doc(hidden)]
 pub mod normal_authority;
+#[doc(hidden)]
+pub mod normal_text;
+pub mod normalize;
 #[doc(hidden)]
 pub mod reading;
 #[doc(hidden)]
