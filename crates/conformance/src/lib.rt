@@ -11,6 +11,8 @@ mod converting;
 #[cfg(test)]
 mod encoding;
 #[cfg(test)]
+mod normalising;
+#[cfg(test)]
 mod original;
 #[cfg(test)]
 mod owned_encoding;

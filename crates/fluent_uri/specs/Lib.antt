@@ -35,3 +35,12 @@ pub use Rattle.uri_ops.specs.Encoded
 pub use Rattle.uri_ascii.specs.Parses
 pub use Rattle.uri_ascii.specs.UriRefs
 pub use Rattle.uri_ascii.specs.Uris
+pub use Rattle.uri_ops.specs.ComponentSets
+pub use Rattle.uri_ops.specs.Dots
+pub use Rattle.uri_ops.specs.Meaning
+pub use Rattle.uri_ops.specs.Normal
+pub use Rattle.uri_ops.specs.NormalPaths
+pub use Rattle.uri_ops.specs.Normalizers
+pub use Rattle.uri_ops.specs.Ports
+pub use Rattle.uri_ops.specs.Target
+pub use Rattle.uri_ops.specs.Texts

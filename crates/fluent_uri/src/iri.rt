@@ -4,6 +4,8 @@ ghost use Rattle.uri_parts.specs.Components.{components};
 ghost use Rattle.uri_parts.specs.Errors.{IsErrorIn};
 ghost use Rattle.uri_parts.specs.Grammar.{IsOfKind, iri};
 ghost use Rattle.uri_parts.specs.Positions.{AreAt};
+ghost use Rattle.uri_parts.specs.SchemePorts.{default_port};
+ghost use Rattle.uri_ops.specs.Normalizers.{IsNormalForm};
 
 use crate::component::IAuthority;
 use std::alloc::{AllocError, Global};
@@ -11,6 +13,7 @@ use std::cmp::Ordering;
 use std::convert::{AsStr, TryFrom};
 use std::fmt;
 use std::hash::{Hash, Hasher};
+use uri_ops::normalize;
 use uri_ops::traits::{self, Ri, RiMaybeRef};
 use uri_parts::component::Scheme;
 use uri_parts::core_text::CoreText;
@@ -49,6 +52,7 @@ impl<T: AsStr + Copy> Copy for Iri<T> {}
 #[tactic(auto, using(uri_parts::proofs::KindLemmas::iri_is_iri_ref))]
 impl<T: AsStr> RiMaybeRef for Iri<T> {
     ghost use Rattle.std.specs.Prelude.{refl};
+    ghost use Rattle.uri_ops.proofs.FourKinds.{iri_sets};
     ghost use Rattle.fluent_uri.specs.Iris.{iri_text};
 
     type Owned = Iri<String>;
@@ -87,6 +91,8 @@ impl<T: AsStr> RiMaybeRef for Iri<T> {
     }
 
     ghost rules_of_kind = { refl };
+
+    ghost component_sets = { iri_sets };
 
     ghost userinfo_set = { refl };
 
@@ -231,6 +237,17 @@ impl<'a> Iri<&'a str> {
     {
         traits::copied(alloc, &self)
     }
+
+    /// The normal form: what `Normalizer::new()` answers (RFC 3986, section 6.2.2).
+    ///
+    /// # Errors
+    ///
+    /// Only if memory is refused.
+    pub fn normalize(self, alloc: Global) -> Result<Iri<String>, AllocError>
+        ensures { IfOk result (λ normal. IsNormalForm iri default_port (iri_text self.entry) (iri_text normal)) }
+    {
+        normalize::normal(alloc, &self)
+    }
 }
 
 impl Iri<String> {
@@ -272,6 +289,17 @@ impl Iri<String> {
         ensures { string_bytes result ≡ iri_text self }
     {
         self.into()
+    }
+
+    /// The normal form: what `Normalizer::new()` answers (RFC 3986, section 6.2.2).
+    ///
+    /// # Errors
+    ///
+    /// Only if memory is refused.
+    pub fn normalize(&self, alloc: Global) -> Result<Iri<String>, AllocError>
+        ensures { IfOk result (λ normal. IsNormalForm iri default_port (iri_text self.now) (iri_text normal)) }
+    {
+        normalize::normal(alloc, self)
     }
 
     /// The text as it stands.

@@ -4,6 +4,8 @@ ghost use Rattle.uri_parts.specs.Components.{components};
 ghost use Rattle.uri_parts.specs.Errors.{IsErrorIn};
 ghost use Rattle.uri_parts.specs.Grammar.{IsOfKind, iri_ref};
 ghost use Rattle.uri_parts.specs.Positions.{AreAt};
+ghost use Rattle.uri_parts.specs.SchemePorts.{default_port};
+ghost use Rattle.uri_ops.specs.Normalizers.{IsNormalForm};
 
 use crate::component::IAuthority;
 use crate::iri::Iri;
@@ -12,6 +14,7 @@ use std::cmp::Ordering;
 use std::convert::{AsStr, TryFrom};
 use std::fmt;
 use std::hash::{Hash, Hasher};
+use uri_ops::normalize;
 use uri_ops::traits::{self, RefOf, RiMaybeRef};
 use uri_parts::component::Scheme;
 use uri_parts::core_text::CoreText;
@@ -48,6 +51,7 @@ impl<T: AsStr + Copy> Copy for IriRef<T> {}
 
 impl<T: AsStr> RiMaybeRef for IriRef<T> {
     ghost use Rattle.std.specs.Prelude.{refl};
+    ghost use Rattle.uri_ops.proofs.FourKinds.{iri_ref_sets};
     ghost use Rattle.fluent_uri.specs.IriRefs.{iri_ref_text};
 
     type Owned = IriRef<String>;
@@ -86,6 +90,8 @@ impl<T: AsStr> RiMaybeRef for IriRef<T> {
     }
 
     ghost rules_of_kind = { refl };
+
+    ghost component_sets = { iri_ref_sets };
 
     ghost userinfo_set = { refl };
 
@@ -236,6 +242,17 @@ impl<'a> IriRef<&'a str> {
     {
         traits::copied(alloc, &self)
     }
+
+    /// The normal form: what `Normalizer::new()` answers (RFC 3986, section 6.2.2).
+    ///
+    /// # Errors
+    ///
+    /// Only if memory is refused.
+    pub fn normalize(self, alloc: Global) -> Result<IriRef<String>, AllocError>
+        ensures { IfOk result (λ normal. IsNormalForm iri_ref default_port (iri_ref_text self.entry) (iri_ref_text normal)) }
+    {
+        normalize::normal(alloc, &self)
+    }
 }
 
 impl IriRef<String> {
@@ -277,6 +294,17 @@ impl IriRef<String> {
         ensures { string_bytes result ≡ iri_ref_text self }
     {
         self.into()
+    }
+
+    /// The normal form: what `Normalizer::new()` answers (RFC 3986, section 6.2.2).
+    ///
+    /// # Errors
+    ///
+    /// Only if memory is refused.
+    pub fn normalize(&self, alloc: Global) -> Result<IriRef<String>, AllocError>
+        ensures { IfOk result (λ normal. IsNormalForm iri_ref default_port (iri_ref_text self.now) (iri_ref_text normal)) }
+    {
+        normalize::normal(alloc, self)
     }
 
     /// The text as it stands.

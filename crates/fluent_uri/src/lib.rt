@@ -30,6 +30,12 @@ pub mod net {
     pub use uri_parts::net::{IpAddr, Ipv4Addr, Ipv6Addr};
 }
 
+/// Normalising references (RFC 3986, section 6.2.2).
+pub mod normalize {
+    pub use uri_ops::default_port::{DefaultPort, SchemeDefaults};
+    pub use uri_ops::normalize::{NormalizeError, Normalizer};
+}
+
 /// Texts that are percent-encoded over an encoder's set.
 pub mod pct_enc {
     pub use uri_pct::pct_enc::{

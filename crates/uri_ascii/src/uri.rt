@@ -5,12 +5,15 @@ ghost use Rattle.uri_parts.specs.Components.{components};
 ghost use Rattle.uri_parts.specs.Errors.{IsErrorIn};
 ghost use Rattle.uri_parts.specs.Grammar.{IsOfKind, uri};
 ghost use Rattle.uri_parts.specs.Positions.{AreAt};
+ghost use Rattle.uri_parts.specs.SchemePorts.{default_port};
+ghost use Rattle.uri_ops.specs.Normalizers.{IsNormalForm};
 
 use std::alloc::{AllocError, Global};
 use std::cmp::Ordering;
 use std::convert::{AsStr, TryFrom};
 use std::fmt;
 use std::hash::{Hash, Hasher};
+use uri_ops::normalize;
 use uri_ops::traits::{self, Ri, RiMaybeRef};
 use uri_parts::component::{Authority, Scheme};
 use uri_parts::core_text::CoreText;
@@ -49,6 +52,7 @@ impl<T: AsStr + Copy> Copy for Uri<T> {}
 #[tactic(auto, using(uri_parts::proofs::KindLemmas::uri_is_uri_ref))]
 impl<T: AsStr> RiMaybeRef for Uri<T> {
     ghost use Rattle.std.specs.Prelude.{refl};
+    ghost use Rattle.uri_ops.proofs.FourKinds.{uri_sets};
     ghost use Rattle.uri_ascii.specs.Uris.{uri_text};
 
     type Owned = Uri<String>;
@@ -87,6 +91,8 @@ impl<T: AsStr> RiMaybeRef for Uri<T> {
     }
 
     ghost rules_of_kind = { refl };
+
+    ghost component_sets = { uri_sets };
 
     ghost userinfo_set = { refl };
 
@@ -233,6 +239,17 @@ impl<'a> Uri<&'a str> {
     {
         traits::copied(alloc, &self)
     }
+
+    /// The normal form: what `Normalizer::new()` answers (RFC 3986, section 6.2.2).
+    ///
+    /// # Errors
+    ///
+    /// Only if memory is refused.
+    pub fn normalize(self, alloc: Global) -> Result<Uri<String>, AllocError>
+        ensures { IfOk result (λ normal. IsNormalForm uri default_port (uri_text self.entry) (uri_text normal)) }
+    {
+        normalize::normal(alloc, &self)
+    }
 }
 
 impl Uri<String> {
@@ -274,6 +291,17 @@ impl Uri<String> {
         ensures { string_bytes result ≡ uri_text self }
     {
         self.into()
+    }
+
+    /// The normal form: what `Normalizer::new()` answers (RFC 3986, section 6.2.2).
+    ///
+    /// # Errors
+    ///
+    /// Only if memory is refused.
+    pub fn normalize(&self, alloc: Global) -> Result<Uri<String>, AllocError>
+        ensures { IfOk result (λ normal. IsNormalForm uri default_port (uri_text self.now) (uri_text normal)) }
+    {
+        normalize::normal(alloc, self)
     }
 
     /// The text as it stands.

@@ -5,6 +5,8 @@ ghost use Rattle.uri_parts.specs.Components.{components};
 ghost use Rattle.uri_parts.specs.Errors.{IsErrorIn};
 ghost use Rattle.uri_parts.specs.Grammar.{IsOfKind, uri_ref};
 ghost use Rattle.uri_parts.specs.Positions.{AreAt};
+ghost use Rattle.uri_parts.specs.SchemePorts.{default_port};
+ghost use Rattle.uri_ops.specs.Normalizers.{IsNormalForm};
 
 use crate::uri::Uri;
 use std::alloc::{AllocError, Global};
@@ -12,6 +14,7 @@ use std::cmp::Ordering;
 use std::convert::{AsStr, TryFrom};
 use std::fmt;
 use std::hash::{Hash, Hasher};
+use uri_ops::normalize;
 use uri_ops::traits::{self, RefOf, RiMaybeRef};
 use uri_parts::component::{Authority, Scheme};
 use uri_parts::core_text::CoreText;
@@ -49,6 +52,7 @@ impl<T: AsStr + Copy> Copy for UriRef<T> {}
 
 impl<T: AsStr> RiMaybeRef for UriRef<T> {
     ghost use Rattle.std.specs.Prelude.{refl};
+    ghost use Rattle.uri_ops.proofs.FourKinds.{uri_ref_sets};
     ghost use Rattle.uri_ascii.specs.UriRefs.{uri_ref_text};
 
     type Owned = UriRef<String>;
@@ -87,6 +91,8 @@ impl<T: AsStr> RiMaybeRef for UriRef<T> {
     }
 
     ghost rules_of_kind = { refl };
+
+    ghost component_sets = { uri_ref_sets };
 
     ghost userinfo_set = { refl };
 
@@ -239,6 +245,17 @@ impl<'a> UriRef<&'a str> {
     {
         traits::copied(alloc, &self)
     }
+
+    /// The normal form: what `Normalizer::new()` answers (RFC 3986, section 6.2.2).
+    ///
+    /// # Errors
+    ///
+    /// Only if memory is refused.
+    pub fn normalize(self, alloc: Global) -> Result<UriRef<String>, AllocError>
+        ensures { IfOk result (λ normal. IsNormalForm uri_ref default_port (uri_ref_text self.entry) (uri_ref_text normal)) }
+    {
+        normalize::normal(alloc, &self)
+    }
 }
 
 impl UriRef<String> {
@@ -280,6 +297,17 @@ impl UriRef<String> {
         ensures { string_bytes result ≡ uri_ref_text self }
     {
         self.into()
+    }
+
+    /// The normal form: what `Normalizer::new()` answers (RFC 3986, section 6.2.2).
+    ///
+    /// # Errors
+    ///
+    /// Only if memory is refused.
+    pub fn normalize(&self, alloc: Global) -> Result<UriRef<String>, AllocError>
+        ensures { IfOk result (λ normal. IsNormalForm uri_ref default_port (uri_ref_text self.now) (uri_ref_text normal)) }
+    {
+        normalize::normal(alloc, self)
     }
 
     /// The text as it stands.

@@ -47,3 +47,6 @@ pub mod Decodable
 pub mod AsciiTexts
 pub mod Conversions
 pub mod EncodedRuns
+pub mod ReferenceKinds
+pub mod NormalPieces
+pub mod NormalForms

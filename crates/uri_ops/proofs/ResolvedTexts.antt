@@ -2,7 +2,6 @@
 use Rattle.std.proofs.Common.{◌≡◌, ℕ, Bool, true, false, not, List, refl, sym, ap, subst, ◌∙◌, ◌&&◌, ◌||◌}
 use Rattle.std.specs.Prelude.{IfSome, Ok, Err, IfErr, Result}
 use Rattle.std.specs.Str.{IsUtf8}
-use Rattle.std.proofs.lemmas.Bool.{and_parts, and_from, false≢true}
 use Rattle.uri_parts.specs.Components.{Components, IsRooted, Lacks, components}
 use Rattle.uri_parts.specs.Grammar.{Kind, IsOfKind}
 use Rattle.uri_parts.proofs.Recompose.{IsSplitOf-components}
@@ -13,18 +12,6 @@ use Rattle.uri_ops.specs.Resolving.{IsTarget, IsErrorFor}
 use Rattle.uri_ops.specs.declared.resolve.ResolveError.{ResolveError}
 use Rattle.uri_ops.proofs.Tests.{each_some}
 use Rattle.uri_ops.proofs.TargetTexts.{target_is_text}
-
--- a text of a kind is a reference of it
-needs_none : (x y needs : Bool) → (x || (not needs && y)) ≡ true → (x || y) ≡ true
-needs_none true y needs e = refl
-needs_none false y false e = e
-needs_none false y true e = absurd (false≢true e)
-
-without_scheme : (kind : Kind) (text : List ℕ) → IsOfKind kind text → IsOfKind (reference_kind kind) text
-without_scheme kind text e = let p = and_parts _ _ e in and_from _ _ p.0 (needs_none _ _ kind.needs_scheme p.1)
-
-pub of_reference_kind : (kind other : Kind) (text : List ℕ) → other ≡ reference_kind kind → IsOfKind kind text → IsOfKind other text
-of_reference_kind kind other text same e = subst (λ k. IsOfKind k text) (sym same) (without_scheme kind text e)
 
 -- a path behind an authority
 pub rooted_path : (p : Components) (text : List ℕ) → p ≡ components text → IfSome p.authority (λ _. IsRooted p.path)

@@ -6,17 +6,21 @@ pub mod across;
 #[doc(hidden)]
 pub mod canonical;
 pub mod convert;
-#[doc(hidden)]
-pub mod encoded;
+pub mod default_port;
 #[doc(hidden)]
 pub mod dot_segments;
 #[doc(hidden)]
+pub mod encoded;
+#[doc(hidden)]
 pub mod laws;
-pub mod resolve;
 #[doc(hidden)]
 pub mod normal_authority;
 #[doc(hidden)]
+pub mod normal_text;
+pub mod normalize;
+#[doc(hidden)]
 pub mod reading;
+pub mod resolve;
 #[doc(hidden)]
 pub mod swap;
 pub mod traits;

@@ -17,6 +17,7 @@ use uri_pct::encoder::{Encoder, PathEncoder};
 pub trait RiMaybeRef {
     ghost use Rattle.std.specs.Prelude.{ℕ, List};
     ghost use Rattle.uri_parts.specs.Grammar.{Kind};
+    ghost use Rattle.uri_ops.specs.ComponentSets.{HasComponentSets};
 
     /// The kind over a text of its own.
     type Owned: Drop;
@@ -64,6 +65,8 @@ pub trait RiMaybeRef {
         ensures { owned_text result ≡ string_bytes owned };
 
     ghost rules_of_kind: { Self.Rules.kind ≡ record kind { needs_scheme = false } };
+
+    ghost component_sets: { HasComponentSets kind };
 
     ghost userinfo_set: { Self.UserinfoE.set ≡ kind.userinfo };
 

@@ -2,7 +2,7 @@ use Rattle.std.proofs.Common.{◌≡◌, sym, ap, subst, ◌∙◌}
 use Rattle.std.specs.Prelude.{is_ok}
 use Rattle.std.proofs.lemmas.Bool.{false≢true}
 use Rattle.uri_parts.specs.Grammar.{IsOfKind}
-use Rattle.uri_ops.proofs.ResolvedTexts.{of_reference_kind}
+use Rattle.uri_ops.proofs.ReferenceKinds.{of_reference_kind}
 use Rattle.uri_ops.proofs.resolve.owned.Goals as goal
 
 pub unreachable-requires : goal.unreachable-requires

@@ -1,0 +1,43 @@
+-- A text that is the normal text of a text of the kind.
+use Rattle.std.proofs.Common.{◌≡◌, List, ℕ, false, sym, ap, subst, ◌∙◌}
+use Rattle.std.specs.Prelude.{◌↔◌}
+use Rattle.std.specs.Str.{IsUtf8}
+use Rattle.uri_parts.specs.Grammar.{Kind, IsOfKind}
+use Rattle.uri_ops.specs.ComponentSets.{HasComponentSets}
+use Rattle.uri_ops.specs.Meaning.{meaning_of}
+use Rattle.uri_ops.specs.Normal.{normal_text}
+use Rattle.uri_ops.specs.Normalizers.{HasNormalText, IsNormalForm}
+use Rattle.uri_ops.specs.Ports.{PortFunction}
+use Rattle.uri_ops.specs.Texts.{IsTextOf}
+use Rattle.uri_ops.proofs.ReferenceKinds.{of_reference_kind}
+use Rattle.uri_ops.proofs.NormalTexts.{normal_is_text, meaning_of-normal_text, same_normal_text}
+
+-- whether a scheme is needed makes no difference to a meaning
+same_meaning : (kind wide : Kind) (ports : PortFunction) (text : List ℕ) → wide ≡ record kind { needs_scheme = false } → meaning_of wide ports text ≡ meaning_of kind ports text
+same_meaning kind wide ports text e = ap (λ k. meaning_of k ports text) e
+
+module _ (kind wide : Kind) (reference : wide ≡ record kind { needs_scheme = false }) (sets : HasComponentSets kind) (ports : PortFunction)
+    (held text normal : List ℕ) (same : held ≡ text) (utf8 : IsUtf8 held) (grammar : IsOfKind kind text) (made : HasNormalText wide ports held normal) where
+  source : IsTextOf kind text
+  source = record { utf8 = subst IsUtf8 same utf8; grammar = grammar }
+
+  is_normal : normal ≡ normal_text (meaning_of kind ports text)
+  is_normal = made.text ∙ ap normal_text (same_meaning kind wide ports held reference) ∙ ap (λ t. normal_text (meaning_of kind ports t)) same
+
+  pub normal_is_of_kind : IsTextOf kind normal
+  normal_is_of_kind = subst (IsTextOf kind) (sym is_normal) (normal_is_text kind ports sets text source)
+
+  pub normal_is_reference : (text : List ℕ) → text ≡ normal → IsTextOf wide text
+  normal_is_reference t e =
+      subst (IsTextOf wide) (sym e) (record { utf8 = normal_is_of_kind.utf8; grammar = of_reference_kind kind wide normal reference normal_is_of_kind.grammar })
+
+  normal_meaning : meaning_of kind ports normal ≡ meaning_of kind ports text
+  normal_meaning = ap (meaning_of kind ports) is_normal ∙ meaning_of-normal_text kind ports sets text source
+
+  normal_same : (other : List ℕ) → IsTextOf kind other → (normal ≡ normal_text (meaning_of kind ports other) ↔ meaning_of kind ports text ≡ meaning_of kind ports other)
+  normal_same other w =
+      let both = same_normal_text kind ports sets text other source w in
+      (λ h. both.0 (sym is_normal ∙ h), λ h. is_normal ∙ both.1 h)
+
+  pub normal_form : IsNormalForm kind ports text normal
+  normal_form = record { text = is_normal; meaning = normal_meaning; same = normal_same }

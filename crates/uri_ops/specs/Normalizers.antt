@@ -1,0 +1,32 @@
+-- What a normaliser holds, answers and refuses: RFC 3986, section 6.2.2.
+use Rattle.std.specs.Prelude.{◌≡◌, ◌↔◌, ℕ, Bool, List}
+use Rattle.uri_parts.specs.Components.{components}
+use Rattle.uri_parts.specs.Grammar.{Kind}
+use Rattle.uri_ops.specs.Meaning.{meaning_of}
+use Rattle.uri_ops.specs.Normal.{normal_text}
+use Rattle.uri_ops.specs.NormalPaths.{path_underflows}
+use Rattle.uri_ops.specs.Ports.{PortFunction}
+use Rattle.uri_ops.specs.Texts.{IsTextOf}
+use Rattle.uri_ops.specs.declared.normalize.Normalizer.{Normalizer}
+
+-- the setting: dot segments may underflow
+abbrev pub allows_underflow : {P : Type 0} → Normalizer P → Bool
+allows_underflow n = n.allow_path_underflow
+
+-- the setting: the default ports
+abbrev pub ports_of : {P : Type 0} → Normalizer P → P
+ports_of n = n.ports
+
+-- under a scheme a double dot of the path has nothing left to remove
+unfoldable pub text_underflows : List ℕ → Bool
+text_underflows text = let p = components text in path_underflows p.scheme p.path
+
+-- the normal text of a text
+pub record HasNormalText (kind : Kind) (ports : PortFunction) (source normal : List ℕ) : Type 0 where
+  pub text : normal ≡ normal_text (meaning_of kind ports source)
+
+-- the normal text of a text of the kind has its meaning, and is that of another one exactly if the two mean the same
+pub record IsNormalForm (kind : Kind) (ports : PortFunction) (source normal : List ℕ) : Type 0 where
+  pub text : normal ≡ normal_text (meaning_of kind ports source)
+  pub meaning : meaning_of kind ports normal ≡ meaning_of kind ports source
+  pub same : (other : List ℕ) → IsTextOf kind other → (normal ≡ normal_text (meaning_of kind ports other) ↔ meaning_of kind ports source ≡ meaning_of kind ports other)

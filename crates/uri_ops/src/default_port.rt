@@ -1,0 +1,32 @@
+//! The default ports of schemes, as a normaliser asks for them.
+use uri_parts::component::Scheme;
+
+/// The default ports of schemes (RFC 3986, sections 3.2.3 and 6.2.3).
+pub trait DefaultPort: Drop {
+    ghost use Rattle.std.specs.Prelude.{◌≡◌};
+    ghost use Rattle.uri_parts.specs.Schemes.{lowered_scheme};
+    ghost use Rattle.uri_ops.specs.Ports.{PortFunction};
+
+    ghost port_of: { Self → PortFunction };
+
+    /// The default port of the scheme, if it has one.
+    ///
+    /// The answer depends on this value and on the scheme's text in lower case alone, so equal
+    /// schemes get equal answers.
+    fn default_port(&self, scheme: Scheme<'_>) -> Option<u16>
+        ensures { result ≡ port_of self.now (lowered_scheme scheme.entry) };
+}
+
+/// The default ports that `Scheme::default_port` answers.
+#[derive(Clone, Copy)]
+pub struct SchemeDefaults;
+
+impl DefaultPort for SchemeDefaults {
+    ghost use Rattle.uri_parts.specs.SchemePorts.{default_port};
+
+    ghost port_of = { λ _. default_port };
+
+    fn default_port(&self, scheme: Scheme<'_>) -> Option<u16> {
+        scheme.default_port()
+    }
+}

@@ -1,0 +1,171 @@
+//! Normalising references (RFC 3986, section 6.2.2, and of section 6.2.3 what it says of ports; RFC
+//! 3987, section 5.3.2).
+ghost use Rattle.std.specs.Prelude.{◌≡◌, IfOk, IfErr, true, false, string_bytes};
+ghost use Rattle.std.specs.Str.{IsUtf8};
+ghost use Rattle.uri_parts.specs.CoreTexts.{core_text};
+ghost use Rattle.uri_parts.specs.Positions.{AreAt};
+ghost use Rattle.uri_parts.specs.SchemePorts.{default_port};
+ghost use Rattle.uri_ops.specs.ComponentSets.{HasComponentSets};
+ghost use Rattle.uri_ops.specs.Normalizers.{HasNormalText, IsNormalForm, allows_underflow, ports_of, text_underflows};
+ghost use Rattle.uri_ops.specs.Texts.{IsTextOf};
+ghost use Rattle.uri_ops.specs.declared.normalize.NormalizeError.TheVariants.{PathUnderflow};
+
+use crate::default_port::{DefaultPort, SchemeDefaults};
+use crate::normal_text::push_normal;
+use crate::traits::RiMaybeRef;
+use std::alloc::{AllocError, Global};
+use thiserror::Error;
+use uri_parts::core_text::CoreText;
+use uri_parts::positions::Positions;
+use uri_parts::rules::{Encoders, Rules};
+
+/// Why a value was not normalised.
+#[derive(Clone, Copy, Debug, PartialEq, Eq, Error)]
+pub enum NormalizeError {
+    /// A double dot had no segment left to remove (RFC 3986, section 5.2.4), and this is not allowed.
+    #[error("underflow occurred in path resolution")]
+    PathUnderflow,
+    /// Memory was refused.
+    #[error("out of memory")]
+    OutOfMemory,
+}
+
+impl From<AllocError> for NormalizeError {
+    ghost use Rattle.uri_ops.specs.declared.normalize.NormalizeError.TheVariants.{OutOfMemory};
+
+    ghost from_gives = { λ _ error. error ≡ OutOfMemory };
+
+    fn from(_: AllocError) -> NormalizeError {
+        NormalizeError::OutOfMemory
+    }
+}
+
+/// What normalises values, by its settings: whether dot segments may underflow, and the default
+/// ports of schemes.
+#[derive(Drop)]
+pub struct Normalizer<P> {
+    allow_path_underflow: bool,
+    ports: P,
+}
+
+/// A normal text, and whether the removal of its dot segments underflows.
+#[derive(Drop)]
+struct Normalized {
+    text: String,
+    underflows: bool,
+}
+
+/// The normal text of a text of a kind.
+#[tactic(auto, unfolding(crate::specs::Normalizers::text_underflows))]
+fn normal_form<K: Encoders, P: DefaultPort>(
+    alloc: Global,
+    core: CoreText<'_, K>,
+    ports: &P,
+) -> Result<Normalized, AllocError>
+    requires { HasComponentSets K.kind }
+    ensures utf8 { IsUtf8 (core_text core.entry) }
+    ensures text { IfOk result (λ made. HasNormalText K.kind (P.port_of ports.now) (core_text core.entry) (string_bytes made.text)) }
+    ensures underflow { IfOk result (λ made. made.underflows ≡ text_underflows (core_text core.entry)) }
+{
+    let mut text = String::new(alloc);
+    text.reserve(core.as_str().len())?;
+    let underflows = push_normal(alloc, core, ports, &mut text)?;
+    Ok(Normalized { text, underflows })
+}
+
+/// Where the components lie of a text that is known to be of the kind.
+fn positions_in<K: Rules>(text: &str) -> Positions
+    requires { IsTextOf K.kind text.now }
+    ensures { AreAt text.now result }
+{
+    match K::parse(text) {
+        Ok(positions) => positions,
+        Err(_) => unreachable!(),
+    }
+}
+
+impl Normalizer<SchemeDefaults> {
+    /// A normaliser with the default ports of `Scheme::default_port`, where dot segments may
+    /// underflow.
+    pub fn new() -> Normalizer<SchemeDefaults>
+        ensures { allows_underflow result ≡ true }
+    {
+        Normalizer {
+            allow_path_underflow: true,
+            ports: SchemeDefaults,
+        }
+    }
+}
+
+impl Default for Normalizer<SchemeDefaults> {
+    ghost is_default = { λ normalizer. allows_underflow normalizer ≡ true };
+
+    fn default() -> Self {
+        Normalizer::new()
+    }
+}
+
+impl<P: DefaultPort> Normalizer<P> {
+    /// The same with another say on whether dot segments may underflow: whether `/..` is removed
+    /// where no segment stands before it (RFC 3986, section 5.2.4), in place of an error.
+    pub fn allow_path_underflow(self, value: bool) -> Normalizer<P>
+        ensures allows { allows_underflow result ≡ value }
+        ensures ports { ports_of result ≡ ports_of self }
+    {
+        Normalizer {
+            allow_path_underflow: value,
+            ports: self.ports,
+        }
+    }
+
+    /// The same with other default ports (RFC 3986, section 6.2.3).
+    pub fn default_port_with<Q: DefaultPort>(self, ports: Q) -> Normalizer<Q>
+        ensures allows { allows_underflow result ≡ allows_underflow self }
+        ensures ports { ports_of result ≡ ports }
+    {
+        Normalizer {
+            allow_path_underflow: self.allow_path_underflow,
+            ports,
+        }
+    }
+
+    /// The normal form of a value: its scheme and its host are in lower case, each octet that spells
+    /// a readable character is that character and every other has upper-case digits, an empty or
+    /// default port is left out, and under a scheme a path that begins with `/` is without its dot
+    /// segments (RFC 3986, sections 6.2.2 and 6.2.3). Values of a kind have the same normal form
+    /// exactly if they mean the same.
+    ///
+    /// # Errors
+    ///
+    /// `PathUnderflow` if underflow is not allowed, and under a scheme a double dot of a path that
+    /// begins with `/` has nothing left to remove; `OutOfMemory` if memory is refused.
+    pub fn normalize<R: RiMaybeRef>(
+        &self,
+        alloc: Global,
+        value: &R,
+    ) -> Result<R::Owned, NormalizeError>
+        ensures normal { IfOk result (λ normal. IsNormalForm R.kind (P.port_of (ports_of self.now)) (R.text value.now) (R.owned_text normal)) }
+        ensures allowed { IfOk result (λ _. allows_underflow self.now ≡ false → text_underflows (R.text value.now) ≡ false) }
+        ensures underflow { IfErr result (λ error. error ≡ PathUnderflow → (allows_underflow self.now ≡ false) × (text_underflows (R.text value.now) ≡ true)) }
+    {
+        let made = normal_form(alloc, value.core(), &self.ports)?;
+        if made.underflows && !self.allow_path_underflow {
+            return Err(NormalizeError::PathUnderflow);
+        }
+        let positions = positions_in::<R::Rules>(made.text.as_str());
+        Ok(R::make_owned(made.text, positions))
+    }
+}
+
+/// The normal form of a value under the default ports of `Scheme::default_port`, where dot segments
+/// may underflow.
+#[doc(hidden)]
+pub fn normal<R: RiMaybeRef>(alloc: Global, value: &R) -> Result<R::Owned, AllocError>
+    ensures { IfOk result (λ normal. IsNormalForm R.kind default_port (R.text value.now) (R.owned_text normal)) }
+{
+    match Normalizer::new().normalize(alloc, value) {
+        Ok(normal) => Ok(normal),
+        Err(NormalizeError::OutOfMemory) => Err(AllocError),
+        Err(NormalizeError::PathUnderflow) => unreachable!(),
+    }
+}
