@@ -43,4 +43,4 @@ pub use Rattle.uri_ops.specs.NormalPaths
 pub use Rattle.uri_ops.specs.Normalizers
 pub use Rattle.uri_ops.specs.Ports
 pub use Rattle.uri_ops.specs.Target
-pub use Rattle.uri_ops.specs.Texts
+pub use Rattle.uri_ops.specs.Texts as KindTexts

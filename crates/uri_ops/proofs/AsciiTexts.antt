@@ -3,18 +3,18 @@ use Rattle.std.proofs.Common.{◌≡◌, ℕ, zero, suc, ◌<◌, Bool, true, fa
 use Rattle.std.specs.Prelude.{codes, Option, Some, None, IfSome}
 use Rattle.std.specs.Char.{is_ascii_hexdigit, is_ascii_digit}
 use Rattle.std.specs.List.{list_all}
-use Rattle.std.specs.Str.{IsUtf8, continuation_len}
+use Rattle.std.specs.Str.{IsUtf8}
 use Rattle.std.proofs.lemmas.List.Folds.{list_all-append}
 use Rattle.std.proofs.lemmas.Bool.{cases_Bool, cases_lt, cond-true, cond-false, and_parts, and_from, lt-ltb, both_ways, eqb-true}
 use Rattle.uri_pct.specs.Sets.{TableSet, LacksPercent, allows_past_ascii, digit_set, is_userinfo_char}
-use Rattle.uri_pct.specs.Tokens.{IsValidFor, is_valid_for}
+use Rattle.uri_pct.specs.Tokens.{IsValidFor}
 use Rattle.uri_pct.specs.Fronts.{allows_first, begins_hex, first_char}
-use Rattle.uri_pct.proofs.Validity.{valid_from, valid_cons, is_valid_for-bytes, allows_first-past}
+use Rattle.uri_pct.proofs.Validity.{valid_from, is_valid_for-bytes, allows_first-past}
 use Rattle.uri_pct.proofs.Characters.{hex_ascii}
 use Rattle.uri_parts.specs.Components.{Components, components, marked, recompose}
 use Rattle.uri_parts.specs.Grammar.{Kind, is_scheme, is_authority}
-use Rattle.uri_parts.specs.Hosts.{HostKind, Ipv4, Ipv6, IpvFuture, RegName, IsHost, bracketed}
-use Rattle.uri_parts.specs.Authority.{IsAuthorityFor, authority_parts, authority_text}
+use Rattle.uri_parts.specs.Hosts.{HostKind, Ipv4, Ipv6, IpvFuture, RegName, IsHost}
+use Rattle.uri_parts.specs.Authority.{authority_parts}
 use Rattle.uri_parts.proofs.Addresses.{address_text-ipv6}
 use Rattle.uri_parts.proofs.Authority.{is_authority_for-sound}
 use Rattle.uri_parts.proofs.Hosts.{utf8_bracketed}
@@ -22,9 +22,9 @@ use Rattle.uri_parts.proofs.Recompose.{recompose-components}
 use Rattle.uri_ops.specs.ComponentSets.{IsComponentSet, HasComponentSets}
 use Rattle.uri_ops.specs.Encoded.{ascii_set, ascii_kind}
 use Rattle.uri_ops.specs.Texts.{IsTextOf}
-use Rattle.uri_ops.proofs.PlainTexts.{is_plain_char, valid_plain}
+use Rattle.uri_ops.proofs.PlainTexts.{valid_plain}
 use Rattle.uri_ops.proofs.HostMeanings.{plain_future, future_chars}
-use Rattle.uri_ops.proofs.AuthorityMeanings.{utf8_parts, keeps_apart}
+use Rattle.uri_ops.proofs.AuthorityMeanings.{utf8_parts}
 use Rattle.uri_ops.proofs.Parts.{is_part, part_utf8, part_valid}
 use Rattle.uri_ops.proofs.TextParts.{AreParts}
 use Rattle.uri_ops.proofs.Tests.{each_some, both_some}

@@ -1,5 +1,5 @@
 -- When a text of one kind is one of another.
-use Rattle.std.proofs.Common.{◌≡◌, ℕ, ◌+◌, ◌<◌, ◌≤◌, Bool, true, false, not, ltb, List, [], ◌∷◌, length, refl, sym, ap, ◌∙◌, ◌||◌, ⊎_elim, arith, option_map}
+use Rattle.std.proofs.Common.{◌≡◌, ℕ, ◌+◌, ◌≤◌, Bool, true, false, not, ltb, List, [], ◌∷◌, length, refl, sym, ap, ◌∙◌, ◌||◌, ⊎_elim, arith, option_map}
 use Rattle.std.specs.Prelude.{◌↔◌, Option, Some, None, is_some}
 use Rattle.std.specs.List.{list_all, position, prefix_len}
 use Rattle.std.specs.Option.{option_or}
@@ -7,7 +7,7 @@ use Rattle.std.specs.Str.{IsUtf8}
 use Rattle.std.proofs.lemmas.Bool.{cases_Bool, cases_lt, cond-true, cond-false, and_parts, and_from, lt-ltb, le-ltb, false≢true}
 use Rattle.uri_parts.specs.Components.{components}
 use Rattle.uri_parts.specs.Grammar.{Kind, IsOfKind, are_components, iri, iri_ref, uri, uri_ref}
-use Rattle.uri_parts.proofs.KindLemmas.{uri_has_scheme, uri_is_uri_ref, iri_has_scheme, iri_is_iri_ref}
+use Rattle.uri_parts.proofs.KindLemmas.{uri_has_scheme, uri_is_uri_ref, iri_has_scheme}
 use Rattle.uri_ops.specs.declared.convert.ConvertError.{ConvertError}
 use Rattle.uri_ops.specs.declared.convert.ConvertError.TheVariants.{NoScheme, NotAscii}
 use Rattle.uri_ops.specs.ComponentSets.{HasComponentSets}
@@ -15,12 +15,10 @@ use Rattle.uri_ops.specs.Conversions.{is_past_ascii, first_past_ascii, scheme_re
 use Rattle.uri_ops.specs.Encoded.{encoded_text, ascii_kind, MeanTheSame}
 use Rattle.uri_ops.specs.Meaning.{bare_meaning_of}
 use Rattle.uri_ops.specs.Ports.{no_defaults}
-use Rattle.uri_ops.specs.Texts.{IsTextOf}
 use Rattle.uri_ops.proofs.AsciiTexts.{text_ascii}
 use Rattle.uri_ops.proofs.EncodedMeanings.{encoded_is_text, meaning_of-encoded}
 use Rattle.uri_ops.proofs.EncodedPaths.{encoded-ascii}
-use Rattle.uri_ops.proofs.FourKinds.{uri_sets, uri_ref_sets, iri_sets, iri_ref_sets}
-use Rattle.uri_ops.proofs.PlainTexts.{utf8_ascii}
+use Rattle.uri_ops.proofs.FourKinds.{iri_sets, iri_ref_sets}
 use Rattle.uri_ops.proofs.WiderKinds.{text_wider, ascii_within}
 
 -- a scheme

@@ -1,8 +1,8 @@
 -- What is known of a base, a reference and a target where a target is computed.
-use Rattle.std.proofs.Common.{◌≡◌, ℕ, Bool, true, false, not, List, refl, sym, ap, subst, ◌∙◌, ◌&&◌, ◌||◌}
-use Rattle.std.specs.Prelude.{IfSome, Ok, Err, IfErr, Result}
+use Rattle.std.proofs.Common.{◌≡◌, ℕ, Bool, true, List, sym, subst}
+use Rattle.std.specs.Prelude.{IfSome, Ok}
 use Rattle.std.specs.Str.{IsUtf8}
-use Rattle.uri_parts.specs.Components.{Components, IsRooted, Lacks, components}
+use Rattle.uri_parts.specs.Components.{Components, IsRooted, components}
 use Rattle.uri_parts.specs.Grammar.{Kind, IsOfKind}
 use Rattle.uri_parts.proofs.Recompose.{IsSplitOf-components}
 use Rattle.uri_ops.specs.ComponentSets.{HasComponentSets}

@@ -1,11 +1,11 @@
 -- Resolving as a program answers it: RFC 3986, section 5.2.
-use Rattle.std.specs.Prelude.{◌≡◌, ◌||◌, ℕ, Bool, true, false, not, List, Result, Ok, Err, is_ok, is_some, option_map}
+use Rattle.std.specs.Prelude.{◌≡◌, ◌||◌, ℕ, Bool, true, false, not, List, Ok, Err, is_ok, is_some, option_map}
 use Rattle.uri_parts.specs.Components.{Components, starts}
 use Rattle.uri_ops.specs.declared.resolve.Parts.{Parts}
 use Rattle.uri_ops.specs.declared.resolve.ResolveError.{ResolveError}
 use Rattle.uri_ops.specs.declared.resolve.ResolveError.TheVariants as Of
 use Rattle.uri_ops.specs.Dots.{is_empty}
-use Rattle.uri_ops.specs.Target.{Refusal, BaseWithFragment, InvalidReferenceAgainstOpaqueBase, joined, cleaned_path, guarded, target_underflows, resolution_of}
+use Rattle.uri_ops.specs.Target.{BaseWithFragment, InvalidReferenceAgainstOpaqueBase, cleaned_path, guarded, target_underflows, resolution_of}
 
 -- the components that a program holds
 abbrev pub components_of : Parts → Components

@@ -1,4 +1,4 @@
-use Rattle.std.proofs.Common.{rules, ◌≡◌, ◌++◌, take, length, sym, ap, ◌∙◌, ◌∷◌, []}
+use Rattle.std.proofs.Common.{rules, ◌++◌, sym, ap, ◌∙◌}
 use Rattle.std.specs.Prelude.{codes}
 use Rattle.std.proofs.Math.Seq.{take-length}
 use Rattle.uri_ops.proofs.LastSlashes.{behind_slash, directory_plain, directory_dots, rooted_some, rooted_none}
