@@ -11,6 +11,8 @@ mod converting;
 #[cfg(test)]
 mod encoding;
 #[cfg(test)]
+mod fragments;
+#[cfg(test)]
 mod normalising;
 #[cfg(test)]
 mod original;

@@ -1,7 +1,8 @@
 //! IRI references (RFC 3987, section 2.2).
-ghost use Rattle.std.specs.Prelude.{◌≡◌, ◌↔◌, IsOk, IfOk, IfErr, Some, is_some, option_map, string_bytes};
+ghost use Rattle.std.specs.Prelude.{◌≡◌, ◌↔◌, IsOk, IfOk, IfErr, OnOk, OnErr, None, Some, is_some, option_map, string_bytes};
 ghost use Rattle.uri_parts.specs.Components.{components};
 ghost use Rattle.uri_parts.specs.Errors.{IsErrorIn};
+ghost use Rattle.uri_parts.specs.Fragments.{IsWithFragment};
 ghost use Rattle.uri_parts.specs.Grammar.{IsOfKind, iri_ref};
 ghost use Rattle.uri_parts.specs.Positions.{AreAt};
 ghost use Rattle.uri_parts.specs.SchemePorts.{default_port};
@@ -19,9 +20,9 @@ use uri_ops::traits::{self, RefOf, RiMaybeRef};
 use uri_parts::component::Scheme;
 use uri_parts::core_text::CoreText;
 use uri_parts::error::ParseError;
-use uri_parts::parse;
 use uri_parts::positions::Positions;
 use uri_parts::rules::IriRefRules;
+use uri_parts::{fragment, parse};
 use uri_pct::encoder::{IFragment, IPath, IQuery, IRegName, IUserinfo};
 use uri_pct::pct_enc::EStr;
 
@@ -232,6 +233,40 @@ impl<'a> IriRef<&'a str> {
         self.parts().fragment()
     }
 
+    /// The same IRI reference without its fragment (RFC 3986, section 3.5): the text up to its `#`.
+    ///
+    /// # Examples
+    ///
+    /// Of `http://example.com/#fragment` it is `http://example.com/`.
+    pub fn strip_fragment(self) -> IriRef<&'a str>
+        ensures { IsWithFragment (iri_ref_text self.entry) None (iri_ref_text result) }
+    {
+        IriRef {
+            text: self.positions.without_fragment(self.text),
+            positions: self.positions,
+        }
+    }
+
+    /// A copy with this fragment in place of its own, or with none (RFC 3986, section 3.5).
+    ///
+    /// # Errors
+    ///
+    /// Only if memory is refused.
+    ///
+    /// # Examples
+    ///
+    /// Of `http://example.com/` with the fragment `fragment` it is `http://example.com/#fragment`,
+    /// with the empty fragment `http://example.com/#`, and with none `http://example.com/`.
+    pub fn with_fragment(
+        self,
+        alloc: Global,
+        fragment: Option<EStr<'_, IFragment>>,
+    ) -> Result<IriRef<String>, AllocError>
+        ensures { IfOk result (λ made. IsWithFragment (iri_ref_text self.entry) (option_map text_of fragment.entry) (iri_ref_text made)) }
+    {
+        traits::with_fragment(alloc, &self, fragment)
+    }
+
     /// The same IRI reference over a copy of the text.
     ///
     /// # Errors
@@ -287,6 +322,56 @@ impl IriRef<String> {
             text: self.text.as_str(),
             positions: self.positions,
         }
+    }
+
+    /// The same IRI reference without its fragment (RFC 3986, section 3.5): the text up to its `#`.
+    ///
+    /// # Examples
+    ///
+    /// Of `http://example.com/#fragment` it is `http://example.com/`.
+    pub fn strip_fragment(&self) -> IriRef<&str>
+        ensures { IsWithFragment (iri_ref_text self.now) None (iri_ref_text result) }
+    {
+        self.borrow().strip_fragment()
+    }
+
+    /// A copy with this fragment in place of its own, or with none (RFC 3986, section 3.5).
+    ///
+    /// # Errors
+    ///
+    /// Only if memory is refused.
+    ///
+    /// # Examples
+    ///
+    /// Of `http://example.com/` with the fragment `fragment` it is `http://example.com/#fragment`,
+    /// with the empty fragment `http://example.com/#`, and with none `http://example.com/`.
+    pub fn with_fragment(
+        &self,
+        alloc: Global,
+        fragment: Option<EStr<'_, IFragment>>,
+    ) -> Result<IriRef<String>, AllocError>
+        ensures { IfOk result (λ made. IsWithFragment (iri_ref_text self.now) (option_map text_of fragment.entry) (iri_ref_text made)) }
+    {
+        traits::with_fragment(alloc, self, fragment)
+    }
+
+    /// Puts this fragment, or none, in place of its own (RFC 3986, section 3.5).
+    ///
+    /// # Errors
+    ///
+    /// Only if memory is refused, and never with `None`, which asks for none. The text, with its
+    /// fragment, is then as it was.
+    ///
+    /// # Examples
+    ///
+    /// With the fragment `fragment`, `http://example.com/` becomes `http://example.com/#fragment`,
+    /// and with `None` it is `http://example.com/` again.
+    pub fn set_fragment(&mut self, fragment: Option<EStr<'_, IFragment>>) -> Result<(), AllocError>
+        ensures set { OnOk result (IsWithFragment (iri_ref_text self.old) (option_map text_of fragment.entry) (iri_ref_text self.new)) }
+        ensures kept { OnErr result (iri_ref_text self.new ≡ iri_ref_text self.old) }
+        ensures none { fragment.entry ≡ None → IsOk result }
+    {
+        fragment::set_fragment(&mut self.text, &self.positions, fragment)
     }
 
     /// The text as it stands, with its memory.

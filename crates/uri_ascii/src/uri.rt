@@ -1,8 +1,9 @@
 //! URIs (RFC 3986, section 3).
-ghost use Rattle.std.specs.Prelude.{◌≡◌, ◌↔◌, IsOk, IfOk, IfErr, Some, is_some, option_map, string_bytes};
+ghost use Rattle.std.specs.Prelude.{◌≡◌, ◌↔◌, IsOk, IfOk, IfErr, OnOk, OnErr, None, Some, is_some, option_map, string_bytes};
 ghost use Rattle.std.specs.Str.{IsUtf8};
 ghost use Rattle.uri_parts.specs.Components.{components};
 ghost use Rattle.uri_parts.specs.Errors.{IsErrorIn};
+ghost use Rattle.uri_parts.specs.Fragments.{IsWithFragment};
 ghost use Rattle.uri_parts.specs.Grammar.{IsOfKind, uri};
 ghost use Rattle.uri_parts.specs.Positions.{AreAt};
 ghost use Rattle.uri_parts.specs.SchemePorts.{default_port};
@@ -18,9 +19,9 @@ use uri_ops::traits::{self, Ri, RiMaybeRef};
 use uri_parts::component::{Authority, Scheme};
 use uri_parts::core_text::CoreText;
 use uri_parts::error::ParseError;
-use uri_parts::parse;
 use uri_parts::positions::Positions;
 use uri_parts::rules::UriRefRules;
+use uri_parts::{fragment, parse};
 use uri_pct::encoder::{Fragment, Path, Query, RegName, Userinfo};
 use uri_pct::pct_enc::EStr;
 
@@ -229,6 +230,40 @@ impl<'a> Uri<&'a str> {
         self.parts().fragment()
     }
 
+    /// The same URI without its fragment (RFC 3986, section 3.5): the text up to its `#`.
+    ///
+    /// # Examples
+    ///
+    /// Of `http://example.com/#fragment` it is `http://example.com/`.
+    pub fn strip_fragment(self) -> Uri<&'a str>
+        ensures { IsWithFragment (uri_text self.entry) None (uri_text result) }
+    {
+        Uri {
+            text: self.positions.without_fragment(self.text),
+            positions: self.positions,
+        }
+    }
+
+    /// A copy with this fragment in place of its own, or with none (RFC 3986, section 3.5).
+    ///
+    /// # Errors
+    ///
+    /// Only if memory is refused.
+    ///
+    /// # Examples
+    ///
+    /// Of `http://example.com/` with the fragment `fragment` it is `http://example.com/#fragment`,
+    /// with the empty fragment `http://example.com/#`, and with none `http://example.com/`.
+    pub fn with_fragment(
+        self,
+        alloc: Global,
+        fragment: Option<EStr<'_, Fragment>>,
+    ) -> Result<Uri<String>, AllocError>
+        ensures { IfOk result (λ made. IsWithFragment (uri_text self.entry) (option_map text_of fragment.entry) (uri_text made)) }
+    {
+        traits::with_fragment(alloc, &self, fragment)
+    }
+
     /// The same URI over a copy of the text.
     ///
     /// # Errors
@@ -284,6 +319,56 @@ impl Uri<String> {
             text: self.text.as_str(),
             positions: self.positions,
         }
+    }
+
+    /// The same URI without its fragment (RFC 3986, section 3.5): the text up to its `#`.
+    ///
+    /// # Examples
+    ///
+    /// Of `http://example.com/#fragment` it is `http://example.com/`.
+    pub fn strip_fragment(&self) -> Uri<&str>
+        ensures { IsWithFragment (uri_text self.now) None (uri_text result) }
+    {
+        self.borrow().strip_fragment()
+    }
+
+    /// A copy with this fragment in place of its own, or with none (RFC 3986, section 3.5).
+    ///
+    /// # Errors
+    ///
+    /// Only if memory is refused.
+    ///
+    /// # Examples
+    ///
+    /// Of `http://example.com/` with the fragment `fragment` it is `http://example.com/#fragment`,
+    /// with the empty fragment `http://example.com/#`, and with none `http://example.com/`.
+    pub fn with_fragment(
+        &self,
+        alloc: Global,
+        fragment: Option<EStr<'_, Fragment>>,
+    ) -> Result<Uri<String>, AllocError>
+        ensures { IfOk result (λ made. IsWithFragment (uri_text self.now) (option_map text_of fragment.entry) (uri_text made)) }
+    {
+        traits::with_fragment(alloc, self, fragment)
+    }
+
+    /// Puts this fragment, or none, in place of its own (RFC 3986, section 3.5).
+    ///
+    /// # Errors
+    ///
+    /// Only if memory is refused, and never with `None`, which asks for none. The text, with its
+    /// fragment, is then as it was.
+    ///
+    /// # Examples
+    ///
+    /// With the fragment `fragment`, `http://example.com/` becomes `http://example.com/#fragment`,
+    /// and with `None` it is `http://example.com/` again.
+    pub fn set_fragment(&mut self, fragment: Option<EStr<'_, Fragment>>) -> Result<(), AllocError>
+        ensures set { OnOk result (IsWithFragment (uri_text self.old) (option_map text_of fragment.entry) (uri_text self.new)) }
+        ensures kept { OnErr result (uri_text self.new ≡ uri_text self.old) }
+        ensures none { fragment.entry ≡ None → IsOk result }
+    {
+        fragment::set_fragment(&mut self.text, &self.positions, fragment)
     }
 
     /// The text as it stands, with its memory.

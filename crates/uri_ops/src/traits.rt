@@ -1,14 +1,18 @@
 //! What the four kinds have in common.
-ghost use Rattle.std.specs.Prelude.{◌≡◌, IfOk, false, string_bytes};
+ghost use Rattle.std.specs.Prelude.{◌≡◌, IfOk, false, option_map, string_bytes};
 ghost use Rattle.uri_parts.specs.CoreTexts.{core_text};
+ghost use Rattle.uri_parts.specs.Fragments.{IsWithFragment};
 ghost use Rattle.uri_parts.specs.Grammar.{IsOfKind};
 ghost use Rattle.uri_parts.specs.Positions.{AreAt};
+ghost use Rattle.uri_pct.specs.EStrs.{text_of};
 
 use std::alloc::{AllocError, Global};
 use uri_parts::core_text::CoreText;
+use uri_parts::fragment;
 use uri_parts::positions::Positions;
 use uri_parts::rules::Encoders;
 use uri_pct::encoder::{Encoder, PathEncoder};
+use uri_pct::pct_enc::EStr;
 
 /// A URI, a URI reference, an IRI or an IRI reference, over borrowed or owned text.
 ///
@@ -101,4 +105,19 @@ pub fn copied<R: RiMaybeRef>(alloc: Global, value: &R) -> Result<R::Owned, Alloc
     let core = value.core();
     let text = String::from_str(alloc, core.as_str())?;
     Ok(R::make_owned(text, core.positions()))
+}
+
+/// A copy of the value with this fragment in place of its own, or with none.
+#[doc(hidden)]
+pub fn with_fragment<R: RiMaybeRef>(
+    alloc: Global,
+    value: &R,
+    fragment: Option<EStr<'_, R::FragmentE>>,
+) -> Result<R::Owned, AllocError>
+    ensures { IfOk result (λ made. IsWithFragment (R.text value.now) (option_map text_of fragment.entry) (R.owned_text made)) }
+{
+    let core = value.core();
+    let positions = core.positions();
+    let text = fragment::with_fragment(alloc, core.as_str(), &positions, fragment)?;
+    Ok(R::make_owned(text, positions))
 }

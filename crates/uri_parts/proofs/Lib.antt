@@ -22,6 +22,7 @@ pub mod Texts
 pub mod ReadPositions
 pub mod KindLemmas
 pub mod Places
+pub mod Fragments
 mod Rows
 pub mod Parts
 pub mod Addresses

@@ -11,7 +11,7 @@ use Rattle.std.proofs.lemmas.Bool.Decides.{nat_tests}
 use Rattle.uri_pct.specs.Sets.{is_one_of}
 use Rattle.uri_parts.specs.declared.positions.Positions.{Positions}
 use Rattle.uri_parts.specs.declared.positions.AuthorityPositions.{AuthorityPositions}
-use Rattle.uri_parts.specs.Components.{Components, IsSplitOf, components, marked, IsRooted, Lacks}
+use Rattle.uri_parts.specs.Components.{Components, IsSplitOf, components, recompose, marked, IsRooted, Lacks}
 use Rattle.uri_parts.specs.Positions.{AreAt, positions_of, marked_length, before_fragment}
 use Rattle.uri_parts.proofs.Cuts.{Begins, Begins-more}
 use Rattle.uri_parts.proofs.Marks.{query_text, fragment_text, Begins-query_text, Begins-fragment_text, Begins-rooted}
@@ -75,10 +75,10 @@ LiesAt-behind_mark text before part behind c start end whole at_start at_end asc
     let starts : IsCharBoundary text start = rw (whole, at_start) (after_mark before (part ++ behind) c ascii valid) in
     LiesAt-between text (before ++ (c ∷ [])) part behind start end joined n at_end starts begins
 
-abbrev scheme_text : Option (List ℕ) → List ℕ
+abbrev pub scheme_text : Option (List ℕ) → List ℕ
 scheme_text scheme = marked [] scheme (codes ":")
 
-abbrev authority_text : Option (List ℕ) → List ℕ
+abbrev pub authority_text : Option (List ℕ) → List ℕ
 authority_text authority = marked (codes "//") authority []
 
 length-scheme_text : (scheme : Option (List ℕ)) → length (scheme_text scheme) ≡ marked_length 1 scheme
@@ -104,7 +104,7 @@ any_mark text begins = Begins-more (codes "/?#") (codes ":/?#") text (λ c e. gr
 end_mark : (text : List ℕ) → Begins (codes "?#") text → Begins (codes ":/?#") text
 end_mark text begins = Begins-more (codes "?#") (codes ":/?#") text (λ c e. grind (arith, nat_tests)) begins
 
-hash_mark : (text : List ℕ) → Begins (codes "#") text → Begins (codes ":/?#") text
+pub hash_mark : (text : List ℕ) → Begins (codes "#") text → Begins (codes ":/?#") text
 hash_mark text begins = Begins-more (codes "#") (codes ":/?#") text (λ c e. grind (arith, nat_tests)) begins
 
 -- the scheme
@@ -148,7 +148,7 @@ path_lies text scheme authority path behind whole utf8 rooted begins =
     LiesAt-between text front path behind start (start + length path) joined n refl (path_starts text scheme authority path behind whole utf8 rooted begins) (end_mark behind begins)
 
 -- the text up to the end of the path
-abbrev hierarchy_text : Option (List ℕ) → Option (List ℕ) → List ℕ → List ℕ
+abbrev pub hierarchy_text : Option (List ℕ) → Option (List ℕ) → List ℕ → List ℕ
 hierarchy_text scheme authority path = (scheme_text scheme ++ authority_text authority) ++ path
 
 length-hierarchy_text : (scheme authority : Option (List ℕ)) (path : List ℕ) → length (hierarchy_text scheme authority path) ≡ marked_length 1 scheme + marked_length 2 authority + length path
@@ -199,20 +199,23 @@ query_at text scheme authority path (Some q) fragment split utf8 =
     subst Lies n (query_lies text hierarchy q (fragment_text fragment) whole utf8 (Begins-fragment_text fragment))
 
 -- the text up to a fragment
-abbrev before_hash : Components → List ℕ
+abbrev pub before_hash : Components → List ℕ
 before_hash p = hierarchy_text p.scheme p.authority p.path ++ marked (codes "?") p.query []
 
-length-before_hash : (p : Components) → length (before_hash p) ≡ before_fragment (positions_of p)
+pub length-before_hash : (p : Components) → length (before_hash p) ≡ before_fragment (positions_of p)
 length-before_hash p =
     let path_end : ℕ = marked_length 1 p.scheme + marked_length 2 p.authority + length p.path in
     let n : length (before_hash p) ≡ path_end + marked_length 1 p.query =
     omega (arith, length-append (hierarchy_text p.scheme p.authority p.path) (marked (codes "?") p.query []), length-hierarchy_text p.scheme p.authority p.path, length-query_text p.query) in
     n ∙ sym (end-query path_end p.query)
 
-before_hash-append : (text : List ℕ) (p : Components) → IsSplitOf text p → text ≡ before_hash p ++ fragment_text p.fragment
-before_hash-append text p split =
-    sym split.whole ∙ hierarchy-append p.scheme p.authority p.path (query_text p.query p.fragment)
+pub recompose-before_hash : (p : Components) → recompose p ≡ before_hash p ++ fragment_text p.fragment
+recompose-before_hash p =
+    hierarchy-append p.scheme p.authority p.path (query_text p.query p.fragment)
     ∙ sym (append_assoc (hierarchy_text p.scheme p.authority p.path) (marked (codes "?") p.query []) (fragment_text p.fragment))
+
+pub before_hash-append : (text : List ℕ) (p : Components) → IsSplitOf text p → text ≡ before_hash p ++ fragment_text p.fragment
+before_hash-append text p split = sym split.whole ∙ recompose-before_hash p
 
 -- a text is longer than what stands before its fragment only where it has one
 fragment_there : (text before : List ℕ) (fragment : Option (List ℕ)) → text ≡ before ++ fragment_text fragment → nat_lt (length before) (length text) ≡ is_some fragment

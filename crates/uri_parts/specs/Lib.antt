@@ -7,6 +7,7 @@ pub mod Components
 pub mod Connecting
 pub mod CoreTexts
 pub mod Errors
+pub mod Fragments
 pub mod Grammar
 pub mod Grammars
 pub mod Hosts

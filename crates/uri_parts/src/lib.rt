@@ -11,6 +11,8 @@ pub mod error;
 #[doc(hidden)]
 pub mod fault;
 #[doc(hidden)]
+pub mod fragment;
+#[doc(hidden)]
 pub mod grammar;
 #[doc(hidden)]
 pub mod host_places;

@@ -1,6 +1,8 @@
 //! Where the components of a text lie (RFC 3986, appendix B), and the components cut out by them.
-ghost use Rattle.std.specs.Prelude.{◌≡◌, is_some, option_map};
+ghost use Rattle.std.specs.Prelude.{◌≡◌, None, is_some, option_map};
 ghost use Rattle.uri_parts.specs.Components.{components};
+ghost use Rattle.uri_parts.specs.Fragments.{IsWithFragment};
+ghost use Rattle.uri_parts.specs.Grammar.{Kind, IsOfKind};
 
 /// Where the components of a text lie, as byte offsets into it.
 ///
@@ -118,8 +120,18 @@ impl Positions {
         }
     }
 
+    /// The text up to its fragment.
+    pub fn without_fragment<'a>(&self, text: &'a str) -> &'a str
+        requires { AreAt text.now self.now }
+        ensures fragment { IsWithFragment text.now None result.now }
+        ensures of_kind { (kind : Kind) → IsOfKind kind text.now → IsOfKind kind result.now }
+        ensures at { AreAt result.now self.now }
+    {
+        &text[..self.before_fragment()]
+    }
+
     /// Where the query ends, or the path if there is none: where the `#` of a fragment stands.
-    fn before_fragment(&self) -> usize
+    pub fn before_fragment(&self) -> usize
         ensures { result ≡ before_fragment self.now }
     {
         self.query_end.unwrap_or(self.path_end)

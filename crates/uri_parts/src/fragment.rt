@@ -1,0 +1,77 @@
+//! The same text with another fragment (RFC 3986, section 3.5).
+ghost use Rattle.std.specs.Prelude.{◌≡◌, ◌<◌, ◌+◌, ◌++◌, ◌∷◌, IfOk, IsOk, OnErr, OnOk, None, length, option_map, string_bytes};
+ghost use Rattle.std.specs.String.{string_capacity};
+ghost use Rattle.uri_parts.specs.Fragments.{IsWithFragment, StaysOfKind};
+ghost use Rattle.uri_parts.specs.Positions.{AreAt};
+ghost use Rattle.uri_pct.specs.EStrs.{text_of};
+
+use crate::positions::Positions;
+use std::alloc::{AllocError, Global};
+use uri_pct::encoder::Encoder;
+use uri_pct::pct_enc::EStr;
+
+/// Appends a `#` and the fragment.
+fn push_fragment(text: &mut String, fragment: &str) -> Result<(), AllocError>
+    ensures text { OnOk result (string_bytes text.new ≡ string_bytes text.old ++ (35 ∷ fragment.now)) }
+    ensures full { OnErr result (string_capacity text.old < length (string_bytes text.old) + (length fragment.now + 1)) }
+{
+    text.push('#')?;
+    text.push_str(fragment)
+}
+
+/// A copy of the text with this fragment in place of its own, or with none.
+#[doc(hidden)]
+pub fn with_fragment<E: Encoder>(
+    alloc: Global,
+    text: &str,
+    positions: &Positions,
+    fragment: Option<EStr<'_, E>>,
+) -> Result<String, AllocError>
+    requires { AreAt text.now positions.now }
+    ensures fragment { IfOk result (λ made. IsWithFragment text.now (option_map text_of fragment.entry) (string_bytes made)) }
+    ensures of_kind { IfOk result (λ made. StaysOfKind E.set text.now (string_bytes made)) }
+    ensures at { IfOk result (λ made. AreAt (string_bytes made) positions.now) }
+{
+    let kept = positions.without_fragment(text);
+    let mut made = String::new(alloc);
+    let Some(fragment) = fragment else {
+        made.push_str(kept)?;
+        return Ok(made);
+    };
+    made.reserve(kept.len().saturating_add(fragment.len()).saturating_add(1))?;
+    made.push_str(kept)?;
+    push_fragment(&mut made, fragment.as_str())?;
+    Ok(made)
+}
+
+/// Puts this fragment, or none, in place of the text's own. Where memory is refused, the text is as
+/// it was; to take the fragment away no memory is asked for.
+#[doc(hidden)]
+pub fn set_fragment<E: Encoder>(
+    text: &mut String,
+    positions: &Positions,
+    fragment: Option<EStr<'_, E>>,
+) -> Result<(), AllocError>
+    requires { AreAt (string_bytes text.old) positions.now }
+    ensures fragment { OnOk result (IsWithFragment (string_bytes text.old) (option_map text_of fragment.entry) (string_bytes text.new)) }
+    ensures kept { OnErr result (string_bytes text.new ≡ string_bytes text.old) }
+    ensures none { fragment.entry ≡ None → IsOk result }
+    ensures of_kind { StaysOfKind E.set (string_bytes text.old) (string_bytes text.new) }
+    ensures at { AreAt (string_bytes text.new) positions.now }
+{
+    let kept = positions.before_fragment();
+    let Some(fragment) = fragment else {
+        text.truncate(kept);
+        return Ok(());
+    };
+    let Some(added) = fragment.len().checked_add(1) else {
+        return Err(AllocError);
+    };
+    // Memory is asked for first: where it is refused, the old fragment is still there.
+    text.reserve(added.saturating_sub(text.len() - kept))?;
+    text.truncate(kept);
+    let Ok(()) = push_fragment(text, fragment.as_str()) else {
+        unreachable!();
+    };
+    Ok(())
+}
