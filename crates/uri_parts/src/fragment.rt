@@ -1,5 +1,6 @@
 //! The same text with another fragment (RFC 3986, section 3.5).
-ghost use Rattle.std.specs.Prelude.{◌≡◌, ◌<◌, ◌+◌, ◌++◌, ◌∷◌, IfOk, IsOk, OnErr, OnOk, None, length, option_map, string_bytes};
+ghost use Rattle.std.specs.Prelude.{◌≡◌, ◌≤◌, ◌<◌, ◌+◌, ◌++◌, ◌∷◌, IfOk, IsOk, OnErr, OnOk, None, length, take, option_map, string_bytes};
+ghost use Rattle.std.specs.Str.{IsCharBoundary};
 ghost use Rattle.std.specs.String.{string_capacity};
 ghost use Rattle.uri_parts.specs.Fragments.{IsWithFragment, StaysOfKind};
 ghost use Rattle.uri_parts.specs.Positions.{AreAt};
@@ -17,6 +18,31 @@ fn push_fragment(text: &mut String, fragment: &str) -> Result<(), AllocError>
 {
     text.push('#')?;
     text.push_str(fragment)
+}
+
+/// Makes room for a `#` and a fragment of this length behind the text up to a place. The text is as
+/// it was.
+fn make_room(text: &mut String, place: usize, len: usize) -> Result<(), AllocError>
+    requires { IsCharBoundary (string_bytes text.old) place }
+    ensures same { string_bytes text.new ≡ string_bytes text.old }
+    ensures room { OnOk result (place + (len + 1) ≤ string_capacity text.new) }
+{
+    let Some(added) = len.checked_add(1) else {
+        return Err(AllocError);
+    };
+    text.reserve(added.saturating_sub(text.len() - place))
+}
+
+/// Puts a `#` and the fragment, for which there is room, in place of what stands behind a place.
+fn replace_end(text: &mut String, place: usize, fragment: &str)
+    requires boundary { IsCharBoundary (string_bytes text.old) place }
+    requires room { place + (length fragment.now + 1) ≤ string_capacity text.old }
+    ensures { string_bytes text.new ≡ take place (string_bytes text.old) ++ (35 ∷ fragment.now) }
+{
+    text.truncate(place);
+    let Ok(()) = push_fragment(text, fragment) else {
+        unreachable!();
+    };
 }
 
 /// A copy of the text with this fragment in place of its own, or with none.
@@ -64,14 +90,8 @@ pub fn set_fragment<E: Encoder>(
         text.truncate(kept);
         return Ok(());
     };
-    let Some(added) = fragment.len().checked_add(1) else {
-        return Err(AllocError);
-    };
     // Memory is asked for first: where it is refused, the old fragment is still there.
-    text.reserve(added.saturating_sub(text.len() - kept))?;
-    text.truncate(kept);
-    let Ok(()) = push_fragment(text, fragment.as_str()) else {
-        unreachable!();
-    };
+    make_room(text, kept, fragment.len())?;
+    replace_end(text, kept, fragment.as_str());
     Ok(())
 }
