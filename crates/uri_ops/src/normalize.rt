@@ -42,19 +42,19 @@ impl From<AllocError> for NormalizeError {
 #[derive(Drop)]
 pub struct Normalizer<P> {
     allow_path_underflow: bool,
-    ports: P,
+    pub(crate) ports: P,
 }
 
 /// A normal text, and whether the removal of its dot segments underflows.
 #[derive(Drop)]
-struct Normalized {
-    text: String,
-    underflows: bool,
+pub(crate) struct Normalized {
+    pub(crate) text: String,
+    pub(crate) underflows: bool,
 }
 
 /// The normal text of a text of a kind.
 #[tactic(auto, unfolding(crate::specs::Normalizers::text_underflows))]
-fn normal_form<K: Encoders, P: DefaultPort>(
+pub(crate) fn normal_form<K: Encoders, P: DefaultPort>(
     alloc: Global,
     core: CoreText<'_, K>,
     ports: &P,

@@ -1,16 +1,20 @@
 //! Resolving references against a base (RFC 3986, section 5).
-ghost use Rattle.std.specs.Prelude.{◌≡◌, ◌++◌, ◌&&◌, codes, IfOk, IfErr, OnOk, IfSome, [], true, option_map, string_bytes, take};
+ghost use Rattle.std.specs.Prelude.{◌≡◌, ◌++◌, ◌&&◌, codes, IfOk, IfErr, OnOk, IfSome, [], true, option_map, string_bytes, take, Ok};
 ghost use Rattle.uri_parts.specs.Grammar.{IsOfKind};
 ghost use Rattle.std.specs.Str.{IsCharBoundary, IsUtf8};
 ghost use Rattle.uri_parts.specs.Components.{IsRooted, components, has_authority, marked, recompose, starts};
 ghost use Rattle.uri_ops.specs.Dots.{directory, underflows};
+ghost use Rattle.uri_ops.specs.Normalizers.{ports_of};
+ghost use Rattle.uri_ops.specs.NormalTargets.{IsNormalTarget, IsRefusedAlike};
 ghost use Rattle.uri_ops.specs.Resolvers.{allows_underflow, base_of};
-ghost use Rattle.uri_ops.specs.Resolving.{IsErrorFor, IsTarget, components_of, finished, is_merged};
-ghost use Rattle.uri_ops.specs.Target.{cleaned_path, guarded, is_refused_as_opaque, joined, merged};
+ghost use Rattle.uri_ops.specs.Resolving.{IsErrorFor, IsRefusalFor, IsTarget, components_of, finished, is_merged};
+ghost use Rattle.uri_ops.specs.Target.{cleaned_path, guarded, is_refused_as_opaque, joined, merged, resolution_of};
 ghost use Rattle.uri_ops.specs.Texts.{IsTextOf};
 
+use crate::default_port::DefaultPort;
 use crate::dot_segments::{is_double_dot, last_slash, push_without_dot_segments};
-use crate::traits::{RefOf, Ri, RiMaybeRef, positions_in};
+use crate::normalize::{Normalizer, normal_form};
+use crate::traits::{RefOf, Ri, RiMaybeRef, core_of, positions_in};
 use std::alloc::{AllocError, Global};
 use thiserror::Error;
 
@@ -311,6 +315,8 @@ fn resolved_text<B: Ri, Q: RefOf<B>>(
     reference: &Q,
     allow_path_underflow: bool,
 ) -> Result<String, ResolveError>
+    ensures base { IsTextOf B.kind (B.text base.now) }
+    ensures reference { IsTextOf Q.kind (Q.text reference.now) }
     ensures of_kind { IfOk result (λ text. IsTextOf B.kind (string_bytes text)) }
     ensures target { IfOk result (λ text. IsTarget allow_path_underflow (components (B.text base.now)) (components (Q.text reference.now)) (string_bytes text)) }
     ensures error { IfErr result (IsErrorFor allow_path_underflow (components (B.text base.now)) (components (Q.text reference.now))) }
@@ -338,6 +344,20 @@ pub fn resolved<B: Ri, Q: RefOf<B>>(
     let text = resolved_text(alloc, base, reference, allow_path_underflow)?;
     let positions = positions_in::<B::Rules>(text.as_str());
     Ok(B::make_owned(text, positions))
+}
+
+/// The target of a reference against a base, where dot segments may underflow (RFC 3986, section
+/// 5.2). An error that the two texts alone decide comes before memory is asked for.
+#[doc(hidden)]
+pub fn resolved_against<B: Ri, Q: RefOf<B>>(
+    alloc: Global,
+    base: &B,
+    reference: &Q,
+) -> Result<B::Owned, ResolveError>
+    ensures target { IfOk result (λ target. resolution_of (components (B.text base.now)) (components (Q.text reference.now)) ≡ Ok (B.owned_text target)) }
+    ensures refusal { IfErr result (IsRefusalFor (components (B.text base.now)) (components (Q.text reference.now))) }
+{
+    resolved(alloc, base, reference, true)
 }
 
 impl<R: Ri> Resolver<R> {
@@ -394,5 +414,31 @@ impl<R: Ri> Resolver<R> {
         ensures error { IfErr result (IsErrorFor (allows_underflow self.now) (components (R.text (base_of self.now))) (components (Q.text reference.now))) }
     {
         resolved(alloc, &self.base, reference, self.allow_path_underflow)
+    }
+
+    /// The normal form of the target of a reference against the base: what `resolve` answers where
+    /// underflow is allowed, and then `normalize` of a normaliser with these ports (RFC 3986,
+    /// sections 5.2, 6.2.2 and 6.2.3). Whether underflow is allowed by either setting makes no
+    /// difference. A base and a reference that mean the same, such as the normal forms of both, have
+    /// the same answer.
+    ///
+    /// # Errors
+    ///
+    /// `BaseWithFragment` and `InvalidReferenceAgainstOpaqueBase` as `resolve` answers them;
+    /// `OutOfMemory` if memory is refused.
+    pub fn resolve_normalized<Q: RefOf<R>, P: DefaultPort>(
+        &self,
+        alloc: Global,
+        reference: &Q,
+        normalizer: &Normalizer<P>,
+    ) -> Result<R::Owned, ResolveError>
+        ensures normal { IfOk result (λ normal. IsNormalTarget R.kind Q.kind (P.port_of (ports_of normalizer.now)) (R.text (base_of self.now)) (Q.text reference.now) (R.owned_text normal)) }
+        ensures refusal { IfErr result (IsRefusedAlike R.kind Q.kind (P.port_of (ports_of normalizer.now)) (R.text (base_of self.now)) (Q.text reference.now)) }
+    {
+        let target = resolved_text(alloc, &self.base, reference, true)?;
+        let core = core_of::<R::Rules>(target.as_str());
+        let made = normal_form(alloc, core, &normalizer.ports)?;
+        let positions = positions_in::<R::Rules>(made.text.as_str());
+        Ok(R::make_owned(made.text, positions))
     }
 }

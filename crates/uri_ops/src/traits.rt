@@ -114,3 +114,11 @@ pub(crate) fn positions_in<K: Rules>(text: &str) -> Positions
         Err(_) => unreachable!(),
     }
 }
+
+/// A text that is known to be of the kind, with the positions of its components.
+pub(crate) fn core_of<K: Encoders>(text: &str) -> CoreText<'_, K>
+    requires { IsTextOf K.kind text.now }
+    ensures { core_text result ≡ text.now }
+{
+    CoreText::new(text, positions_in::<K>(text))
+}
