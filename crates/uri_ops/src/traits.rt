@@ -3,11 +3,12 @@ ghost use Rattle.std.specs.Prelude.{◌≡◌, IfOk, false, string_bytes};
 ghost use Rattle.uri_parts.specs.CoreTexts.{core_text};
 ghost use Rattle.uri_parts.specs.Grammar.{IsOfKind};
 ghost use Rattle.uri_parts.specs.Positions.{AreAt};
+ghost use Rattle.uri_ops.specs.Texts.{IsTextOf};
 
 use std::alloc::{AllocError, Global};
 use uri_parts::core_text::CoreText;
 use uri_parts::positions::Positions;
-use uri_parts::rules::Encoders;
+use uri_parts::rules::{Encoders, Rules};
 use uri_pct::encoder::{Encoder, PathEncoder};
 
 /// A URI, a URI reference, an IRI or an IRI reference, over borrowed or owned text.
@@ -101,4 +102,23 @@ pub fn copied<R: RiMaybeRef>(alloc: Global, value: &R) -> Result<R::Owned, Alloc
     let core = value.core();
     let text = String::from_str(alloc, core.as_str())?;
     Ok(R::make_owned(text, core.positions()))
+}
+
+/// Where the components lie of a text that is known to be of the kind.
+pub(crate) fn positions_in<K: Rules>(text: &str) -> Positions
+    requires { IsTextOf K.kind text.now }
+    ensures { AreAt text.now result }
+{
+    match K::parse(text) {
+        Ok(positions) => positions,
+        Err(_) => unreachable!(),
+    }
+}
+
+/// A text that is known to be of the kind, with the positions of its components.
+pub(crate) fn core_of<K: Encoders>(text: &str) -> CoreText<'_, K>
+    requires { IsTextOf K.kind text.now }
+    ensures { core_text result ≡ text.now }
+{
+    CoreText::new(text, positions_in::<K>(text))
 }
