@@ -116,6 +116,14 @@ fn encoders_refuse(rt: HostRuntime) {
 }
 
 #[test]
+fn encoders_of_a_caller(rt: HostRuntime) {
+    is_valid::<_, Nothing>(&rt, "", true);
+    is_valid::<_, Nothing>(&rt, "a", false);
+    is_valid::<_, Private>(&rt, "\u{E000}", true);
+    is_valid::<_, Private>(&rt, "é", false);
+}
+
+#[test]
 fn given_texts(rt: HostRuntime) {
     assert!(rt; EStr::<Path>::EMPTY.is_empty());
     assert_eq!(rt; EStr::<Path>::default().as_str(), "");
@@ -165,6 +173,8 @@ fn decoded_lossily(rt: HostRuntime) -> Result<(), Fail> {
         ("%F0%90%8Cx%80", "\u{FFFD}x\u{FFFD}", false),
         ("%ED%A0%80", "\u{FFFD}\u{FFFD}\u{FFFD}", false),
         ("%E2%82%41", "\u{FFFD}A", false),
+        ("%C0%80", "\u{FFFD}\u{FFFD}", false),
+        ("%F4%90%80%80", "\u{FFFD}\u{FFFD}\u{FFFD}\u{FFFD}", false),
         ("%C2%A1Ol%C3%A9%21", "¡Olé!", false),
         ("a+b", "a+b", true),
         ("", "", true),
@@ -222,6 +232,17 @@ fn decoded_bytes(rt: HostRuntime) -> Result<(), Fail> {
     assert!(rt; refused(&string).is_some_and(|bytes| bytes == wanted.as_slice()));
     let bytes = valid::<_, Path>(&rt, "a/b").decode().to_bytes(rt.alloc())?;
     assert!(rt; bytes_of(&rt, &bytes, true) == b"a/b".as_slice());
+    Ok(())
+}
+
+/// The expected texts are this project's profile.
+#[test]
+fn messages(rt: HostRuntime) -> Result<(), Fail> {
+    let bytes = Vec::from_array(rt.alloc(), [0xFFu8])?;
+    let said = format!(in rt.alloc(); "{}", DecodeError::NotUtf8(bytes))?;
+    assert_eq!(rt; said.as_str(), "decoded bytes are not valid UTF-8");
+    let said = format!(in rt.alloc(); "{}", DecodeError::OutOfMemory)?;
+    assert_eq!(rt; said.as_str(), "out of memory");
     Ok(())
 }
 

@@ -1,7 +1,8 @@
 use fluent_uri::component::{HostOf, Scheme};
 use fluent_uri::normalize::{DefaultPort, NormalizeError, Normalizer};
+use fluent_uri::pct_enc::CowStr;
 use fluent_uri::{Iri, IriRef, Uri, UriRef};
-use std::alloc::Global;
+use std::alloc::{AllocError, Global};
 use std::process::Abort;
 use std::test::Fail;
 
@@ -183,5 +184,93 @@ fn underflow(rt: HostRuntime) -> Result<(), Fail> {
         Err(NormalizeError::PathUnderflow)
     );
     assert!(rt; is_underflow);
+    Ok(())
+}
+
+/// The expected texts are this project's profile.
+#[test]
+fn messages(rt: HostRuntime) -> Result<(), Fail> {
+    for (error, message) in [
+        (
+            NormalizeError::PathUnderflow,
+            "underflow occurred in path resolution",
+        ),
+        (NormalizeError::OutOfMemory, "out of memory"),
+    ] {
+        let said = format!(in rt.alloc(); "{error}")?;
+        assert_eq!(rt; said.as_str(), message);
+    }
+    Ok(())
+}
+
+/// The parts one after the other, each as often as it says.
+fn repeated(alloc: Global, parts: &[(&str, usize)]) -> Result<String, AllocError> {
+    let mut text = String::new(alloc);
+    for (part, times) in parts {
+        for _ in 0..*times {
+            text.push_str(part)?;
+        }
+    }
+    Ok(text)
+}
+
+/// RFC 3986, section 5.2.4, on paths of thousands of segments.
+#[test]
+fn many_segments(rt: HostRuntime) -> Result<(), Fail> {
+    let alloc = rt.alloc();
+    let up = [("http://a/", 1), ("../", 10000), ("g", 1)];
+    let down_and_up = [("http://a/", 1), ("x/", 5000), ("../", 5000), ("g", 1)];
+    let strict = Normalizer::new().allow_path_underflow(false);
+    let up = repeated(alloc, &up)?;
+    let up = UriRef::<&str>::parse(up.as_str())?;
+    assert_eq!(rt; up.normalize(alloc)?.as_str(), "http://a/g");
+    let is_underflow = matches!(
+        &strict.normalize(alloc, &up),
+        Err(NormalizeError::PathUnderflow)
+    );
+    assert!(rt; is_underflow);
+    let down_and_up = repeated(alloc, &down_and_up)?;
+    let down_and_up = UriRef::<&str>::parse(down_and_up.as_str())?;
+    assert_eq!(rt; down_and_up.normalize(alloc)?.as_str(), "http://a/g");
+    assert_eq!(rt;
+        strict.normalize(alloc, &down_and_up)?.as_str(),
+        "http://a/g"
+    );
+    Ok(())
+}
+
+/// Unicode, section 3.9, and RFC 3987, section 5.3.2, on runs of more than thirty octets.
+#[test]
+fn long_runs_of_octets(rt: HostRuntime) -> Result<(), Fail> {
+    let alloc = rt.alloc();
+    for (letters, octets, normal, lossy) in [
+        (30, "%F0%9F%98%80", "\u{1F600}", "\u{1F600}"),
+        (31, "%E2%41", "%E2A", "\u{FFFD}A"),
+        (31, "%F0%9F%98%41", "%F0%9F%98A", "\u{FFFD}A"),
+        (31, "%E2", "%E2", "\u{FFFD}"),
+        (31, "%C3%A9", "é", "é"),
+    ] {
+        let text = repeated(alloc, &[("%61", letters), (octets, 1)])?;
+        let reference = IriRef::<&str>::parse(text.as_str())?;
+        let wanted = repeated(alloc, &[("a", letters), (normal, 1)])?;
+        assert_eq!(rt;
+            reference.normalize(alloc)?.as_str(),
+            wanted.as_str(),
+            "{octets}"
+        );
+        let wanted = repeated(alloc, &[("a", letters), (lossy, 1)])?;
+        match reference.path().decode().to_string_lossy(alloc)? {
+            CowStr::Owned(got) => assert_eq!(rt; got.as_str(), wanted.as_str(), "{octets}"),
+            CowStr::Borrowed(got) => assert!(rt; false, "borrowed: {got}"),
+        }
+    }
+    let text = repeated(alloc, &[("%80", 33)])?;
+    let reference = IriRef::<&str>::parse(text.as_str())?;
+    assert_eq!(rt; reference.normalize(alloc)?.as_str(), text.as_str());
+    let wanted = repeated(alloc, &[("\u{FFFD}", 33)])?;
+    match reference.path().decode().to_string_lossy(alloc)? {
+        CowStr::Owned(got) => assert_eq!(rt; got.as_str(), wanted.as_str()),
+        CowStr::Borrowed(got) => assert!(rt; false, "borrowed: {got}"),
+    }
     Ok(())
 }

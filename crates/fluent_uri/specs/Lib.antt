@@ -43,5 +43,9 @@ pub use Rattle.uri_ops.specs.Normal
 pub use Rattle.uri_ops.specs.NormalPaths
 pub use Rattle.uri_ops.specs.Normalizers
 pub use Rattle.uri_ops.specs.Ports
+pub use Rattle.uri_ops.specs.NormalTargets
+pub use Rattle.uri_ops.specs.References
+pub use Rattle.uri_ops.specs.Resolvers
+pub use Rattle.uri_ops.specs.Resolving
 pub use Rattle.uri_ops.specs.Target
 pub use Rattle.uri_ops.specs.Texts as KindTexts

@@ -1,5 +1,5 @@
 //! IRI references (RFC 3987, section 2.2).
-ghost use Rattle.std.specs.Prelude.{◌≡◌, ◌↔◌, IsOk, IfOk, IfErr, OnOk, OnErr, None, Some, is_some, option_map, string_bytes};
+ghost use Rattle.std.specs.Prelude.{◌≡◌, ◌↔◌, IsOk, IfOk, IfErr, OnOk, OnErr, None, Some, is_some, option_map, string_bytes, Ok};
 ghost use Rattle.uri_parts.specs.Components.{components};
 ghost use Rattle.uri_parts.specs.Errors.{IsErrorIn};
 ghost use Rattle.uri_parts.specs.Fragments.{IsWithFragment};
@@ -7,6 +7,8 @@ ghost use Rattle.uri_parts.specs.Grammar.{IsOfKind, iri_ref};
 ghost use Rattle.uri_parts.specs.Positions.{AreAt};
 ghost use Rattle.uri_parts.specs.SchemePorts.{default_port};
 ghost use Rattle.uri_ops.specs.Normalizers.{IsNormalForm};
+ghost use Rattle.uri_ops.specs.Resolving.{IsRefusalFor};
+ghost use Rattle.uri_ops.specs.Target.{resolution_of};
 
 use crate::component::IAuthority;
 use crate::iri::Iri;
@@ -16,6 +18,7 @@ use std::convert::{AsStr, TryFrom};
 use std::fmt;
 use std::hash::{Hash, Hasher};
 use uri_ops::normalize;
+use uri_ops::resolve::{self, ResolveError};
 use uri_ops::traits::{self, RefOf, RiMaybeRef};
 use uri_parts::component::Scheme;
 use uri_parts::core_text::CoreText;
@@ -169,6 +172,7 @@ impl<'a> IriRef<&'a str> {
     ghost use Rattle.uri_parts.specs.CoreTexts.{core_text};
     ghost use Rattle.uri_parts.specs.Schemes.{scheme_text};
     ghost use Rattle.fluent_uri.specs.IriRefs.{iri_ref_text};
+    ghost use Rattle.fluent_uri.specs.Iris.{iri_text};
 
     /// Reads a text as an IRI reference, once and from left to right, and takes no memory.
     ///
@@ -288,6 +292,26 @@ impl<'a> IriRef<&'a str> {
     {
         normalize::normal(alloc, &self)
     }
+
+    /// The target of this reference against a base: what `Resolver::resolve` answers where dot
+    /// segments may underflow (RFC 3986, section 5.2; RFC 3987, section 6.5).
+    ///
+    /// # Errors
+    ///
+    /// `BaseWithFragment` if the base has a fragment, and else `InvalidReferenceAgainstOpaqueBase` if
+    /// the base has no authority and its path doesn't begin with `/`, and this reference has no
+    /// scheme, is not empty and doesn't begin with `#`, both before memory is asked for;
+    /// `OutOfMemory` if memory is refused. Never `PathUnderflow`.
+    pub fn resolve_against<B: AsStr>(
+        self,
+        alloc: Global,
+        base: &Iri<B>,
+    ) -> Result<Iri<String>, ResolveError>
+        ensures target { IfOk result (λ target. resolution_of (components (iri_text base.now)) (components (iri_ref_text self.entry)) ≡ Ok (iri_text target)) }
+        ensures refusal { IfErr result (IsRefusalFor (components (iri_text base.now)) (components (iri_ref_text self.entry))) }
+    {
+        resolve::resolved_against(alloc, base, &self)
+    }
 }
 
 impl IriRef<String> {
@@ -295,6 +319,7 @@ impl IriRef<String> {
     ghost use Rattle.uri_parts.specs.AuthorityTexts.{authority_text};
     ghost use Rattle.uri_parts.specs.Schemes.{scheme_text};
     ghost use Rattle.fluent_uri.specs.IriRefs.{iri_ref_text};
+    ghost use Rattle.fluent_uri.specs.Iris.{iri_text};
 
     /// Reads a text as an IRI reference, once and from left to right, and takes no memory.
     ///
@@ -390,6 +415,26 @@ impl IriRef<String> {
         ensures { IfOk result (λ normal. IsNormalForm iri_ref default_port (iri_ref_text self.now) (iri_ref_text normal)) }
     {
         normalize::normal(alloc, self)
+    }
+
+    /// The target of this reference against a base: what `Resolver::resolve` answers where dot
+    /// segments may underflow (RFC 3986, section 5.2; RFC 3987, section 6.5).
+    ///
+    /// # Errors
+    ///
+    /// `BaseWithFragment` if the base has a fragment, and else `InvalidReferenceAgainstOpaqueBase` if
+    /// the base has no authority and its path doesn't begin with `/`, and this reference has no
+    /// scheme, is not empty and doesn't begin with `#`, both before memory is asked for;
+    /// `OutOfMemory` if memory is refused. Never `PathUnderflow`.
+    pub fn resolve_against<B: AsStr>(
+        &self,
+        alloc: Global,
+        base: &Iri<B>,
+    ) -> Result<Iri<String>, ResolveError>
+        ensures target { IfOk result (λ target. resolution_of (components (iri_text base.now)) (components (iri_ref_text self.now)) ≡ Ok (iri_text target)) }
+        ensures refusal { IfErr result (IsRefusalFor (components (iri_text base.now)) (components (iri_ref_text self.now))) }
+    {
+        resolve::resolved_against(alloc, base, self)
     }
 
     /// The text as it stands.

@@ -60,3 +60,8 @@ pub mod pct_enc {
         };
     }
 }
+
+/// Resolving references against a base (RFC 3986, section 5).
+pub mod resolve {
+    pub use uri_ops::resolve::{ResolveError, Resolver};
+}

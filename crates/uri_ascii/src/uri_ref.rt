@@ -1,5 +1,5 @@
 //! URI references (RFC 3986, section 4.1).
-ghost use Rattle.std.specs.Prelude.{◌≡◌, ◌↔◌, IsOk, IfOk, IfErr, OnOk, OnErr, None, Some, is_some, option_map, string_bytes};
+ghost use Rattle.std.specs.Prelude.{◌≡◌, ◌↔◌, IsOk, IfOk, IfErr, OnOk, OnErr, None, Some, is_some, option_map, string_bytes, Ok};
 ghost use Rattle.std.specs.Str.{IsUtf8};
 ghost use Rattle.uri_parts.specs.Components.{components};
 ghost use Rattle.uri_parts.specs.Errors.{IsErrorIn};
@@ -8,6 +8,8 @@ ghost use Rattle.uri_parts.specs.Grammar.{IsOfKind, uri_ref};
 ghost use Rattle.uri_parts.specs.Positions.{AreAt};
 ghost use Rattle.uri_parts.specs.SchemePorts.{default_port};
 ghost use Rattle.uri_ops.specs.Normalizers.{IsNormalForm};
+ghost use Rattle.uri_ops.specs.Resolving.{IsRefusalFor};
+ghost use Rattle.uri_ops.specs.Target.{resolution_of};
 
 use crate::uri::Uri;
 use std::alloc::{AllocError, Global};
@@ -16,6 +18,7 @@ use std::convert::{AsStr, TryFrom};
 use std::fmt;
 use std::hash::{Hash, Hasher};
 use uri_ops::normalize;
+use uri_ops::resolve::{self, ResolveError};
 use uri_ops::traits::{self, RefOf, RiMaybeRef};
 use uri_parts::component::{Authority, Scheme};
 use uri_parts::core_text::CoreText;
@@ -172,6 +175,7 @@ impl<'a> UriRef<&'a str> {
     ghost use Rattle.uri_parts.specs.CoreTexts.{core_text};
     ghost use Rattle.uri_parts.specs.Schemes.{scheme_text};
     ghost use Rattle.uri_ascii.specs.UriRefs.{uri_ref_text};
+    ghost use Rattle.uri_ascii.specs.Uris.{uri_text};
 
     /// Reads a text as a URI reference, once and from left to right, and takes no memory.
     ///
@@ -291,6 +295,26 @@ impl<'a> UriRef<&'a str> {
     {
         normalize::normal(alloc, &self)
     }
+
+    /// The target of this reference against a base: what `Resolver::resolve` answers where dot
+    /// segments may underflow (RFC 3986, section 5.2).
+    ///
+    /// # Errors
+    ///
+    /// `BaseWithFragment` if the base has a fragment, and else `InvalidReferenceAgainstOpaqueBase` if
+    /// the base has no authority and its path doesn't begin with `/`, and this reference has no
+    /// scheme, is not empty and doesn't begin with `#`, both before memory is asked for;
+    /// `OutOfMemory` if memory is refused. Never `PathUnderflow`.
+    pub fn resolve_against<B: AsStr>(
+        self,
+        alloc: Global,
+        base: &Uri<B>,
+    ) -> Result<Uri<String>, ResolveError>
+        ensures target { IfOk result (λ target. resolution_of (components (uri_text base.now)) (components (uri_ref_text self.entry)) ≡ Ok (uri_text target)) }
+        ensures refusal { IfErr result (IsRefusalFor (components (uri_text base.now)) (components (uri_ref_text self.entry))) }
+    {
+        resolve::resolved_against(alloc, base, &self)
+    }
 }
 
 impl UriRef<String> {
@@ -298,6 +322,7 @@ impl UriRef<String> {
     ghost use Rattle.uri_parts.specs.AuthorityTexts.{authority_text};
     ghost use Rattle.uri_parts.specs.Schemes.{scheme_text};
     ghost use Rattle.uri_ascii.specs.UriRefs.{uri_ref_text};
+    ghost use Rattle.uri_ascii.specs.Uris.{uri_text};
 
     /// Reads a text as a URI reference, once and from left to right, and takes no memory.
     ///
@@ -393,6 +418,26 @@ impl UriRef<String> {
         ensures { IfOk result (λ normal. IsNormalForm uri_ref default_port (uri_ref_text self.now) (uri_ref_text normal)) }
     {
         normalize::normal(alloc, self)
+    }
+
+    /// The target of this reference against a base: what `Resolver::resolve` answers where dot
+    /// segments may underflow (RFC 3986, section 5.2).
+    ///
+    /// # Errors
+    ///
+    /// `BaseWithFragment` if the base has a fragment, and else `InvalidReferenceAgainstOpaqueBase` if
+    /// the base has no authority and its path doesn't begin with `/`, and this reference has no
+    /// scheme, is not empty and doesn't begin with `#`, both before memory is asked for;
+    /// `OutOfMemory` if memory is refused. Never `PathUnderflow`.
+    pub fn resolve_against<B: AsStr>(
+        &self,
+        alloc: Global,
+        base: &Uri<B>,
+    ) -> Result<Uri<String>, ResolveError>
+        ensures target { IfOk result (λ target. resolution_of (components (uri_text base.now)) (components (uri_ref_text self.now)) ≡ Ok (uri_text target)) }
+        ensures refusal { IfErr result (IsRefusalFor (components (uri_text base.now)) (components (uri_ref_text self.now))) }
+    {
+        resolve::resolved_against(alloc, base, self)
     }
 
     /// The text as it stands.

@@ -50,3 +50,4 @@ pub mod EncodedRuns
 pub mod ReferenceKinds
 pub mod NormalPieces
 pub mod NormalForms
+pub mod NormalTargets

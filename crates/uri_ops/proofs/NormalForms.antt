@@ -9,7 +9,7 @@ use Rattle.uri_ops.specs.Normal.{normal_text}
 use Rattle.uri_ops.specs.Normalizers.{HasNormalText, IsNormalForm}
 use Rattle.uri_ops.specs.Ports.{PortFunction}
 use Rattle.uri_ops.specs.Texts.{IsTextOf}
-use Rattle.uri_ops.proofs.ReferenceKinds.{of_reference_kind}
+use Rattle.uri_ops.proofs.ReferenceKinds.{text_is_reference}
 use Rattle.uri_ops.proofs.NormalTexts.{normal_is_text, meaning_of-normal_text, same_normal_text}
 
 -- whether a scheme is needed makes no difference to a meaning
@@ -28,8 +28,7 @@ module _ (kind wide : Kind) (reference : wide ≡ record kind { needs_scheme = f
   normal_is_of_kind = subst (IsTextOf kind) (sym is_normal) (normal_is_text kind ports sets text source)
 
   pub normal_is_reference : (text : List ℕ) → text ≡ normal → IsTextOf wide text
-  normal_is_reference t e =
-      subst (IsTextOf wide) (sym e) (record { utf8 = normal_is_of_kind.utf8; grammar = of_reference_kind kind wide normal reference normal_is_of_kind.grammar })
+  normal_is_reference t e = text_is_reference kind wide normal t reference e normal_is_of_kind
 
   normal_meaning : meaning_of kind ports normal ≡ meaning_of kind ports text
   normal_meaning = ap (meaning_of kind ports) is_normal ∙ meaning_of-normal_text kind ports sets text source

@@ -35,3 +35,10 @@ IsErrorFor allowed base r Of.BaseWithFragment = resolution_of base r ≡ Err Bas
 IsErrorFor allowed base r Of.InvalidReferenceAgainstOpaqueBase = resolution_of base r ≡ Err InvalidReferenceAgainstOpaqueBase
 IsErrorFor allowed base r Of.PathUnderflow = (is_ok (resolution_of base r) ≡ true) × (allowed ≡ false) × (target_underflows base r ≡ true)
 IsErrorFor allowed base r Of.OutOfMemory = is_ok (resolution_of base r) ≡ true
+
+-- the same where underflow is allowed, which is then no error
+abbrev pub IsRefusalFor : Components → Components → ResolveError → Type 0
+IsRefusalFor base r Of.BaseWithFragment = resolution_of base r ≡ Err BaseWithFragment
+IsRefusalFor base r Of.InvalidReferenceAgainstOpaqueBase = resolution_of base r ≡ Err InvalidReferenceAgainstOpaqueBase
+IsRefusalFor base r Of.PathUnderflow = ⊥
+IsRefusalFor base r Of.OutOfMemory = is_ok (resolution_of base r) ≡ true

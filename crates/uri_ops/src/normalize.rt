@@ -3,21 +3,18 @@
 ghost use Rattle.std.specs.Prelude.{◌≡◌, IfOk, IfErr, true, false, string_bytes};
 ghost use Rattle.std.specs.Str.{IsUtf8};
 ghost use Rattle.uri_parts.specs.CoreTexts.{core_text};
-ghost use Rattle.uri_parts.specs.Positions.{AreAt};
 ghost use Rattle.uri_parts.specs.SchemePorts.{default_port};
 ghost use Rattle.uri_ops.specs.ComponentSets.{HasComponentSets};
 ghost use Rattle.uri_ops.specs.Normalizers.{HasNormalText, IsNormalForm, allows_underflow, ports_of, text_underflows};
-ghost use Rattle.uri_ops.specs.Texts.{IsTextOf};
 ghost use Rattle.uri_ops.specs.declared.normalize.NormalizeError.TheVariants.{PathUnderflow};
 
 use crate::default_port::{DefaultPort, SchemeDefaults};
 use crate::normal_text::push_normal;
-use crate::traits::RiMaybeRef;
+use crate::traits::{RiMaybeRef, positions_in};
 use std::alloc::{AllocError, Global};
 use thiserror::Error;
 use uri_parts::core_text::CoreText;
-use uri_parts::positions::Positions;
-use uri_parts::rules::{Encoders, Rules};
+use uri_parts::rules::Encoders;
 
 /// Why a value was not normalised.
 #[derive(Clone, Copy, Debug, PartialEq, Eq, Error)]
@@ -45,19 +42,19 @@ impl From<AllocError> for NormalizeError {
 #[derive(Drop)]
 pub struct Normalizer<P> {
     allow_path_underflow: bool,
-    ports: P,
+    pub(crate) ports: P,
 }
 
 /// A normal text, and whether the removal of its dot segments underflows.
 #[derive(Drop)]
-struct Normalized {
-    text: String,
-    underflows: bool,
+pub(crate) struct Normalized {
+    pub(crate) text: String,
+    pub(crate) underflows: bool,
 }
 
 /// The normal text of a text of a kind.
 #[tactic(auto, unfolding(crate::specs::Normalizers::text_underflows))]
-fn normal_form<K: Encoders, P: DefaultPort>(
+pub(crate) fn normal_form<K: Encoders, P: DefaultPort>(
     alloc: Global,
     core: CoreText<'_, K>,
     ports: &P,
@@ -71,17 +68,6 @@ fn normal_form<K: Encoders, P: DefaultPort>(
     text.reserve(core.as_str().len())?;
     let underflows = push_normal(alloc, core, ports, &mut text)?;
     Ok(Normalized { text, underflows })
-}
-
-/// Where the components lie of a text that is known to be of the kind.
-fn positions_in<K: Rules>(text: &str) -> Positions
-    requires { IsTextOf K.kind text.now }
-    ensures { AreAt text.now result }
-{
-    match K::parse(text) {
-        Ok(positions) => positions,
-        Err(_) => unreachable!(),
-    }
 }
 
 impl Normalizer<SchemeDefaults> {

@@ -1,17 +1,22 @@
 //! Resolving references against a base (RFC 3986, section 5).
-ghost use Rattle.std.specs.Prelude.{◌≡◌, ◌++◌, ◌&&◌, codes, IfOk, IfErr, OnOk, IfSome, [], true, option_map, string_bytes, take};
+ghost use Rattle.std.specs.Prelude.{◌≡◌, ◌++◌, ◌&&◌, codes, IfOk, IfErr, OnOk, IfSome, [], true, option_map, string_bytes, take, Ok};
 ghost use Rattle.uri_parts.specs.Grammar.{IsOfKind};
 ghost use Rattle.std.specs.Str.{IsCharBoundary, IsUtf8};
 ghost use Rattle.uri_parts.specs.Components.{IsRooted, components, has_authority, marked, recompose, starts};
 ghost use Rattle.uri_ops.specs.Dots.{directory, underflows};
-ghost use Rattle.uri_ops.specs.Resolving.{IsErrorFor, IsTarget, components_of, finished, is_merged};
-ghost use Rattle.uri_ops.specs.Target.{cleaned_path, guarded, is_refused_as_opaque, joined, merged};
+ghost use Rattle.uri_ops.specs.Normalizers.{ports_of};
+ghost use Rattle.uri_ops.specs.NormalTargets.{IsNormalTarget, IsRefusedAlike};
+ghost use Rattle.uri_ops.specs.Resolvers.{allows_underflow, base_of};
+ghost use Rattle.uri_ops.specs.Resolving.{IsErrorFor, IsRefusalFor, IsTarget, components_of, finished, is_merged};
+ghost use Rattle.uri_ops.specs.Target.{cleaned_path, guarded, is_refused_as_opaque, joined, merged, resolution_of};
+ghost use Rattle.uri_ops.specs.Texts.{IsTextOf};
 
+use crate::default_port::DefaultPort;
 use crate::dot_segments::{is_double_dot, last_slash, push_without_dot_segments};
-use crate::traits::RiMaybeRef;
+use crate::normalize::{Normalizer, normal_form};
+use crate::traits::{RefOf, Ri, RiMaybeRef, core_of, positions_in};
 use std::alloc::{AllocError, Global};
 use thiserror::Error;
-use uri_parts::rules::Rules;
 
 /// Why a reference was not resolved against a base.
 #[derive(Clone, Copy, Debug, PartialEq, Eq, Error)]
@@ -39,6 +44,13 @@ impl From<AllocError> for ResolveError {
     fn from(_: AllocError) -> ResolveError {
         ResolveError::OutOfMemory
     }
+}
+
+/// What resolves references against a base, by its setting: whether dot segments may underflow.
+#[derive(Drop)]
+pub struct Resolver<R> {
+    base: R,
+    allow_path_underflow: bool,
 }
 
 /// The five components of a text (RFC 3986, appendix B).
@@ -296,13 +308,137 @@ fn target_text(
     Ok(text)
 }
 
-/// The value whose text this is.
-fn owned<R: RiMaybeRef>(text: String) -> R::Owned
-    requires { IsOfKind R.kind (string_bytes text) }
-    ensures { R.owned_text result ≡ string_bytes text }
+/// The text of the target of a reference against a base (RFC 3986, section 5.2).
+fn resolved_text<B: Ri, Q: RefOf<B>>(
+    alloc: Global,
+    base: &B,
+    reference: &Q,
+    allow_path_underflow: bool,
+) -> Result<String, ResolveError>
+    ensures base { IsTextOf B.kind (B.text base.now) }
+    ensures reference { IsTextOf Q.kind (Q.text reference.now) }
+    ensures of_kind { IfOk result (λ text. IsTextOf B.kind (string_bytes text)) }
+    ensures target { IfOk result (λ text. IsTarget allow_path_underflow (components (B.text base.now)) (components (Q.text reference.now)) (string_bytes text)) }
+    ensures error { IfErr result (IsErrorFor allow_path_underflow (components (B.text base.now)) (components (Q.text reference.now))) }
 {
-    match R::Rules::parse(text.as_str()) {
-        Ok(positions) => R::make_owned(text, positions),
-        Err(_) => unreachable!(),
+    target_text(
+        alloc,
+        parts_of(base),
+        parts_of(reference),
+        allow_path_underflow,
+    )
+}
+
+/// The target of a reference against a base (RFC 3986, section 5.2). An error that the two texts
+/// alone decide comes before memory is asked for.
+#[doc(hidden)]
+pub fn resolved<B: Ri, Q: RefOf<B>>(
+    alloc: Global,
+    base: &B,
+    reference: &Q,
+    allow_path_underflow: bool,
+) -> Result<B::Owned, ResolveError>
+    ensures target { IfOk result (λ target. IsTarget allow_path_underflow (components (B.text base.now)) (components (Q.text reference.now)) (B.owned_text target)) }
+    ensures error { IfErr result (IsErrorFor allow_path_underflow (components (B.text base.now)) (components (Q.text reference.now))) }
+{
+    let text = resolved_text(alloc, base, reference, allow_path_underflow)?;
+    let positions = positions_in::<B::Rules>(text.as_str());
+    Ok(B::make_owned(text, positions))
+}
+
+/// The target of a reference against a base, where dot segments may underflow (RFC 3986, section
+/// 5.2). An error that the two texts alone decide comes before memory is asked for.
+#[doc(hidden)]
+pub fn resolved_against<B: Ri, Q: RefOf<B>>(
+    alloc: Global,
+    base: &B,
+    reference: &Q,
+) -> Result<B::Owned, ResolveError>
+    ensures target { IfOk result (λ target. resolution_of (components (B.text base.now)) (components (Q.text reference.now)) ≡ Ok (B.owned_text target)) }
+    ensures refusal { IfErr result (IsRefusalFor (components (B.text base.now)) (components (Q.text reference.now))) }
+{
+    resolved(alloc, base, reference, true)
+}
+
+impl<R: Ri> Resolver<R> {
+    /// A resolver against this base, where dot segments may underflow.
+    pub fn with_base(base: R) -> Resolver<R>
+        ensures base { base_of result ≡ base }
+        ensures allows { allows_underflow result ≡ true }
+    {
+        Resolver {
+            base,
+            allow_path_underflow: true,
+        }
+    }
+
+    /// The same with another say on whether dot segments may underflow: whether `/..` is removed
+    /// where no segment stands before it (RFC 3986, section 5.2.4), in place of an error.
+    pub fn allow_path_underflow(self, value: bool) -> Resolver<R>
+        ensures base { base_of result ≡ base_of self }
+        ensures allows { allows_underflow result ≡ value }
+    {
+        Resolver {
+            base: self.base,
+            allow_path_underflow: value,
+        }
+    }
+
+    /// The target of a reference against the base, by the strict algorithm of RFC 3986, section
+    /// 5.2, where it differs only in this:
+    ///
+    /// - A base without an authority whose path doesn't begin with `/` takes only a reference that
+    ///   has a scheme, is empty or begins with `#`.
+    /// - `/.` is put before a target path that begins with `//`, where there is no authority.
+    /// - The dots of dot segments may be percent-encoded.
+    /// - A base path that ends in a double dot is kept whole, and followed by `/`, before a merged
+    ///   path.
+    /// - An empty reference path takes the base's path without its dot segments, if that begins
+    ///   with `/`.
+    /// - A reference with a scheme keeps a path that doesn't begin with `/` as it stands.
+    ///
+    /// Nothing else of the two texts changes: the target is not normalised.
+    ///
+    /// # Errors
+    ///
+    /// `BaseWithFragment` if the base has a fragment, and else `InvalidReferenceAgainstOpaqueBase`
+    /// if the base takes no such reference, both before memory is asked for; `PathUnderflow` if
+    /// underflow is not allowed, and a double dot of a target path that begins with `/` has nothing
+    /// left to remove; `OutOfMemory` if memory is refused.
+    pub fn resolve<Q: RefOf<R>>(
+        &self,
+        alloc: Global,
+        reference: &Q,
+    ) -> Result<R::Owned, ResolveError>
+        ensures target { IfOk result (λ target. IsTarget (allows_underflow self.now) (components (R.text (base_of self.now))) (components (Q.text reference.now)) (R.owned_text target)) }
+        ensures error { IfErr result (IsErrorFor (allows_underflow self.now) (components (R.text (base_of self.now))) (components (Q.text reference.now))) }
+    {
+        resolved(alloc, &self.base, reference, self.allow_path_underflow)
+    }
+
+    /// The normal form of the target of a reference against the base: what `resolve` answers where
+    /// underflow is allowed, and then `normalize` of a normaliser with these ports (RFC 3986,
+    /// sections 5.2, 6.2.2 and 6.2.3). Whether underflow is allowed by either setting makes no
+    /// difference. A base and a reference that mean the same, such as the normal forms of both, have
+    /// the same answer.
+    ///
+    /// # Errors
+    ///
+    /// `BaseWithFragment` and `InvalidReferenceAgainstOpaqueBase` as `resolve` answers them;
+    /// `OutOfMemory` if memory is refused.
+    pub fn resolve_normalized<Q: RefOf<R>, P: DefaultPort>(
+        &self,
+        alloc: Global,
+        reference: &Q,
+        normalizer: &Normalizer<P>,
+    ) -> Result<R::Owned, ResolveError>
+        ensures normal { IfOk result (λ normal. IsNormalTarget R.kind Q.kind (P.port_of (ports_of normalizer.now)) (R.text (base_of self.now)) (Q.text reference.now) (R.owned_text normal)) }
+        ensures refusal { IfErr result (IsRefusedAlike R.kind Q.kind (P.port_of (ports_of normalizer.now)) (R.text (base_of self.now)) (Q.text reference.now)) }
+    {
+        let target = resolved_text(alloc, &self.base, reference, true)?;
+        let core = core_of::<R::Rules>(target.as_str());
+        let made = normal_form(alloc, core, &normalizer.ports)?;
+        let positions = positions_in::<R::Rules>(made.text.as_str());
+        Ok(R::make_owned(made.text, positions))
     }
 }

@@ -5,12 +5,13 @@ ghost use Rattle.uri_parts.specs.Fragments.{IsWithFragment};
 ghost use Rattle.uri_parts.specs.Grammar.{IsOfKind};
 ghost use Rattle.uri_parts.specs.Positions.{AreAt};
 ghost use Rattle.uri_pct.specs.EStrs.{text_of};
+ghost use Rattle.uri_ops.specs.Texts.{IsTextOf};
 
 use std::alloc::{AllocError, Global};
 use uri_parts::core_text::CoreText;
 use uri_parts::fragment;
 use uri_parts::positions::Positions;
-use uri_parts::rules::Encoders;
+use uri_parts::rules::{Encoders, Rules};
 use uri_pct::encoder::{Encoder, PathEncoder};
 use uri_pct::pct_enc::EStr;
 
@@ -120,4 +121,23 @@ pub fn with_fragment<R: RiMaybeRef>(
     let positions = core.positions();
     let text = fragment::with_fragment(alloc, core.as_str(), &positions, fragment)?;
     Ok(R::make_owned(text, positions))
+}
+
+/// Where the components lie of a text that is known to be of the kind.
+pub(crate) fn positions_in<K: Rules>(text: &str) -> Positions
+    requires { IsTextOf K.kind text.now }
+    ensures { AreAt text.now result }
+{
+    match K::parse(text) {
+        Ok(positions) => positions,
+        Err(_) => unreachable!(),
+    }
+}
+
+/// A text that is known to be of the kind, with the positions of its components.
+pub(crate) fn core_of<K: Encoders>(text: &str) -> CoreText<'_, K>
+    requires { IsTextOf K.kind text.now }
+    ensures { core_text result ≡ text.now }
+{
+    CoreText::new(text, positions_in::<K>(text))
 }

@@ -3,7 +3,7 @@ use Rattle.std.proofs.Common.{◌≡◌, ◌≤◌, ◌<◌, ℕ, eqb, List, [],
 use Rattle.std.specs.Prelude.{if◌then◌else◌}
 use Rattle.uritool.specs.declared.command.KindName.{KindName}
 use Rattle.uritool.specs.declared.command.KindName.TheVariants.{Uri, UriRef, Iri, IriRef}
-use Rattle.uritool.specs.Commands.{Command, Parse, words_of, output_of, texts}
+use Rattle.uritool.specs.Commands.{Command, Parse, Normalize, words_of, output_of, texts}
 
 -- the bytes of three words
 pub texts_of_three : {Z : Type 0} (words : List (String Z)) (a b c : String Z) → 3 ≤ length words → length words < 4
@@ -22,7 +22,11 @@ kind_named word =
     if eqb (get_or word 0 0) 117 then (if short then Uri else UriRef) else if short then Iri else IriRef
 
 command_named : List (List ℕ) → Command
-command_named words = Parse (kind_named (get_or words 1 [])) (get_or words 2 [])
+command_named words =
+    let parses = eqb (get_or (get_or words 0 []) 0 0) 112 in
+    let kind = kind_named (get_or words 1 []) in
+    let text = get_or words 2 [] in
+    if parses then Parse kind text else Normalize kind text
 
 command_named-words_of : (a : Command) → command_named (words_of a) ≡ a
 unfolding command_named kind_named
@@ -30,6 +34,10 @@ command_named-words_of (Parse Uri s) = refl
 command_named-words_of (Parse UriRef s) = refl
 command_named-words_of (Parse Iri s) = refl
 command_named-words_of (Parse IriRef s) = refl
+command_named-words_of (Normalize Uri s) = refl
+command_named-words_of (Normalize UriRef s) = refl
+command_named-words_of (Normalize Iri s) = refl
+command_named-words_of (Normalize IriRef s) = refl
 
 -- no two commands have the same words
 pub words_of_injective : (a b : Command) → words_of a ≡ words_of b → a ≡ b

@@ -1,7 +1,8 @@
-use Rattle.uritool.specs.Commands.{Command, Parse}
+use Rattle.uritool.specs.Commands.{Command, Parse, Normalize}
 use Rattle.uritool.specs.declared.command.Command.{Command as Words}
 use Rattle.uritool.specs.declared.command.Command.TheVariants as words
 
 -- a command of the program as one of the contracts
 abbrev pub asked : Words → Command
 asked (words.Parse name text) = Parse name text.now
+asked (words.Normalize name text) = Normalize name text.now

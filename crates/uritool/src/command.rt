@@ -21,6 +21,8 @@ pub enum KindName {
 pub enum Command<'a> {
     /// `parse KIND TEXT`
     Parse(KindName, &'a str),
+    /// `normalize KIND TEXT`
+    Normalize(KindName, &'a str),
 }
 
 impl<'a> Command<'a> {
@@ -32,6 +34,9 @@ impl<'a> Command<'a> {
         match words {
             [command, kind, text] if command.as_str() == "parse" => {
                 Some(Command::Parse(kind_named(kind.as_str())?, text.as_str()))
+            }
+            [command, kind, text] if command.as_str() == "normalize" => {
+                Some(Command::Normalize(kind_named(kind.as_str())?, text.as_str()))
             }
             _ => None,
         }

@@ -1,8 +1,11 @@
-//! Generic URIs and IRIs on the command line: `uritool parse KIND TEXT`.
+//! Generic URIs and IRIs on the command line: `uritool parse KIND TEXT` and `uritool
+//! normalize KIND TEXT`.
 #![tactic(auto)]
 
 mod command;
 mod lines;
+mod normal;
+mod refusal;
 mod run;
 
 use crate::run::run;

@@ -1,5 +1,6 @@
 //! What a row asks, and whether the answer is the stored one.
 
+use crate::normal::{is_normal_form, is_normal_form_strictly, is_normal_form_under, repeated};
 use crate::reading::{AuthorityParts, HostValue, Kind, Parts, Reading};
 use fluent_uri::{ParseErrorKind, Uri};
 use std::alloc::Global;
@@ -17,6 +18,14 @@ pub enum Ask {
     Authority(Kind, &'static str, AuthorityParts<'static>),
     /// That this is the host of its authority.
     Host(Kind, &'static str, HostValue<'static>),
+    /// That this is its normal form.
+    Normal(Kind, &'static str, &'static str),
+    /// That this is its normal form where a scheme has this default port, and no other has one.
+    NormalUnder((&'static str, u16), Kind, &'static str, &'static str),
+    /// That this is its normal form, and whether its dot segments underflow.
+    Strict(Kind, &'static str, &'static str, bool),
+    /// The same of a text that consists of these parts, each as often as it says.
+    Repeated(Kind, &'static [(&'static str, usize)], &'static [(&'static str, usize)], bool),
 }
 
 impl Ask {
@@ -33,6 +42,25 @@ impl Ask {
             }
             Ask::Host(kind, text, host) => {
                 Reading::of(kind, text).is_ok_and(|reading| reading.host == Some(host))
+            }
+            Ask::Normal(kind, text, normal) => is_normal_form(alloc, kind, text, normal),
+            Ask::NormalUnder(port, kind, text, normal) => {
+                is_normal_form_under(alloc, port, kind, text, normal)
+            }
+            Ask::Strict(kind, text, normal, underflows) => {
+                is_normal_form_strictly(alloc, kind, text, normal, underflows)
+            }
+            Ask::Repeated(kind, text, normal, underflows) => {
+                match (repeated(alloc, text), repeated(alloc, normal)) {
+                    (Ok(text), Ok(normal)) => is_normal_form_strictly(
+                        alloc,
+                        kind,
+                        text.as_str(),
+                        normal.as_str(),
+                        underflows,
+                    ),
+                    _ => false,
+                }
             }
         }
     }

@@ -2,14 +2,18 @@
 #![tactic(auto)]
 
 mod ask;
+mod normal;
 mod reading;
 mod rows;
 mod run;
 
-use crate::rows::ROWS;
 use crate::run::run;
 use std::process::ExitCode;
 
 fn main(rt: HostRuntime) -> ExitCode {
-    ExitCode::from(run(rt.alloc(), ROWS, &mut rt.stdout()))
+    let alloc = rt.alloc();
+    match rows::all(alloc) {
+        Ok(rows) => ExitCode::from(run(alloc, rows.as_slice(), &mut rt.stdout())),
+        Err(_) => ExitCode::from(1),
+    }
 }

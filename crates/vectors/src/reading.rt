@@ -28,6 +28,15 @@ pub struct Parts<'a> {
     pub fragment: Option<&'a str>,
 }
 
+/// No component but an empty path.
+pub const EMPTY: Parts<'static> = Parts {
+    scheme: None,
+    authority: None,
+    path: "",
+    query: None,
+    fragment: None,
+};
+
 /// The parts of an authority (RFC 3986, section 3.2).
 #[derive(Clone, Copy, PartialEq, Eq)]
 pub struct AuthorityParts<'a> {

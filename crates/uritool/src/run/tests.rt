@@ -121,14 +121,57 @@ fn refuses(rt: HostRuntime) -> Result<(), Fail> {
 }
 
 #[test]
+fn prints_normal_forms_of_each_kind(rt: HostRuntime) -> Result<(), Fail> {
+    for (kind, text, line) in [
+        ("uri", "http://a/b/c/%2E/%2E./%2e%2E/d", "http://a/d\n"),
+        ("uri", "http://h:0080/", "http://h/\n"),
+        ("uri", "http://a//../..", "http://a/\n"),
+        ("uri-ref", "", "\n"),
+        ("uri-ref", "foo:/.//@@", "foo:/.//@@\n"),
+        ("uri-ref", "%C3%a9", "%C3%A9\n"),
+        ("iri", "HTTP://R%c3%89/É", "http://rÉ/É\n"),
+        ("iri-ref", "/%C3%41%A9%C3%A9", "/%C3A%A9é\n"),
+    ] {
+        ends_with(&rt, rt.alloc(), &["normalize", kind, text], 0, line, "")?;
+    }
+    Ok(())
+}
+
+#[test]
+fn normalizes_no_other_kind(rt: HostRuntime) -> Result<(), Fail> {
+    for (kind, text, line) in [
+        ("uri", "foo", "error: unexpected character at index 3\n"),
+        ("uri-ref", "é", "error: unexpected character at index 0\n"),
+        ("iri", "foo", "error: unexpected character at index 3\n"),
+        ("iri-ref", "a b", "error: unexpected character at index 1\n"),
+        (
+            "iri-ref",
+            "%",
+            "error: invalid percent-encoded octet at index 0\n",
+        ),
+        (
+            "uri",
+            "http://[:]",
+            "error: invalid IPv6 address at index 8\n",
+        ),
+    ] {
+        ends_with(&rt, rt.alloc(), &["normalize", kind, text], 1, "", line)?;
+    }
+    Ok(())
+}
+
+#[test]
 fn shows_usage(rt: HostRuntime) -> Result<(), Fail> {
-    let others: [&[&str]; 6] = [
+    let others: [&[&str]; 9] = [
         &[],
         &["parse", "uri-ref"],
         &["parse", "url", "foo"],
         &["Parse", "uri-ref", "foo"],
         &["parse", "uri-ref", "foo", "bar"],
-        &["normalize", "uri-ref", "foo"],
+        &["normalize", "uri-ref"],
+        &["normalize", "url", "foo"],
+        &["normalize", "uri-ref", "foo", "bar"],
+        &["resolve", "uri", "http://a/", "b"],
     ];
     for words in others {
         ends_with(&rt, rt.alloc(), words, 2, "", USAGE)?;
@@ -157,11 +200,23 @@ fn says_that_the_output_failed(rt: HostRuntime) -> Result<(), Fail> {
 }
 
 #[test]
+fn says_that_the_output_of_a_normal_form_failed(rt: HostRuntime) -> Result<(), Fail> {
+    let alloc = rt.alloc();
+    let words = ["normalize", "uri", "http://a/"];
+    let mut err = Vec::new(alloc);
+    assert_eq!(rt; run_words(alloc, &words, &mut Takes(0), &mut err)?, 1);
+    assert_eq!(rt; err.as_slice(), b"error: output failed\n".as_slice());
+    Ok(())
+}
+
+#[test]
 fn ends_alike_without_errors_shown(rt: HostRuntime) -> Result<(), Fail> {
     let alloc = rt.alloc();
     for (words, status) in [
         (["parse", "uri-ref", "a"], 0),
         (["parse", "uri-ref", "%"], 1),
+        (["normalize", "uri-ref", "a"], 0),
+        (["normalize", "uri-ref", "%"], 1),
         (["parse", "url", "a"], 2),
     ] {
         let got = run_words(alloc, &words, &mut Vec::new(alloc), &mut Takes(0))?;

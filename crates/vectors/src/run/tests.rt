@@ -1,7 +1,7 @@
 use super::run;
-use crate::ask::Ask::Refused;
+use crate::ask::Ask::{Normal, NormalUnder, Refused, Repeated, Strict};
 use crate::ask::Row;
-use crate::reading::Kind::Uri;
+use crate::reading::Kind::{Uri, UriRef};
 use fluent_uri::ParseErrorKind::UnexpectedChar;
 use std::io::{self, ErrorKind, Write};
 
@@ -34,6 +34,38 @@ fn rows_that_hold_are_counted(rt: HostRuntime) {
     let mut out = Vec::new(rt.alloc());
     assert_eq!(rt; run(rt.alloc(), &ROWS[..1], &mut out), 0);
     assert_eq!(rt; out.as_slice(), "rows 1 failed 0\n".as_bytes());
+}
+
+/// Rows of normal forms: one of each question that holds, and then some that differ.
+const NORMAL_FORMS: &[Row] = &[
+    Row("1", &[Normal(UriRef, "//@:", "//@")]),
+    Row("2", &[NormalUnder(("s", 1), Uri, "S://h:1", "s://h")]),
+    Row("3", &[Strict(Uri, "s:/a/..", "s:/", false)]),
+    Row(
+        "4",
+        &[Repeated(Uri, &[("s:/", 1), ("../", 2)], &[("s:/", 1)], true)],
+    ),
+    Row("B1", &[Normal(UriRef, "//@:", "//@:")]),
+    Row("B2", &[Normal(Uri, "//@:", "//@")]),
+    Row("B3", &[NormalUnder(("s", 2), Uri, "S://h:1", "s://h")]),
+    Row("B4", &[NormalUnder(("t", 1), Uri, "S://h:1", "s://h")]),
+    Row("B5", &[Strict(Uri, "s:/a/..", "s:/", true)]),
+    Row("B6", &[Strict(Uri, "s:/..", "s:/", false)]),
+    Row("B7", &[Strict(Uri, "s:/..", "s:/..", true)]),
+    Row(
+        "B8",
+        &[Repeated(Uri, &[("s:/", 1), ("a/", 2)], &[("s:/a/", 1)], false)],
+    ),
+];
+
+#[test]
+fn normal_forms_that_differ_are_named(rt: HostRuntime) {
+    let mut out = Vec::new(rt.alloc());
+    assert_eq!(rt; run(rt.alloc(), NORMAL_FORMS, &mut out), 1);
+    assert_eq!(rt;
+        out.as_slice(),
+        "fail B1\nfail B2\nfail B3\nfail B4\nfail B5\nfail B6\nfail B7\nfail B8\nrows 12 failed 8\n".as_bytes()
+    );
 }
 
 /// Takes so many writes, and refuses those after them.

@@ -1,0 +1,113 @@
+//! Rows of normal forms.
+
+use crate::ask::Ask::{Normal, NormalUnder, Repeated};
+use crate::ask::Row;
+use crate::reading::Kind::{IriRef, Uri, UriRef};
+
+const ROWS: &[Row] = &[
+    Row("R8.1", &[Normal(UriRef, "foo:/.//@@", "foo:/.//@@")]),
+    Row(
+        "R8.2",
+        &[
+            Normal(UriRef, "/foo/../bar", "/foo/../bar"),
+            Normal(UriRef, "foo:bar/../baz", "foo:bar/../baz"),
+        ],
+    ),
+    Row(
+        "R8.3",
+        &[Normal(UriRef, "//[v1FdE.AddR]", "//[v1fde.addr]")],
+    ),
+    Row(
+        "R8.4",
+        &[
+            Normal(IriRef, "%E2é", "%E2é"),
+            Normal(IriRef, "%E2%C3%A9", "%E2é"),
+        ],
+    ),
+    Row(
+        "R8.5",
+        &[Normal(UriRef, "http://example.com:/", "http://example.com/")],
+    ),
+    Row(
+        "R8.6",
+        &[NormalUnder(("foo", 4673), Uri, "FOO://h:4673", "foo://h")],
+    ),
+    Row(
+        "R8.7",
+        &[
+            Normal(
+                Uri,
+                "eXAMPLE://a/./b/../b/%63/%7bfoo%7d",
+                "example://a/b/c/%7Bfoo%7D",
+            ),
+            Normal(
+                IriRef,
+                "eXAMPLE://a/./b/../b/%63/%7bfoo%7d/ros%C3%A9",
+                "example://a/b/c/%7Bfoo%7D/rosé",
+            ),
+        ],
+    ),
+    Row(
+        "R11.1",
+        &[Repeated(
+            IriRef,
+            &[("%61", 30), ("%F0%9F%98%80", 1)],
+            &[("a", 30), ("\u{1f600}", 1)],
+            false,
+        )],
+    ),
+    Row(
+        "R11.2",
+        &[Repeated(
+            IriRef,
+            &[("%61", 31), ("%E2%41", 1)],
+            &[("a", 31), ("%E2A", 1)],
+            false,
+        )],
+    ),
+    Row(
+        "R11.3",
+        &[Repeated(
+            IriRef,
+            &[("%61", 31), ("%F0%9F%98%41", 1)],
+            &[("a", 31), ("%F0%9F%98A", 1)],
+            false,
+        )],
+    ),
+    Row(
+        "R11.4",
+        &[Repeated(IriRef, &[("%80", 33)], &[("%80", 33)], false)],
+    ),
+    Row(
+        "R11.5",
+        &[Repeated(
+            IriRef,
+            &[("%61", 31), ("%E2", 1)],
+            &[("a", 31), ("%E2", 1)],
+            false,
+        )],
+    ),
+    Row(
+        "R14.8",
+        &[Repeated(
+            UriRef,
+            &[("http://a/", 1), ("../", 10000), ("g", 1)],
+            &[("http://a/g", 1)],
+            true,
+        )],
+    ),
+    Row(
+        "R14.9",
+        &[Repeated(
+            UriRef,
+            &[("http://a/", 1), ("x/", 5000), ("../", 5000), ("g", 1)],
+            &[("http://a/g", 1)],
+            false,
+        )],
+    ),
+];
+
+/// The rows.
+pub fn rows() -> &'static [Row] {
+    ROWS
+}
