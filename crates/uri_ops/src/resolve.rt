@@ -217,7 +217,8 @@ fn push_cleaned(path: &str, out: &mut String) -> Result<bool, AllocError>
 }
 
 /// Whether a path would be read as an authority, where none stands before it.
-fn begins_with_two_slashes(path: &[u8]) -> bool
+#[doc(hidden)]
+pub fn begins_with_two_slashes(path: &[u8]) -> bool
     ensures { result ≡ has_authority path.now }
 {
     matches!(path, [b'/', b'/', ..])
@@ -297,7 +298,8 @@ fn target_text(
 }
 
 /// The value whose text this is.
-fn owned<R: RiMaybeRef>(text: String) -> R::Owned
+#[doc(hidden)]
+pub fn owned<R: RiMaybeRef>(text: String) -> R::Owned
     requires { IsOfKind R.kind (string_bytes text) }
     ensures { R.owned_text result ≡ string_bytes text }
 {

@@ -17,6 +17,7 @@ use uri_pct::encoder::{Encoder, PathEncoder};
 pub trait RiMaybeRef {
     ghost use Rattle.std.specs.Prelude.{ℕ, List};
     ghost use Rattle.uri_parts.specs.Grammar.{Kind};
+    ghost use Rattle.uri_ops.specs.BuilderParts.{known_kind};
     ghost use Rattle.uri_ops.specs.ComponentSets.{HasComponentSets};
 
     /// The kind over a text of its own.
@@ -63,6 +64,18 @@ pub trait RiMaybeRef {
         requires of_kind { IsOfKind kind (string_bytes owned) }
         requires at { AreAt (string_bytes owned) positions }
         ensures { owned_text result ≡ string_bytes owned };
+
+    /// Whether the kind has characters past ASCII.
+    #[doc(hidden)]
+    fn is_international() -> bool
+        ensures { result ≡ kind.path.ucschar };
+
+    /// Whether each text of the kind has a scheme.
+    #[doc(hidden)]
+    fn has_needed_scheme() -> bool
+        ensures { result ≡ kind.needs_scheme };
+
+    ghost known: { kind ≡ known_kind kind.path.ucschar kind.needs_scheme };
 
     ghost rules_of_kind: { Self.Rules.kind ≡ record kind { needs_scheme = false } };
 
