@@ -91,6 +91,16 @@ impl<T: AsStr> RiMaybeRef for Iri<T> {
         }
     }
 
+    fn is_international() -> bool {
+        true
+    }
+
+    fn has_needed_scheme() -> bool {
+        true
+    }
+
+    ghost known = { refl };
+
     ghost rules_of_kind = { refl };
 
     ghost component_sets = { iri_sets };

@@ -93,6 +93,16 @@ impl<T: AsStr> RiMaybeRef for IriRef<T> {
         }
     }
 
+    fn is_international() -> bool {
+        true
+    }
+
+    fn has_needed_scheme() -> bool {
+        false
+    }
+
+    ghost known = { refl };
+
     ghost rules_of_kind = { refl };
 
     ghost component_sets = { iri_ref_sets };

@@ -91,6 +91,16 @@ impl<T: AsStr> RiMaybeRef for Uri<T> {
         }
     }
 
+    fn is_international() -> bool {
+        false
+    }
+
+    fn has_needed_scheme() -> bool {
+        true
+    }
+
+    ghost known = { refl };
+
     ghost rules_of_kind = { refl };
 
     ghost component_sets = { uri_sets };

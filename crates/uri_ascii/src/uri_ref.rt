@@ -94,6 +94,16 @@ impl<T: AsStr> RiMaybeRef for UriRef<T> {
         }
     }
 
+    fn is_international() -> bool {
+        false
+    }
+
+    fn has_needed_scheme() -> bool {
+        false
+    }
+
+    ghost known = { refl };
+
     ghost rules_of_kind = { refl };
 
     ghost component_sets = { uri_ref_sets };

@@ -90,7 +90,7 @@ lacks_port None h = test_lacks (codes "/?#") [] refl
 lacks_port (Some digits) h =
     lacks_append (codes "/?#") (58 ∷ digits) [] (lacks_append (codes "/?#") (codes ":") digits (test_lacks (codes "/?#") (codes ":") refl) h) (test_lacks (codes "/?#") [] refl)
 
-lacks_text : (p : AuthorityParts) → IfSome p.userinfo (Lacks (codes "/?#")) → Lacks (codes "/?#") p.host → IfSome p.port (Lacks (codes "/?#")) → Lacks (codes "/?#") (authority_text p)
+pub lacks_text : (p : AuthorityParts) → IfSome p.userinfo (Lacks (codes "/?#")) → Lacks (codes "/?#") p.host → IfSome p.port (Lacks (codes "/?#")) → Lacks (codes "/?#") (authority_text p)
 lacks_text p user host port =
     lacks_append (codes "/?#") (marked [] p.userinfo (codes "@")) (p.host ++ marked (codes ":") p.port []) (lacks_user p.userinfo user)
     (lacks_append (codes "/?#") p.host (marked (codes ":") p.port []) host (lacks_port p.port port))

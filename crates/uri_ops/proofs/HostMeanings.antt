@@ -46,7 +46,7 @@ pub record IsHostOf (names : TableSet) (m : HostMeaning) (text : List ℕ) : Typ
   pub lacks : Lacks (codes "/?#") text
 
 -- in brackets
-lacks_bracketed : (address : List ℕ) → Lacks (codes "/?#") address → Lacks (codes "/?#") (bracketed address)
+pub lacks_bracketed : (address : List ℕ) → Lacks (codes "/?#") address → Lacks (codes "/?#") (bracketed address)
 lacks_bracketed address h =
     lacks_append (codes "/?#") (codes "[") (address ++ codes "]") (test_lacks (codes "/?#") (codes "[") refl)
     (lacks_append (codes "/?#") address (codes "]") h (test_lacks (codes "/?#") (codes "]") refl))
@@ -134,7 +134,7 @@ lower_plain_future text h w =
       address_chars = (omega arith, valid_plain is_userinfo_char no_percent (str_to_ascii_lowercase h.address) (utf8_plain is_userinfo_char (str_to_ascii_lowercase h.address) address) ∙ address);
     }
 
-slash_outside : excludes ipv_future_set (codes "/?#") ≡ true
+pub slash_outside : excludes ipv_future_set (codes "/?#") ≡ true
 unfolding is_userinfo_char is_reg_name_char is_unreserved is_sub_delim
 slash_outside = refl
 

@@ -51,3 +51,10 @@ pub mod ReferenceKinds
 pub mod NormalPieces
 pub mod NormalForms
 pub mod NormalTargets
+pub mod Drafting
+pub mod BuilderAuthorities
+pub mod BuilderSteps
+pub mod BuilderDrafts
+pub mod BuilderPlaces
+pub mod BuilderKinds
+pub mod Built

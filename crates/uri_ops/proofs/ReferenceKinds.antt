@@ -4,7 +4,7 @@ use Rattle.uri_parts.specs.Grammar.{Kind, IsOfKind}
 use Rattle.uri_parts.proofs.KindLemmas.{is_reference}
 use Rattle.uri_ops.specs.Texts.{IsTextOf}
 
-of_reference_kind : (kind wide : Kind) (text : List ℕ) → wide ≡ record kind { needs_scheme = false } → IsOfKind kind text → IsOfKind wide text
+pub of_reference_kind : (kind wide : Kind) (text : List ℕ) → wide ≡ record kind { needs_scheme = false } → IsOfKind kind text → IsOfKind wide text
 of_reference_kind kind wide text e h = subst (λ k. IsOfKind k text) (sym e) (is_reference kind text h)
 
 -- also under another name

@@ -3,6 +3,7 @@
 
 #[doc(hidden)]
 pub mod across;
+pub mod build;
 #[doc(hidden)]
 pub mod canonical;
 pub mod convert;

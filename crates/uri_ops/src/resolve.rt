@@ -229,7 +229,8 @@ fn push_cleaned(path: &str, out: &mut String) -> Result<bool, AllocError>
 }
 
 /// Whether a path would be read as an authority, where none stands before it.
-fn begins_with_two_slashes(path: &[u8]) -> bool
+#[doc(hidden)]
+pub fn begins_with_two_slashes(path: &[u8]) -> bool
     ensures { result ≡ has_authority path.now }
 {
     matches!(path, [b'/', b'/', ..])

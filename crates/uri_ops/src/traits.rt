@@ -22,6 +22,7 @@ use uri_pct::pct_enc::EStr;
 pub trait RiMaybeRef {
     ghost use Rattle.std.specs.Prelude.{ℕ, List};
     ghost use Rattle.uri_parts.specs.Grammar.{Kind};
+    ghost use Rattle.uri_ops.specs.BuilderParts.{known_kind};
     ghost use Rattle.uri_ops.specs.ComponentSets.{HasComponentSets};
 
     /// The kind over a text of its own.
@@ -68,6 +69,18 @@ pub trait RiMaybeRef {
         requires of_kind { IsOfKind kind (string_bytes owned) }
         requires at { AreAt (string_bytes owned) positions }
         ensures { owned_text result ≡ string_bytes owned };
+
+    /// Whether the kind has characters past ASCII.
+    #[doc(hidden)]
+    fn is_international() -> bool
+        ensures { result ≡ kind.path.ucschar };
+
+    /// Whether each text of the kind has a scheme.
+    #[doc(hidden)]
+    fn has_needed_scheme() -> bool
+        ensures { result ≡ kind.needs_scheme };
+
+    ghost known: { kind ≡ known_kind kind.path.ucschar kind.needs_scheme };
 
     ghost rules_of_kind: { Self.Rules.kind ≡ record kind { needs_scheme = false } };
 
@@ -125,13 +138,22 @@ pub fn with_fragment<R: RiMaybeRef>(
 
 /// Where the components lie of a text that is known to be of the kind.
 pub(crate) fn positions_in<K: Rules>(text: &str) -> Positions
-    requires { IsTextOf K.kind text.now }
+    requires { IsOfKind K.kind text.now }
     ensures { AreAt text.now result }
 {
     match K::parse(text) {
         Ok(positions) => positions,
         Err(_) => unreachable!(),
     }
+}
+
+/// The value whose text this is.
+pub(crate) fn owned<R: RiMaybeRef>(text: String) -> R::Owned
+    requires { IsOfKind R.kind (string_bytes text) }
+    ensures { R.owned_text result ≡ string_bytes text }
+{
+    let positions = positions_in::<R::Rules>(text.as_str());
+    R::make_owned(text, positions)
 }
 
 /// A text that is known to be of the kind, with the positions of its components.

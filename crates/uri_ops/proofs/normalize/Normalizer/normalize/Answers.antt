@@ -6,9 +6,9 @@ use Rattle.uri_ops.proofs.normalize.Normalizer.normalize.Goals as goal
 
 pub positions_in-positions-requires : goal.positions_in-positions-requires
 positions_in-positions-requires g c =
-    normal_is_reference g.R.RiMaybeRef.kind g.R.Rules.Rules.kind g.met.R.RiMaybeRef.rules_of_kind g.met.R.RiMaybeRef.component_sets (g.P.DefaultPort.port_of (ports_of c.args.self.now))
+    (normal_is_reference g.R.RiMaybeRef.kind g.R.Rules.Rules.kind g.met.R.RiMaybeRef.rules_of_kind g.met.R.RiMaybeRef.component_sets (g.P.DefaultPort.port_of (ports_of c.args.self.now))
     (core_text c.core.result) (g.R.RiMaybeRef.text c.args.value.now) (string_bytes c.in_ok-made.made.text)
-    c.core.ensures.text c.normal_form.ensures.utf8 c.core.ensures.of_kind c.in_ok-made.ensures.text c.as_str.result.now c.as_str.ensures.value
+    c.core.ensures.text c.normal_form.ensures.utf8 c.core.ensures.of_kind c.in_ok-made.ensures.text c.as_str.result.now c.as_str.ensures.value).grammar
 
 pub make_owned-requires-clause-of_kind : goal.make_owned-requires-clause-of_kind
 make_owned-requires-clause-of_kind g c =

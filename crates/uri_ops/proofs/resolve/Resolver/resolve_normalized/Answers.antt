@@ -40,9 +40,9 @@ returns-in_err-made-clause-refusal g c =
 
 pub positions_in-positions-requires : goal.positions_in-positions-requires
 positions_in-positions-requires g c =
-    normal_is_reference g.R.RiMaybeRef.kind g.R.Rules.Rules.kind g.met.R.RiMaybeRef.rules_of_kind g.met.R.RiMaybeRef.component_sets (g.P.DefaultPort.port_of (ports_of c.args.normalizer.now))
+    (normal_is_reference g.R.RiMaybeRef.kind g.R.Rules.Rules.kind g.met.R.RiMaybeRef.rules_of_kind g.met.R.RiMaybeRef.component_sets (g.P.DefaultPort.port_of (ports_of c.args.normalizer.now))
     (core_text c.core_of-core.result) (string_bytes c.in_ok-target.target) (string_bytes c.in_ok-made.made.text)
-    (c.core_of-core.ensures ∙ c.as_str.ensures.value) c.normal_form.ensures.utf8 c.in_ok-target.ensures.of_kind.grammar c.in_ok-made.ensures.text c.as_str-2.result.now c.as_str-2.ensures.value
+    (c.core_of-core.ensures ∙ c.as_str.ensures.value) c.normal_form.ensures.utf8 c.in_ok-target.ensures.of_kind.grammar c.in_ok-made.ensures.text c.as_str-2.result.now c.as_str-2.ensures.value).grammar
 
 pub make_owned-requires-clause-of_kind : goal.make_owned-requires-clause-of_kind
 make_owned-requires-clause-of_kind g c =

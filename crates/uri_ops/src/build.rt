@@ -1,0 +1,222 @@
+//! Building references (RFC 3986, section 5.3).
+ghost use Rattle.std.specs.Prelude.{◌≡◌, ◌↔◌, IfOk, IsOk, MatchOption, Some, false, true};
+ghost use Rattle.std.specs.Result.{result_err};
+ghost use Rattle.uri_pct.specs.EStrs.{text_of};
+ghost use Rattle.uri_parts.specs.Schemes.{scheme_text};
+ghost use Rattle.uri_ops.specs.BuilderParts.{Adds, no_parts, parts_text, with_fragment, with_path, with_query, with_scheme};
+ghost use Rattle.uri_ops.specs.Builders.{builder_parts, is_for};
+
+#[doc(hidden)]
+pub mod draft;
+pub mod state;
+
+use crate::build::draft::Draft;
+use crate::build::state::{
+    AdvanceTo, End, FragmentEnd, NonRefStart, PathEnd, QueryEnd, SchemeEnd, Start, State, To,
+};
+use crate::traits::{RiMaybeRef, owned};
+use std::alloc::Global;
+use std::marker::PhantomData;
+use thiserror::Error;
+use uri_parts::component::Scheme;
+use uri_pct::pct_enc::EStr;
+
+/// Why no reference was built.
+#[derive(Clone, Copy, Debug, PartialEq, Eq, Error)]
+pub enum BuildError {
+    /// There is an authority, and the path is neither empty nor begins with `/` (RFC 3986, section
+    /// 3.3).
+    #[error("when authority is present, path should either be empty or start with '/'")]
+    NonemptyRootlessPath,
+    /// There is no authority, and the path begins with `//` (RFC 3986, section 3.3).
+    #[error("when authority is not present, path should not start with \"//\"")]
+    PathStartsWithDoubleSlash,
+    /// There is neither a scheme nor an authority, and the first segment of the path holds `:` (RFC
+    /// 3986, section 4.2).
+    #[error("when neither scheme nor authority is present, first path segment should not contain ':'")]
+    FirstPathSegmentContainsColon,
+    /// Memory was refused.
+    #[error("out of memory")]
+    OutOfMemory,
+}
+
+/// A builder of an `R` in the state `S`.
+///
+/// The parts are given from the first to the last, each at most once. A URI or an IRI needs a scheme,
+/// and each reference a path, which may be empty; all else may be left out. The types see to this.
+///
+/// A step that is refused memory marks the builder failed. Later steps keep the mark, and `build`
+/// answers `OutOfMemory`.
+#[derive(Drop)]
+pub struct Builder<R, S> {
+    state: S,
+    made: PhantomData<R>,
+}
+
+impl<R: RiMaybeRef> Builder<R, Start> {
+    /// A fresh builder of a reference.
+    #[doc(hidden)]
+    pub fn of_reference(alloc: Global) -> Builder<R, Start>
+        requires { R.kind.needs_scheme ≡ false }
+        ensures { builder_parts R.kind (⟦<Start as State>⟧.held result.state) ≡ no_parts }
+    {
+        Builder {
+            state: Start {
+                draft: Draft::new(alloc, R::is_international(), R::has_needed_scheme()),
+            },
+            made: PhantomData,
+        }
+    }
+}
+
+impl<R: RiMaybeRef> Builder<R, NonRefStart> {
+    /// A fresh builder of a URI or an IRI.
+    #[doc(hidden)]
+    pub fn with_needed_scheme(alloc: Global) -> Builder<R, NonRefStart>
+        ensures { builder_parts R.kind (⟦<NonRefStart as State>⟧.held result.state) ≡ no_parts }
+    {
+        Builder {
+            state: NonRefStart {
+                draft: Draft::new(alloc, R::is_international(), R::has_needed_scheme()),
+            },
+            made: PhantomData,
+        }
+    }
+}
+
+impl<R, S: State> Builder<R, S> {
+    /// The same builder in a later state: the parts in between are left out.
+    pub fn advance<T: State>(self) -> Builder<R, T>
+    where
+        S: AdvanceTo<T>,
+        ensures { T.held result.state ≡ S.held self.state }
+    {
+        Builder {
+            state: self.state.pass(),
+            made: PhantomData,
+        }
+    }
+
+    /// The builder that the step answers for the value, where there is one, and else the same
+    /// builder in the state behind the step.
+    pub fn optional<F, V, T: State>(self, step: F, value: Option<V>) -> Builder<R, T>
+    where
+        S: AdvanceTo<T>,
+        F: FnOnce(Builder<R, S>, V) -> Builder<R, T> + Drop,
+        requires { F.IsAlwaysCallable step }
+        ensures { MatchOption value (T.held result.state ≡ S.held self.state) (λ v. F.post step self v result) }
+    {
+        match value {
+            Some(value) => step(self, value),
+            None => self.advance(),
+        }
+    }
+}
+
+impl<R: RiMaybeRef, S: State> Builder<R, S> {
+    ghost use Rattle.uri_ops.specs.Built.{IsTextOfParts, refusal};
+    ghost use Rattle.uri_ops.specs.declared.build.BuildError.TheVariants.{OutOfMemory};
+
+    /// What the builder holds where the step to a state begins.
+    fn taken<T: State>(self) -> Draft
+    where
+        S: To<T>,
+        ensures mark { result.failed ≡ (builder_parts R.kind (S.held self.state)).failed }
+        ensures same { result.failed ≡ false → result ≡ S.held self.state }
+        ensures of_kind { result.failed ≡ false → is_for R.kind result ≡ true }
+        ensures before { T.before result ≡ true }
+    {
+        let draft = self.state.carry();
+        if draft.is_for(R::is_international(), R::has_needed_scheme()) {
+            draft
+        } else {
+            draft.marked()
+        }
+    }
+
+    /// Gives the scheme (RFC 3986, section 3.1).
+    ///
+    /// The case of its letters makes no difference; it should be lower.
+    pub fn scheme(self, scheme: Scheme<'_>) -> Builder<R, SchemeEnd>
+    where
+        S: To<SchemeEnd>,
+        ensures { Adds (with_scheme (scheme_text scheme.entry)) (builder_parts R.kind (S.held self.state)) (builder_parts R.kind (⟦<SchemeEnd as State>⟧.held result.state)) }
+    {
+        Builder {
+            state: SchemeEnd {
+                draft: self.taken::<SchemeEnd>().with_scheme(scheme.as_str()),
+            },
+            made: PhantomData,
+        }
+    }
+
+    /// Gives the path (RFC 3986, section 3.3).
+    pub fn path(self, path: EStr<'_, R::PathE>) -> Builder<R, PathEnd>
+    where
+        S: To<PathEnd>,
+        ensures { Adds (with_path (text_of path.entry)) (builder_parts R.kind (S.held self.state)) (builder_parts R.kind (⟦<PathEnd as State>⟧.held result.state)) }
+    {
+        Builder {
+            state: PathEnd {
+                draft: self.taken::<PathEnd>().with_path(path.as_str()),
+            },
+            made: PhantomData,
+        }
+    }
+
+    /// Gives the query (RFC 3986, section 3.4), without its `?`.
+    pub fn query(self, query: EStr<'_, R::QueryE>) -> Builder<R, QueryEnd>
+    where
+        S: To<QueryEnd>,
+        ensures { Adds (with_query (text_of query.entry)) (builder_parts R.kind (S.held self.state)) (builder_parts R.kind (⟦<QueryEnd as State>⟧.held result.state)) }
+    {
+        Builder {
+            state: QueryEnd {
+                draft: self.taken::<QueryEnd>().with_query(query.as_str()),
+            },
+            made: PhantomData,
+        }
+    }
+
+    /// Gives the fragment (RFC 3986, section 3.5), without its `#`.
+    pub fn fragment(self, fragment: EStr<'_, R::FragmentE>) -> Builder<R, FragmentEnd>
+    where
+        S: To<FragmentEnd>,
+        ensures { Adds (with_fragment (text_of fragment.entry)) (builder_parts R.kind (S.held self.state)) (builder_parts R.kind (⟦<FragmentEnd as State>⟧.held result.state)) }
+    {
+        Builder {
+            state: FragmentEnd {
+                draft: self.taken::<FragmentEnd>().with_fragment(fragment.as_str()),
+            },
+            made: PhantomData,
+        }
+    }
+
+    /// The reference of these parts: its text is that of the parts by RFC 3986, section 5.3, and its
+    /// components are the parts.
+    ///
+    /// # Errors
+    ///
+    /// `OutOfMemory` exactly if a step was refused memory. Else `NonemptyRootlessPath` if there is an
+    /// authority, and the path is neither empty nor begins with `/`; `PathStartsWithDoubleSlash` if
+    /// there is no authority, and the path begins with `//`; `FirstPathSegmentContainsColon` if there
+    /// is neither a scheme nor an authority, and the first segment of the path holds `:`.
+    pub fn build(self) -> Result<R, BuildError>
+    where
+        S: To<End>,
+        R: RiMaybeRef<Owned = R>,
+        ensures failed { (builder_parts R.kind (S.held self.state)).failed ≡ true → result_err result ≡ Some OutOfMemory }
+        ensures refused { (builder_parts R.kind (S.held self.state)).failed ≡ false → result_err result ≡ refusal (builder_parts R.kind (S.held self.state)) }
+        ensures value { IfOk result (λ made. R.owned_text made ≡ parts_text (builder_parts R.kind (S.held self.state))) }
+        ensures exactly { (builder_parts R.kind (S.held self.state)).failed ≡ false → (IsOk result ↔ IsTextOfParts R.kind (builder_parts R.kind (S.held self.state))) }
+    {
+        let draft = self.taken::<End>();
+        if draft.failed {
+            return Err(BuildError::OutOfMemory);
+        }
+        match draft.refusal() {
+            Some(error) => Err(error),
+            None => Ok(owned::<R>(draft.text)),
+        }
+    }
+}

@@ -1,0 +1,280 @@
+//! The text that a builder writes, with the lengths of its parts (RFC 3986, section 5.3).
+ghost use Rattle.std.specs.Prelude.{◌≡◌, ◌++◌, ◌==◌, ◌&&◌, ◌+◌, ◌≤◌, IfSome, [], codes, false, length, unwrap_or, true, string_bytes};
+ghost use Rattle.uri_pct.specs.Tokens.{is_valid_for};
+ghost use Rattle.uri_parts.specs.Components.{starts};
+ghost use Rattle.uri_parts.specs.Grammar.{has_colon_first, is_authority, is_scheme};
+ghost use Rattle.uri_ops.specs.BuilderParts.{Adds, known_kind, no_parts, with_authority, with_fragment, with_path, with_query, with_scheme};
+ghost use Rattle.uri_ops.specs.Built.{refusal_of};
+ghost use Rattle.uri_ops.specs.Drafts.{IsDraft, behind_part};
+
+use crate::build::BuildError;
+use crate::resolve::begins_with_two_slashes;
+use std::alloc::Global;
+
+/// How long each part is, where it is there, in bytes.
+#[doc(hidden)]
+#[derive(Clone, Copy)]
+pub struct Lengths {
+    pub scheme: Option<usize>,
+    pub authority: Option<usize>,
+    pub path: Option<usize>,
+    pub query: Option<usize>,
+    pub fragment: Option<usize>,
+}
+
+/// The text so far, whose parts are those of a kind. Unless it is marked failed it is their text by
+/// RFC 3986, section 5.3, and each of them meets its rule.
+#[doc(hidden)]
+#[derive(Drop)]
+pub struct Draft {
+    pub text: String,
+    pub lengths: Lengths,
+    pub failed: bool,
+    /// Whether the kind has characters past ASCII.
+    pub international: bool,
+    /// Whether the kind needs a scheme.
+    pub needs_scheme: bool,
+    pub ghost ok: { failed ≡ false → IsDraft (known_kind international needs_scheme) lengths (string_bytes text) },
+}
+
+/// Appends to a text, unless it has failed, and answers whether it has failed now.
+fn append(text: &mut String, failed: bool, piece: &str) -> bool
+    ensures kept { result ≡ false → failed ≡ false }
+    ensures text { result ≡ false → string_bytes text.new ≡ string_bytes text.old ++ piece.now }
+{
+    failed || text.push_str(piece).is_err()
+}
+
+impl Draft {
+    ghost use Rattle.uri_ops.specs.Builders.{Follows, draft_kind, draft_parts, is_before_authority, is_before_fragment, is_before_path, is_before_query, is_before_userinfo, is_at_end, is_fresh, same};
+    ghost use Rattle.uri_ops.specs.Built.{refusal};
+
+    /// A draft that holds nothing.
+    pub fn new(alloc: Global, international: bool, needs_scheme: bool) -> Draft
+        ensures parts { draft_parts result ≡ no_parts }
+        ensures international { result.international ≡ international }
+        ensures needs_scheme { result.needs_scheme ≡ needs_scheme }
+        ensures at { is_fresh result ≡ true }
+    {
+        Draft {
+            text: String::new(alloc),
+            lengths: Lengths {
+                scheme: None,
+                authority: None,
+                path: None,
+                query: None,
+                fragment: None,
+            },
+            failed: false,
+            international,
+            needs_scheme,
+        }
+    }
+
+    /// Whether it was begun for such a kind.
+    pub fn is_for(&self, international: bool, needs_scheme: bool) -> bool
+        ensures { result ≡ (same self.now.international international && same self.now.needs_scheme needs_scheme) }
+    {
+        self.international == international && self.needs_scheme == needs_scheme
+    }
+
+    /// The same, marked failed.
+    pub fn marked(self) -> Draft
+        ensures { result.failed ≡ true }
+    {
+        Draft {
+            text: self.text,
+            lengths: self.lengths,
+            failed: true,
+            international: self.international,
+            needs_scheme: self.needs_scheme,
+        }
+    }
+
+    /// With a scheme, and its `:`.
+    pub fn with_scheme(self, scheme: &str) -> Draft
+        requires before { is_fresh self ≡ true }
+        requires rule { is_scheme scheme.now ≡ true }
+        ensures adds { Adds (with_scheme scheme.now) (draft_parts self) (draft_parts result) }
+        ensures follows { Follows self result }
+        ensures at { is_before_authority result ≡ true }
+    {
+        let Draft {
+            mut text,
+            lengths,
+            failed,
+            international,
+            needs_scheme,
+        } = self;
+        let failed = append(&mut text, failed, scheme);
+        let failed = append(&mut text, failed, ":");
+        Draft {
+            text,
+            lengths: Lengths {
+                scheme: Some(scheme.len()),
+                ..lengths
+            },
+            failed,
+            international,
+            needs_scheme,
+        }
+    }
+
+    /// With a path.
+    pub fn with_path(self, path: &str) -> Draft
+        requires before { is_before_path self ≡ true }
+        requires rule { self.failed ≡ false → is_valid_for (draft_kind self).path path.now ≡ true }
+        ensures adds { Adds (with_path path.now) (draft_parts self) (draft_parts result) }
+        ensures follows { Follows self result }
+        ensures at { is_before_query result ≡ true }
+    {
+        let Draft {
+            mut text,
+            lengths,
+            failed,
+            international,
+            needs_scheme,
+        } = self;
+        let failed = append(&mut text, failed, path);
+        Draft {
+            text,
+            lengths: Lengths {
+                path: Some(path.len()),
+                ..lengths
+            },
+            failed,
+            international,
+            needs_scheme,
+        }
+    }
+
+    /// With a query behind its `?`.
+    pub fn with_query(self, query: &str) -> Draft
+        requires before { is_before_query self ≡ true }
+        requires rule { self.failed ≡ false → is_valid_for (draft_kind self).query query.now ≡ true }
+        ensures adds { Adds (with_query query.now) (draft_parts self) (draft_parts result) }
+        ensures follows { Follows self result }
+        ensures at { is_before_fragment result ≡ true }
+    {
+        let Draft {
+            mut text,
+            lengths,
+            failed,
+            international,
+            needs_scheme,
+        } = self;
+        let failed = append(&mut text, failed, "?");
+        let failed = append(&mut text, failed, query);
+        Draft {
+            text,
+            lengths: Lengths {
+                query: Some(query.len()),
+                ..lengths
+            },
+            failed,
+            international,
+            needs_scheme,
+        }
+    }
+
+    /// With a fragment behind its `#`.
+    pub fn with_fragment(self, fragment: &str) -> Draft
+        requires before { is_before_fragment self ≡ true }
+        requires rule { self.failed ≡ false → is_valid_for (draft_kind self).fragment fragment.now ≡ true }
+        ensures adds { Adds (with_fragment fragment.now) (draft_parts self) (draft_parts result) }
+        ensures follows { Follows self result }
+        ensures at { is_at_end result ≡ true }
+    {
+        let Draft {
+            mut text,
+            lengths,
+            failed,
+            international,
+            needs_scheme,
+        } = self;
+        let failed = append(&mut text, failed, "#");
+        let failed = append(&mut text, failed, fragment);
+        Draft {
+            text,
+            lengths: Lengths {
+                fragment: Some(fragment.len()),
+                ..lengths
+            },
+            failed,
+            international,
+            needs_scheme,
+        }
+    }
+
+    /// Why the parts are refused, if they are.
+    pub fn refusal(&self) -> Option<BuildError>
+        requires whole { self.now.failed ≡ false }
+        ensures { result ≡ refusal (draft_parts self.now) }
+    {
+        first_refusal(
+            self.lengths.scheme.is_some(),
+            self.lengths.authority.is_some(),
+            self.path(),
+        )
+    }
+
+    /// The bytes of the path, which is empty where there is none.
+    fn path(&self) -> &[u8]
+        requires whole { self.now.failed ≡ false }
+        ensures { result.now ≡ unwrap_or (draft_parts self.now).path [] }
+    {
+        let from_scheme = behind_part(self.text.as_bytes(), 1, self.lengths.scheme);
+        let from_path = behind_part(from_scheme, 2, self.lengths.authority);
+        match self.lengths.path {
+            Some(len) => &from_path[..len],
+            None => b"",
+        }
+    }
+}
+
+/// What stands behind a part and its marks.
+fn behind_part(text: &[u8], marks: usize, part: Option<usize>) -> &[u8]
+    requires { IfSome part (λ len. marks + len ≤ length text.now) }
+    ensures { result.now ≡ behind_part marks part text.now }
+{
+    match part {
+        Some(len) => &text[marks + len..],
+        None => text,
+    }
+}
+
+/// Whether a `:` stands in the first segment of a path.
+fn has_colon_first(path: &[u8]) -> bool
+    ensures { result ≡ has_colon_first path.now }
+{
+    path.iter()
+        .take_while(|byte| **byte != b'/')
+        .any(|byte| *byte == b':')
+}
+
+/// Whether a path begins with `/`.
+fn begins_with_slash(path: &[u8]) -> bool
+    ensures { result ≡ starts 47 path.now }
+{
+    path.first() == Some(&b'/')
+}
+
+/// Why a path is refused behind what stands before it.
+#[tactic(auto, unfolding(crate::specs::Built::refusal_of))]
+fn first_refusal(has_scheme: bool, has_authority: bool, path: &[u8]) -> Option<BuildError>
+    ensures { result ≡ refusal_of has_scheme has_authority path.now }
+{
+    if has_authority {
+        if path.is_empty() || begins_with_slash(path) {
+            None
+        } else {
+            Some(BuildError::NonemptyRootlessPath)
+        }
+    } else if begins_with_two_slashes(path) {
+        Some(BuildError::PathStartsWithDoubleSlash)
+    } else if !has_scheme && has_colon_first(path) {
+        Some(BuildError::FirstPathSegmentContainsColon)
+    } else {
+        None
+    }
+}

@@ -1,0 +1,421 @@
+//! The states of a builder, and the steps from one to another (RFC 3986, section 3).
+ghost use Rattle.std.specs.Prelude.{◌≡◌, true};
+ghost use Rattle.uri_ops.specs.MarkedBuilders.{marked_at_end, marked_before_authority, marked_before_fragment, marked_before_host, marked_before_path, marked_before_port, marked_before_query, marked_before_userinfo, marked_fresh};
+ghost use Rattle.uri_ops.specs.Builders.{is_at_end, is_before_authority, is_before_fragment, is_before_host, is_before_path, is_before_port, is_before_query, is_before_userinfo, is_fresh, is_fresh_reference, is_in_authority};
+
+use crate::build::draft::Draft;
+
+/// A state of a builder: which step was the last.
+pub trait State: Drop {
+    ghost use Rattle.std.specs.Prelude.{Bool, true};
+    ghost use Rattle.uri_ops.specs.declared.build.draft.Draft.{Draft};
+
+    ghost held: { Self → Draft };
+
+    ghost before: { Draft → Bool };
+
+    ghost marked: { (draft : Draft) → draft.failed ≡ true → Self.before draft ≡ true };
+}
+
+/// A state from which the step to `T` may be taken.
+pub trait To<T: State>: State {
+    ghost use Rattle.std.specs.Prelude.{true};
+
+    #[doc(hidden)]
+    fn carry(self) -> Draft
+        ensures same { result ≡ Self.held self }
+        ensures before { T.before result ≡ true };
+}
+
+/// A state from which the steps up to `T` may be left out.
+pub trait AdvanceTo<T: State>: State {
+    #[doc(hidden)]
+    fn pass(self) -> T
+        ensures { T.held result ≡ Self.held self };
+}
+
+/// The start of a reference.
+#[derive(Drop)]
+pub struct Start {
+    #[doc(hidden)]
+    pub draft: Draft,
+    pub ghost ok: { is_fresh_reference draft ≡ true },
+}
+
+impl State for Start {
+    ghost held = { λ state. state.draft };
+
+    ghost before = { λ draft. draft.failed };
+
+    ghost marked = { λ draft e. e };
+}
+
+/// The start of a URI or an IRI, which needs a scheme.
+#[derive(Drop)]
+pub struct NonRefStart {
+    #[doc(hidden)]
+    pub draft: Draft,
+    pub ghost ok: { is_fresh draft ≡ true },
+}
+
+impl State for NonRefStart {
+    ghost held = { λ state. state.draft };
+
+    ghost before = { λ draft. draft.failed };
+
+    ghost marked = { λ draft e. e };
+}
+
+/// Behind the scheme.
+#[derive(Drop)]
+pub struct SchemeEnd {
+    #[doc(hidden)]
+    pub draft: Draft,
+    pub ghost ok: { is_before_authority draft ≡ true },
+}
+
+impl State for SchemeEnd {
+    ghost held = { λ state. state.draft };
+
+    ghost before = { is_fresh };
+
+    ghost marked = { marked_fresh };
+}
+
+/// At the start of the authority.
+#[derive(Drop)]
+pub struct AuthorityStart {
+    #[doc(hidden)]
+    pub draft: Draft,
+    pub ghost ok: { is_before_userinfo draft ≡ true },
+}
+
+impl State for AuthorityStart {
+    ghost held = { λ state. state.draft };
+
+    ghost before = { is_before_authority };
+
+    ghost marked = { marked_before_authority };
+}
+
+/// Behind the userinfo.
+#[derive(Drop)]
+pub struct UserinfoEnd {
+    #[doc(hidden)]
+    pub draft: Draft,
+    pub ghost ok: { is_before_host draft ≡ true },
+}
+
+impl State for UserinfoEnd {
+    ghost held = { λ state. state.draft };
+
+    ghost before = { is_before_userinfo };
+
+    ghost marked = { marked_before_userinfo };
+}
+
+/// Behind the host.
+#[derive(Drop)]
+pub struct HostEnd {
+    #[doc(hidden)]
+    pub draft: Draft,
+    pub ghost ok: { is_before_port draft ≡ true },
+}
+
+impl State for HostEnd {
+    ghost held = { λ state. state.draft };
+
+    ghost before = { is_before_host };
+
+    ghost marked = { marked_before_host };
+}
+
+/// Behind the port.
+#[derive(Drop)]
+pub struct PortEnd {
+    #[doc(hidden)]
+    pub draft: Draft,
+    pub ghost ok: { is_in_authority draft ≡ true },
+}
+
+impl State for PortEnd {
+    ghost held = { λ state. state.draft };
+
+    ghost before = { is_before_port };
+
+    ghost marked = { marked_before_port };
+}
+
+/// Behind the authority.
+#[derive(Drop)]
+pub struct AuthorityEnd {
+    #[doc(hidden)]
+    pub draft: Draft,
+    pub ghost ok: { is_before_path draft ≡ true },
+}
+
+impl State for AuthorityEnd {
+    ghost held = { λ state. state.draft };
+
+    ghost before = { is_before_path };
+
+    ghost marked = { marked_before_path };
+}
+
+/// Behind the path.
+#[derive(Drop)]
+pub struct PathEnd {
+    #[doc(hidden)]
+    pub draft: Draft,
+    pub ghost ok: { is_before_query draft ≡ true },
+}
+
+impl State for PathEnd {
+    ghost held = { λ state. state.draft };
+
+    ghost before = { is_before_path };
+
+    ghost marked = { marked_before_path };
+}
+
+/// Behind the query.
+#[derive(Drop)]
+pub struct QueryEnd {
+    #[doc(hidden)]
+    pub draft: Draft,
+    pub ghost ok: { is_before_fragment draft ≡ true },
+}
+
+impl State for QueryEnd {
+    ghost held = { λ state. state.draft };
+
+    ghost before = { is_before_query };
+
+    ghost marked = { marked_before_query };
+}
+
+/// Behind the fragment.
+#[derive(Drop)]
+pub struct FragmentEnd {
+    #[doc(hidden)]
+    pub draft: Draft,
+    pub ghost ok: { is_at_end draft ≡ true },
+}
+
+impl State for FragmentEnd {
+    ghost held = { λ state. state.draft };
+
+    ghost before = { is_before_fragment };
+
+    ghost marked = { marked_before_fragment };
+}
+
+/// The end.
+#[derive(Drop)]
+pub struct End {
+    #[doc(hidden)]
+    pub draft: Draft,
+    pub ghost ok: { is_at_end draft ≡ true },
+}
+
+impl State for End {
+    ghost held = { λ state. state.draft };
+
+    ghost before = { is_at_end };
+
+    ghost marked = { marked_at_end };
+}
+
+#[tactic(auto, using(crate::proofs::BuilderPlaces::fresh_reference))]
+impl To<SchemeEnd> for Start {
+    fn carry(self) -> Draft {
+        self.draft
+    }
+}
+
+#[tactic(auto, using(crate::proofs::BuilderPlaces::fresh_authority))]
+impl To<AuthorityStart> for Start {
+    fn carry(self) -> Draft {
+        self.draft
+    }
+}
+
+#[tactic(auto, using(crate::proofs::BuilderPlaces::fresh_path))]
+impl To<AuthorityEnd> for Start {
+    fn carry(self) -> Draft {
+        self.draft
+    }
+}
+
+#[tactic(auto, using(crate::proofs::BuilderPlaces::fresh_path))]
+impl To<PathEnd> for Start {
+    fn carry(self) -> Draft {
+        self.draft
+    }
+}
+
+impl To<SchemeEnd> for NonRefStart {
+    fn carry(self) -> Draft {
+        self.draft
+    }
+}
+
+impl To<AuthorityStart> for SchemeEnd {
+    fn carry(self) -> Draft {
+        self.draft
+    }
+}
+
+#[tactic(auto, using(crate::proofs::BuilderPlaces::authority_path))]
+impl To<AuthorityEnd> for SchemeEnd {
+    fn carry(self) -> Draft {
+        self.draft
+    }
+}
+
+#[tactic(auto, using(crate::proofs::BuilderPlaces::authority_path))]
+impl To<PathEnd> for SchemeEnd {
+    fn carry(self) -> Draft {
+        self.draft
+    }
+}
+
+impl To<UserinfoEnd> for AuthorityStart {
+    fn carry(self) -> Draft {
+        self.draft
+    }
+}
+
+#[tactic(auto, using(crate::proofs::BuilderPlaces::userinfo_host))]
+impl To<HostEnd> for AuthorityStart {
+    fn carry(self) -> Draft {
+        self.draft
+    }
+}
+
+impl To<HostEnd> for UserinfoEnd {
+    fn carry(self) -> Draft {
+        self.draft
+    }
+}
+
+impl To<PortEnd> for HostEnd {
+    fn carry(self) -> Draft {
+        self.draft
+    }
+}
+
+#[tactic(auto, using(crate::proofs::BuilderPlaces::port_path))]
+impl To<AuthorityEnd> for HostEnd {
+    fn carry(self) -> Draft {
+        self.draft
+    }
+}
+
+#[tactic(auto, using(crate::proofs::BuilderPlaces::inside_path))]
+impl To<AuthorityEnd> for PortEnd {
+    fn carry(self) -> Draft {
+        self.draft
+    }
+}
+
+impl To<PathEnd> for AuthorityEnd {
+    fn carry(self) -> Draft {
+        self.draft
+    }
+}
+
+impl To<QueryEnd> for PathEnd {
+    fn carry(self) -> Draft {
+        self.draft
+    }
+}
+
+#[tactic(auto, using(crate::proofs::BuilderPlaces::query_fragment))]
+impl To<FragmentEnd> for PathEnd {
+    fn carry(self) -> Draft {
+        self.draft
+    }
+}
+
+#[tactic(auto, using(crate::proofs::BuilderPlaces::query_end))]
+impl To<End> for PathEnd {
+    fn carry(self) -> Draft {
+        self.draft
+    }
+}
+
+impl To<FragmentEnd> for QueryEnd {
+    fn carry(self) -> Draft {
+        self.draft
+    }
+}
+
+#[tactic(auto, using(crate::proofs::BuilderPlaces::fragment_end))]
+impl To<End> for QueryEnd {
+    fn carry(self) -> Draft {
+        self.draft
+    }
+}
+
+impl To<End> for FragmentEnd {
+    fn carry(self) -> Draft {
+        self.draft
+    }
+}
+
+#[tactic(auto, using(crate::proofs::BuilderPlaces::fresh_authority))]
+impl AdvanceTo<SchemeEnd> for Start {
+    fn pass(self) -> SchemeEnd {
+        SchemeEnd { draft: self.draft }
+    }
+}
+
+#[tactic(auto, using(crate::proofs::BuilderPlaces::fresh_path))]
+impl AdvanceTo<AuthorityEnd> for Start {
+    fn pass(self) -> AuthorityEnd {
+        AuthorityEnd { draft: self.draft }
+    }
+}
+
+#[tactic(auto, using(crate::proofs::BuilderPlaces::authority_path))]
+impl AdvanceTo<AuthorityEnd> for SchemeEnd {
+    fn pass(self) -> AuthorityEnd {
+        AuthorityEnd { draft: self.draft }
+    }
+}
+
+#[tactic(auto, using(crate::proofs::BuilderPlaces::userinfo_host))]
+impl AdvanceTo<UserinfoEnd> for AuthorityStart {
+    fn pass(self) -> UserinfoEnd {
+        UserinfoEnd { draft: self.draft }
+    }
+}
+
+#[tactic(auto, using(crate::proofs::BuilderPlaces::port_authority))]
+impl AdvanceTo<PortEnd> for HostEnd {
+    fn pass(self) -> PortEnd {
+        PortEnd { draft: self.draft }
+    }
+}
+
+#[tactic(auto, using(crate::proofs::BuilderPlaces::query_fragment))]
+impl AdvanceTo<QueryEnd> for PathEnd {
+    fn pass(self) -> QueryEnd {
+        QueryEnd { draft: self.draft }
+    }
+}
+
+#[tactic(auto, using(crate::proofs::BuilderPlaces::query_end))]
+impl AdvanceTo<FragmentEnd> for PathEnd {
+    fn pass(self) -> FragmentEnd {
+        FragmentEnd { draft: self.draft }
+    }
+}
+
+#[tactic(auto, using(crate::proofs::BuilderPlaces::fragment_end))]
+impl AdvanceTo<FragmentEnd> for QueryEnd {
+    fn pass(self) -> FragmentEnd {
+        FragmentEnd { draft: self.draft }
+    }
+}
