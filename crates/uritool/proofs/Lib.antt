@@ -1,2 +1,3 @@
 pub mod Commands
 pub mod NormalForms
+pub mod Targets

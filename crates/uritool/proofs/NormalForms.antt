@@ -7,4 +7,4 @@ use Rattle.uritool.specs.Commands.{normal_form_of}
 
 pub normal_form_is : (kind : Kind) (text normal : List ℕ) → IsNormalForm kind default_port text normal → normal ≡ normal_form_of kind text
 unfolding normal_form_of
-normal_form_is kind text normal is = is.text
+normal_form_is kind text normal is = is.text.text

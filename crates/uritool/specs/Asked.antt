@@ -1,4 +1,4 @@
-use Rattle.uritool.specs.Commands.{Command, Parse, Normalize}
+use Rattle.uritool.specs.Commands.{Command, Parse, Normalize, Resolve}
 use Rattle.uritool.specs.declared.command.Command.{Command as Words}
 use Rattle.uritool.specs.declared.command.Command.TheVariants as words
 
@@ -6,3 +6,4 @@ use Rattle.uritool.specs.declared.command.Command.TheVariants as words
 abbrev pub asked : Words → Command
 asked (words.Parse name text) = Parse name text.now
 asked (words.Normalize name text) = Normalize name text.now
+asked (words.Resolve name base reference) = Resolve name base.now reference.now

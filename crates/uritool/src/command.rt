@@ -1,6 +1,6 @@
 //! What the words of a command line ask for.
 ghost use Rattle.std.specs.Prelude.{◌≡◌, ◌≢◌, MatchOption};
-ghost use Rattle.uritool.specs.Commands.{IsCommand, word_of_kind, words_of, texts};
+ghost use Rattle.uritool.specs.Commands.{IsCommand, word_of_base, word_of_kind, words_of, texts};
 ghost use Rattle.uritool.specs.Asked.{asked};
 
 /// A kind, by its name on the command line.
@@ -16,6 +16,15 @@ pub enum KindName {
     IriRef,
 }
 
+/// A kind of base, by its name on the command line.
+#[derive(Clone, Copy)]
+pub enum BaseName {
+    /// `uri`, whose references are those of `uri-ref`
+    Uri,
+    /// `iri`, whose references are those of `iri-ref`
+    Iri,
+}
+
 /// What is asked for.
 #[derive(Clone, Copy)]
 pub enum Command<'a> {
@@ -23,6 +32,8 @@ pub enum Command<'a> {
     Parse(KindName, &'a str),
     /// `normalize KIND TEXT`
     Normalize(KindName, &'a str),
+    /// `resolve uri|iri BASE REF`
+    Resolve(BaseName, &'a str, &'a str),
 }
 
 impl<'a> Command<'a> {
@@ -38,6 +49,10 @@ impl<'a> Command<'a> {
             [command, kind, text] if command.as_str() == "normalize" => {
                 Some(Command::Normalize(kind_named(kind.as_str())?, text.as_str()))
             }
+            [command, kind, base, reference] if command.as_str() == "resolve" => {
+                let kind = base_named(kind.as_str())?;
+                Some(Command::Resolve(kind, base.as_str(), reference.as_str()))
+            }
             _ => None,
         }
     }
@@ -51,6 +66,16 @@ fn kind_named(word: &str) -> Option<KindName>
         "uri-ref" => Some(KindName::UriRef),
         "iri" => Some(KindName::Iri),
         "iri-ref" => Some(KindName::IriRef),
+        _ => None,
+    }
+}
+
+fn base_named(word: &str) -> Option<BaseName>
+    ensures { MatchOption result ((k : _) → word.now ≢ word_of_base k) (λ k. word.now ≡ word_of_base k) }
+{
+    match word {
+        "uri" => Some(BaseName::Uri),
+        "iri" => Some(BaseName::Iri),
         _ => None,
     }
 }

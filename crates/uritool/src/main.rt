@@ -1,5 +1,5 @@
-//! Generic URIs and IRIs on the command line: `uritool parse KIND TEXT` and `uritool
-//! normalize KIND TEXT`.
+//! Generic URIs and IRIs on the command line: `uritool parse KIND TEXT`, `uritool normalize KIND TEXT`
+//! and `uritool resolve uri|iri BASE REF`.
 #![tactic(auto)]
 
 mod command;
@@ -7,6 +7,7 @@ mod lines;
 mod normal;
 mod refusal;
 mod run;
+mod target;
 
 use crate::run::run;
 use std::env;

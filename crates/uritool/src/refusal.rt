@@ -1,5 +1,6 @@
 //! Why a command has no answer.
 use fluent_uri::ParseError;
+use fluent_uri::resolve::ResolveError;
 use std::alloc::AllocError;
 use thiserror::Error;
 
@@ -9,6 +10,15 @@ pub enum Refusal {
     /// The text is not of the kind.
     #[error(transparent)]
     Text(ParseError),
+    /// The base is not of its kind.
+    #[error("base: {0}")]
+    Base(ParseError),
+    /// The reference is not of its kind.
+    #[error("reference: {0}")]
+    Reference(ParseError),
+    /// The reference has no target against the base.
+    #[error(transparent)]
+    Target(ResolveError),
     /// Memory was refused.
     #[error("out of memory")]
     OutOfMemory,
@@ -33,5 +43,16 @@ impl From<AllocError> for Refusal {
 
     fn from(_: AllocError) -> Refusal {
         Refusal::OutOfMemory
+    }
+}
+
+impl From<ResolveError> for Refusal {
+    ghost use Rattle.std.specs.Prelude.{◌≡◌};
+    ghost use Rattle.uritool.specs.declared.refusal.Refusal.TheVariants.{Target};
+
+    ghost from_gives = { λ error refusal. refusal ≡ Target error };
+
+    fn from(error: ResolveError) -> Refusal {
+        Refusal::Target(error)
     }
 }

@@ -1,16 +1,17 @@
 //! The program, over any two writers.
 ghost use Rattle.std.specs.Prelude.{◌≡◌, ◌↔◌, ◌≤◌, IsOk, IfOk, None, Some, List, ℕ};
 ghost use Rattle.std.specs.Io.KnownBytes.{Appends, Keeps};
-ghost use Rattle.uritool.specs.Commands.{Command as Asked, Parse, Normalize, IsCommand, kind_of, words_of, output_of, texts};
+ghost use Rattle.uritool.specs.Commands.{Command as Asked, Parse, Normalize, Resolve, IsCommand, kind_of, words_of, output_of, texts};
 ghost use Rattle.uritool.specs.Asked.{asked};
 ghost use Rattle.uritool.specs.Texts.{components_in};
 ghost use Rattle.fluent_uri.specs.Components.{components};
 ghost use Rattle.fluent_uri.specs.Grammar.{IsOfKind};
 
-use crate::command::{Command, KindName};
+use crate::command::{BaseName, Command, KindName};
 use crate::lines::Texts;
 use crate::normal::normal_form;
 use crate::refusal::Refusal;
+use crate::target::target;
 use fluent_uri::{Iri, IriRef, ParseError, Uri, UriRef};
 use std::alloc::Global;
 use std::io::{self, Write};
@@ -53,6 +54,7 @@ fn execute<O: Write, E: Write>(alloc: Global, command: Command<'_>, out: &mut O,
     match command {
         Command::Parse(kind, text) => parse(kind, text, out, err),
         Command::Normalize(kind, text) => normalize(alloc, kind, text, out, err),
+        Command::Resolve(kind, base, reference) => resolve(alloc, kind, base, reference, out, err),
     }
 }
 
@@ -87,6 +89,27 @@ fn normalize<O: Write, E: Write>(
     match normal_form(alloc, kind, text) {
         Ok(normal) => written(writeln!(out, "{normal}"), err),
         Err(why) => refused(why, err),
+    }
+}
+
+fn resolve<O: Write, E: Write>(
+    alloc: Global,
+    kind: BaseName,
+    base: &str,
+    reference: &str,
+    out: &mut O,
+    err: &mut E,
+) -> u8
+    ensures answered { result ≡ 0 → (lines : List ℕ) × (output_of (Resolve kind base.now reference.now) ≡ Some lines)
+        × Appends (O.contents out.old) (O.contents out.new) lines
+        × Keeps (E.contents err.old) (E.contents err.new) }
+    ensures refused { output_of (Resolve kind base.now reference.now) ≡ None
+        → (result ≡ 1) × Keeps (O.contents out.old) (O.contents out.new) }
+    ensures status { result ≤ 1 }
+{
+    match target(alloc, kind, base, reference) {
+        Ok(target) => written(writeln!(out, "{target}"), err),
+        Err(refusal) => refused(refusal, err),
     }
 }
 

@@ -161,8 +161,77 @@ fn normalizes_no_other_kind(rt: HostRuntime) -> Result<(), Fail> {
 }
 
 #[test]
+fn prints_targets(rt: HostRuntime) -> Result<(), Fail> {
+    for (kind, base, reference, line) in [
+        (
+            "uri",
+            "http://a/b/c/d;p?q",
+            "g;x=1/../y",
+            "http://a/b/c/y\n",
+        ),
+        ("uri", "http://a/b/c/d;p?q", "../../../g", "http://a/g\n"),
+        ("uri", "http://a/b/c/d;p?q", "", "http://a/b/c/d;p?q\n"),
+        ("uri", "foo:/bar/..", ".", "foo:/\n"),
+        ("uri", "foo:/", ".//@@", "foo:/.//@@\n"),
+        ("uri", "http://x/", "//a:80", "http://a:80\n"),
+        ("uri", "HTTP://A/%2e%2E/b/c", "%2E./d", "HTTP://A/d\n"),
+        ("iri", "http://é/a/b", "../ü", "http://é/ü\n"),
+    ] {
+        let words = ["resolve", kind, base, reference];
+        ends_with(&rt, rt.alloc(), &words, 0, line, "")?;
+    }
+    Ok(())
+}
+
+#[test]
+fn refuses_to_resolve(rt: HostRuntime) -> Result<(), Fail> {
+    for (kind, base, reference, line) in [
+        (
+            "uri",
+            "foo",
+            "%",
+            "error: base: unexpected character at index 3\n",
+        ),
+        (
+            "iri",
+            "/",
+            "a",
+            "error: base: unexpected character at index 0\n",
+        ),
+        (
+            "uri",
+            "http://a/",
+            "%",
+            "error: reference: invalid percent-encoded octet at index 0\n",
+        ),
+        (
+            "uri",
+            "http://a/",
+            "é",
+            "error: reference: unexpected character at index 0\n",
+        ),
+        (
+            "uri",
+            "foo:bar#x",
+            "//g",
+            "error: base should not have fragment\n",
+        ),
+        (
+            "uri",
+            "foo:bar",
+            "//g",
+            "error: when base has a rootless path and no authority, reference should either have scheme, be empty or start with '#'\n",
+        ),
+    ] {
+        let words = ["resolve", kind, base, reference];
+        ends_with(&rt, rt.alloc(), &words, 1, "", line)?;
+    }
+    Ok(())
+}
+
+#[test]
 fn shows_usage(rt: HostRuntime) -> Result<(), Fail> {
-    let others: [&[&str]; 9] = [
+    let others: [&[&str]; 13] = [
         &[],
         &["parse", "uri-ref"],
         &["parse", "url", "foo"],
@@ -171,7 +240,11 @@ fn shows_usage(rt: HostRuntime) -> Result<(), Fail> {
         &["normalize", "uri-ref"],
         &["normalize", "url", "foo"],
         &["normalize", "uri-ref", "foo", "bar"],
-        &["resolve", "uri", "http://a/", "b"],
+        &["resolve", "uri", "http://a/"],
+        &["resolve", "uri-ref", "http://a/", "b"],
+        &["resolve", "iri-ref", "http://a/", "b"],
+        &["resolve", "uri", "http://a/", "b", "c"],
+        &["links", "http://a/", "b"],
     ];
     for words in others {
         ends_with(&rt, rt.alloc(), words, 2, "", USAGE)?;
@@ -203,6 +276,16 @@ fn says_that_the_output_failed(rt: HostRuntime) -> Result<(), Fail> {
 fn says_that_the_output_of_a_normal_form_failed(rt: HostRuntime) -> Result<(), Fail> {
     let alloc = rt.alloc();
     let words = ["normalize", "uri", "http://a/"];
+    let mut err = Vec::new(alloc);
+    assert_eq!(rt; run_words(alloc, &words, &mut Takes(0), &mut err)?, 1);
+    assert_eq!(rt; err.as_slice(), b"error: output failed\n".as_slice());
+    Ok(())
+}
+
+#[test]
+fn says_that_the_output_of_a_target_failed(rt: HostRuntime) -> Result<(), Fail> {
+    let alloc = rt.alloc();
+    let words = ["resolve", "uri", "http://a/", "b"];
     let mut err = Vec::new(alloc);
     assert_eq!(rt; run_words(alloc, &words, &mut Takes(0), &mut err)?, 1);
     assert_eq!(rt; err.as_slice(), b"error: output failed\n".as_slice());
