@@ -20,3 +20,5 @@ mod original;
 mod owned_encoding;
 #[cfg(test)]
 mod parsing;
+#[cfg(test)]
+mod resolving;
