@@ -49,3 +49,7 @@ pub use Rattle.uri_ops.specs.Resolvers
 pub use Rattle.uri_ops.specs.Resolving
 pub use Rattle.uri_ops.specs.Target
 pub use Rattle.uri_ops.specs.Texts as KindTexts
+pub use Rattle.uri_ops.specs.BuilderParts
+pub use Rattle.uri_ops.specs.Builders
+pub use Rattle.uri_ops.specs.BuilderStates
+pub use Rattle.uri_ops.specs.Built

@@ -17,6 +17,8 @@ use std::cmp::Ordering;
 use std::convert::{AsStr, TryFrom};
 use std::fmt;
 use std::hash::{Hash, Hasher};
+use uri_ops::build::Builder;
+use uri_ops::build::state::{Start, State};
 use uri_ops::normalize;
 use uri_ops::resolve::{self, ResolveError};
 use uri_ops::traits::{self, RefOf, RiMaybeRef};
@@ -325,11 +327,21 @@ impl<'a> IriRef<&'a str> {
 }
 
 impl IriRef<String> {
+    ghost use Rattle.uri_ops.specs.BuilderParts.{no_parts};
+    ghost use Rattle.uri_ops.specs.Builders.{builder_parts};
+    ghost use Rattle.uri_ops.specs.BuilderStates.{state_of};
     ghost use Rattle.uri_pct.specs.EStrs.{text_of};
     ghost use Rattle.uri_parts.specs.AuthorityTexts.{authority_text};
     ghost use Rattle.uri_parts.specs.Schemes.{scheme_text};
     ghost use Rattle.fluent_uri.specs.IriRefs.{iri_ref_text};
     ghost use Rattle.fluent_uri.specs.Iris.{iri_text};
+
+    /// A builder of an IRI reference, which holds nothing yet and takes its memory from the allocator.
+    pub fn builder(alloc: Global) -> Builder<IriRef<String>, Start>
+        ensures { builder_parts iri_ref (⟦<Start as State>⟧.held (state_of result)) ≡ no_parts }
+    {
+        Builder::of_reference(alloc)
+    }
 
     /// Reads a text as an IRI reference, once and from left to right, and takes no memory.
     ///

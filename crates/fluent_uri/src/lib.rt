@@ -13,6 +13,13 @@ pub use uri_ops::convert::ConvertError;
 pub use uri_ops::traits::{RefOf, Ri, RiMaybeRef};
 pub use uri_parts::error::{ParseError, ParseErrorKind};
 
+/// Building references (RFC 3986, section 5.3).
+pub mod build {
+    pub use uri_ops::build::state;
+    pub use uri_ops::build::state::{AdvanceTo, To};
+    pub use uri_ops::build::{BuildError, Builder};
+}
+
 /// The components of a reference that are more than percent-encoded texts.
 pub mod component {
     pub use uri_parts::component::{Authority, Host, HostOf, Scheme, SocketError, SocketTarget};

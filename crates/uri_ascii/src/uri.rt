@@ -14,6 +14,8 @@ use std::cmp::Ordering;
 use std::convert::{AsStr, TryFrom};
 use std::fmt;
 use std::hash::{Hash, Hasher};
+use uri_ops::build::Builder;
+use uri_ops::build::state::{NonRefStart, State};
 use uri_ops::normalize;
 use uri_ops::traits::{self, Ri, RiMaybeRef};
 use uri_parts::component::{Authority, Scheme};
@@ -298,10 +300,20 @@ impl<'a> Uri<&'a str> {
 }
 
 impl Uri<String> {
+    ghost use Rattle.uri_ops.specs.BuilderParts.{no_parts};
+    ghost use Rattle.uri_ops.specs.Builders.{builder_parts};
+    ghost use Rattle.uri_ops.specs.BuilderStates.{state_of};
     ghost use Rattle.uri_pct.specs.EStrs.{text_of};
     ghost use Rattle.uri_parts.specs.AuthorityTexts.{authority_text};
     ghost use Rattle.uri_parts.specs.Schemes.{scheme_text};
     ghost use Rattle.uri_ascii.specs.Uris.{uri_text};
+
+    /// A builder of a URI, which holds nothing yet and takes its memory from the allocator.
+    pub fn builder(alloc: Global) -> Builder<Uri<String>, NonRefStart>
+        ensures { builder_parts uri (⟦<NonRefStart as State>⟧.held (state_of result)) ≡ no_parts }
+    {
+        Builder::with_needed_scheme(alloc)
+    }
 
     /// Reads a text as a URI, once and from left to right, and takes no memory.
     ///

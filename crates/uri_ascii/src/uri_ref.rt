@@ -17,6 +17,8 @@ use std::cmp::Ordering;
 use std::convert::{AsStr, TryFrom};
 use std::fmt;
 use std::hash::{Hash, Hasher};
+use uri_ops::build::Builder;
+use uri_ops::build::state::{Start, State};
 use uri_ops::normalize;
 use uri_ops::resolve::{self, ResolveError};
 use uri_ops::traits::{self, RefOf, RiMaybeRef};
@@ -328,11 +330,21 @@ impl<'a> UriRef<&'a str> {
 }
 
 impl UriRef<String> {
+    ghost use Rattle.uri_ops.specs.BuilderParts.{no_parts};
+    ghost use Rattle.uri_ops.specs.Builders.{builder_parts};
+    ghost use Rattle.uri_ops.specs.BuilderStates.{state_of};
     ghost use Rattle.uri_pct.specs.EStrs.{text_of};
     ghost use Rattle.uri_parts.specs.AuthorityTexts.{authority_text};
     ghost use Rattle.uri_parts.specs.Schemes.{scheme_text};
     ghost use Rattle.uri_ascii.specs.UriRefs.{uri_ref_text};
     ghost use Rattle.uri_ascii.specs.Uris.{uri_text};
+
+    /// A builder of a URI reference, which holds nothing yet and takes its memory from the allocator.
+    pub fn builder(alloc: Global) -> Builder<UriRef<String>, Start>
+        ensures { builder_parts uri_ref (⟦<Start as State>⟧.held (state_of result)) ≡ no_parts }
+    {
+        Builder::of_reference(alloc)
+    }
 
     /// Reads a text as a URI reference, once and from left to right, and takes no memory.
     ///

@@ -128,6 +128,11 @@ module _ (a : Draft) (g : Bool) (kept : g ≡ false → a.failed ≡ false) wher
   behind_authority before = later a.failed (scheme_there && (no_authority && (no_path && no_end))) g (scheme_there && (no_path && no_end)) kept
       (λ t. let p = and_parts scheme_there (no_authority && (no_path && no_end)) t in and_from _ _ p.0 (and_parts no_authority (no_path && no_end) p.1).1) before
 
+  -- an authority that is begun is empty
+  pub at_authority : (x : List ℕ) → x ≡ [] → is_before_authority a ≡ true → (g || (scheme_there && ((length x == 0) && (no_path && no_end)))) ≡ true
+  unfolding is_before_authority
+  at_authority x empty before = ap (λ y. g || (scheme_there && ((length y == 0) && (no_path && no_end)))) empty ∙ behind_authority before
+
   pub behind_path : is_before_path a ≡ true → (g || (scheme_there && no_end)) ≡ true
   unfolding is_before_path
   behind_path before = later a.failed (scheme_there && (no_path && no_end)) g (scheme_there && no_end) kept
@@ -147,3 +152,7 @@ module _ (a : Draft) (g : Bool) (kept : g ≡ false → a.failed ≡ false) wher
       (λ t.
       let p = and_parts scheme_there (is_some a.lengths.path && is_none a.lengths.fragment) t in
       and_from _ _ p.0 (and_parts (is_some a.lengths.path) (is_none a.lengths.fragment) p.1).0) before
+
+pub authority_rule : (of_kind : Kind) (x : List ℕ) → IsUtf8 x → is_authority of_kind x ≡ true → is_authority_text of_kind x ≡ true
+unfolding is_authority_text
+authority_rule of_kind x u e = and_from _ _ (is_utf8-from_IsUtf8 x u) e

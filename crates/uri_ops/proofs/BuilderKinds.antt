@@ -1,10 +1,12 @@
 -- A builder that is not marked failed is of its kind, and what is known of its draft is known of it.
-use Rattle.std.proofs.Common.{◌≡◌, ℕ, Bool, true, false, not, ◌&&◌, ◌||◌, List, refl, sym, ap, subst, ◌∙◌, string_bytes, ⊎_elim}
+use Rattle.std.proofs.Common.{◌≡◌, ℕ, Bool, true, false, not, ◌&&◌, ◌||◌, List, [], refl, sym, ap, subst, ◌∙◌, string_bytes, ⊎_elim}
 use Rattle.std.specs.Prelude.{is_none}
 use Rattle.std.proofs.lemmas.Bool.{and_parts, and_from, cases_Bool, or_parts, true≢false, not-false}
 use Rattle.uri_pct.specs.Sets.{TableSet}
 use Rattle.uri_pct.specs.Tokens.{is_valid_for}
-use Rattle.uri_parts.specs.Grammar.{Kind}
+use Rattle.uri_parts.specs.Authority.{is_authority_for}
+use Rattle.uri_parts.specs.Grammar.{Kind, is_authority}
+use Rattle.uri_parts.proofs.AuthorityPlaces.{empty_is}
 use Rattle.uri_ops.specs.declared.build.draft.Draft.{Draft}
 use Rattle.uri_ops.specs.BuilderParts.{Adds, BuilderParts, known_kind, no_parts}
 use Rattle.uri_ops.specs.Builders.{Follows, builder_parts, draft_kind, draft_parts, is_for, is_fresh, is_fresh_reference, same}
@@ -85,3 +87,12 @@ fresh_of_reference d h n =
 -- what is taken from a builder that is not marked failed
 pub taken_parts : (kind : Kind) (held d : Draft) → d.failed ≡ false → d ≡ held → is_for kind d ≡ true → builder_parts kind held ≡ draft_parts d
 taken_parts kind held d f same e = sym (ap (builder_parts kind) same) ∙ held_parts kind d f e
+
+-- and an authority of the kind is one of the draft's
+pub allowed_authority : (kind : Kind) (d : Draft) → kind ≡ known_kind kind.path.ucschar kind.needs_scheme → is_for kind d ≡ true
+    → (users names : TableSet) → users ≡ kind.userinfo → names ≡ kind.reg_name → (text : List ℕ) → is_authority_for users names text ≡ true → is_authority (draft_kind d) text ≡ true
+allowed_authority kind d known e users names u n text v =
+    ap (λ k. is_authority k text) (kind_of_draft kind d known e) ∙ sym (λ i. is_authority_for (u i) (n i) text) ∙ v
+
+pub any_empty_authority : (kind : Kind) (text : List ℕ) → text ≡ [] → is_authority kind text ≡ true
+any_empty_authority kind text e = ap (is_authority kind) e ∙ empty_is kind.userinfo kind.reg_name

@@ -1,9 +1,10 @@
 //! Building references (RFC 3986, section 5.3).
-ghost use Rattle.std.specs.Prelude.{◌≡◌, ◌↔◌, IfOk, IsOk, MatchOption, Some, false, true};
+ghost use Rattle.std.specs.Prelude.{◌≡◌, ◌↔◌, IfOk, IsOk, MatchOption, Some, [], false, true};
 ghost use Rattle.std.specs.Result.{result_err};
 ghost use Rattle.uri_pct.specs.EStrs.{text_of};
+ghost use Rattle.uri_parts.specs.AuthorityTexts.{authority_text};
 ghost use Rattle.uri_parts.specs.Schemes.{scheme_text};
-ghost use Rattle.uri_ops.specs.BuilderParts.{Adds, no_parts, parts_text, with_fragment, with_path, with_query, with_scheme};
+ghost use Rattle.uri_ops.specs.BuilderParts.{Adds, no_parts, parts_text, with_authority, with_fragment, with_path, with_query, with_scheme};
 ghost use Rattle.uri_ops.specs.Builders.{builder_parts, is_for};
 
 #[doc(hidden)]
@@ -12,13 +13,13 @@ pub mod state;
 
 use crate::build::draft::Draft;
 use crate::build::state::{
-    AdvanceTo, End, FragmentEnd, NonRefStart, PathEnd, QueryEnd, SchemeEnd, Start, State, To,
+    AdvanceTo, AuthorityEnd, AuthorityStart, End, FragmentEnd, NonRefStart, PathEnd, QueryEnd, SchemeEnd, Start, State, To,
 };
 use crate::traits::{RiMaybeRef, owned};
 use std::alloc::Global;
 use std::marker::PhantomData;
 use thiserror::Error;
-use uri_parts::component::Scheme;
+use uri_parts::component::{Authority, Scheme};
 use uri_pct::pct_enc::EStr;
 
 /// Why no reference was built.
@@ -145,6 +146,58 @@ impl<R: RiMaybeRef, S: State> Builder<R, S> {
         Builder {
             state: SchemeEnd {
                 draft: self.taken::<SchemeEnd>().with_scheme(scheme.as_str()),
+            },
+            made: PhantomData,
+        }
+    }
+
+    /// With an empty authority begun.
+    fn with_authority_begun(self) -> Builder<R, AuthorityStart>
+    where
+        S: To<AuthorityStart>,
+        ensures { Adds (with_authority []) (builder_parts R.kind (S.held self.state)) (builder_parts R.kind (⟦<AuthorityStart as State>⟧.held result.state)) }
+    {
+        Builder {
+            state: AuthorityStart {
+                draft: self.taken::<AuthorityStart>().with_authority(""),
+            },
+            made: PhantomData,
+        }
+    }
+
+    /// Gives the authority (RFC 3986, section 3.2) part by part: the closure is called with this
+    /// builder and an empty authority begun, and the answer is the builder that it returns.
+    pub fn authority_with<F, T: State>(self, parts: F) -> Builder<R, AuthorityEnd>
+    where
+        S: To<AuthorityStart>,
+        T: To<AuthorityEnd>,
+        F: FnOnce(Builder<R, AuthorityStart>) -> Builder<R, T>,
+        requires { F.IsAlwaysCallable parts }
+        ensures { (begun : _) × (done : _) × Adds (with_authority []) (builder_parts R.kind (S.held self.state)) (builder_parts R.kind (⟦<AuthorityStart as State>⟧.held begun.state)) × F.post parts begun done × (⟦<AuthorityEnd as State>⟧.held result.state ≡ T.held done.state) }
+    {
+        let done = parts(self.with_authority_begun());
+        Builder {
+            state: AuthorityEnd {
+                draft: done.state.carry(),
+            },
+            made: PhantomData,
+        }
+    }
+
+    /// Gives the authority (RFC 3986, section 3.2): the empty one, or that of another reference.
+    pub fn authority(
+        self,
+        authority: Authority<'_, R::UserinfoE, R::RegNameE>,
+    ) -> Builder<R, AuthorityEnd>
+    where
+        S: To<AuthorityStart>,
+        ensures { Adds (with_authority (authority_text authority.entry)) (builder_parts R.kind (S.held self.state)) (builder_parts R.kind (⟦<AuthorityEnd as State>⟧.held result.state)) }
+    {
+        Builder {
+            state: AuthorityEnd {
+                draft: self
+                    .taken::<AuthorityStart>()
+                    .with_authority(authority.as_str()),
             },
             made: PhantomData,
         }

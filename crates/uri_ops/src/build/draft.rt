@@ -120,6 +120,36 @@ impl Draft {
         }
     }
 
+    /// With an authority behind its `//`.
+    pub fn with_authority(self, authority: &str) -> Draft
+        requires before { is_before_authority self ≡ true }
+        requires rule { self.failed ≡ false → is_authority (draft_kind self) authority.now ≡ true }
+        ensures adds { Adds (with_authority authority.now) (draft_parts self) (draft_parts result) }
+        ensures follows { Follows self result }
+        ensures at { is_before_path result ≡ true }
+        ensures start { authority.now ≡ [] → is_before_userinfo result ≡ true }
+    {
+        let Draft {
+            mut text,
+            lengths,
+            failed,
+            international,
+            needs_scheme,
+        } = self;
+        let failed = append(&mut text, failed, "//");
+        let failed = append(&mut text, failed, authority);
+        Draft {
+            text,
+            lengths: Lengths {
+                authority: Some(authority.len()),
+                ..lengths
+            },
+            failed,
+            international,
+            needs_scheme,
+        }
+    }
+
     /// With a path.
     pub fn with_path(self, path: &str) -> Draft
         requires before { is_before_path self ≡ true }
