@@ -2,10 +2,12 @@
 
 use crate::normal::{is_normal_form, is_normal_form_strictly, is_normal_form_under, repeated};
 use crate::reading::{AuthorityParts, HostValue, Kind, Parts, Reading};
+use crate::target::{has_no_target, is_normal_target, is_target};
+use fluent_uri::resolve::ResolveError;
 use fluent_uri::{ParseErrorKind, Uri};
 use std::alloc::Global;
 
-/// Something that is asked of a text that is parsed as a kind.
+/// Something that is asked of a text that is parsed as a kind, or of a base and a reference.
 #[derive(Clone, Copy)]
 pub enum Ask {
     /// That it is refused, why, and at which byte offset.
@@ -26,6 +28,12 @@ pub enum Ask {
     Strict(Kind, &'static str, &'static str, bool),
     /// The same of a text that consists of these parts, each as often as it says.
     Repeated(Kind, &'static [(&'static str, usize)], &'static [(&'static str, usize)], bool),
+    /// That of this base and reference this is the target, and whether its dot segments underflow.
+    Target(Kind, (&'static str, &'static str), &'static str, bool),
+    /// That this base and reference have no target, and why.
+    NoTarget(Kind, (&'static str, &'static str), ResolveError),
+    /// That of this base and reference this is the normal form of the target.
+    NormalTarget(Kind, (&'static str, &'static str), &'static str),
 }
 
 impl Ask {
@@ -62,6 +70,11 @@ impl Ask {
                     _ => false,
                 }
             }
+            Ask::Target(kind, texts, target, underflows) => {
+                is_target(alloc, kind, texts, target, underflows)
+            }
+            Ask::NoTarget(kind, texts, why) => has_no_target(alloc, kind, texts, why),
+            Ask::NormalTarget(kind, texts, normal) => is_normal_target(alloc, kind, texts, normal),
         }
     }
 }

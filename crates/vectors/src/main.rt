@@ -6,6 +6,7 @@ mod normal;
 mod reading;
 mod rows;
 mod run;
+mod target;
 
 use crate::run::run;
 use std::process::ExitCode;

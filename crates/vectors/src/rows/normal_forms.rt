@@ -1,6 +1,6 @@
 //! Rows of normal forms.
 
-use crate::ask::Ask::{Normal, NormalUnder, Repeated};
+use crate::ask::Ask::{Normal, NormalUnder};
 use crate::ask::Row;
 use crate::reading::Kind::{IriRef, Uri, UriRef};
 
@@ -46,64 +46,6 @@ const ROWS: &[Row] = &[
                 "example://a/b/c/%7Bfoo%7D/rosé",
             ),
         ],
-    ),
-    Row(
-        "R11.1",
-        &[Repeated(
-            IriRef,
-            &[("%61", 30), ("%F0%9F%98%80", 1)],
-            &[("a", 30), ("\u{1f600}", 1)],
-            false,
-        )],
-    ),
-    Row(
-        "R11.2",
-        &[Repeated(
-            IriRef,
-            &[("%61", 31), ("%E2%41", 1)],
-            &[("a", 31), ("%E2A", 1)],
-            false,
-        )],
-    ),
-    Row(
-        "R11.3",
-        &[Repeated(
-            IriRef,
-            &[("%61", 31), ("%F0%9F%98%41", 1)],
-            &[("a", 31), ("%F0%9F%98A", 1)],
-            false,
-        )],
-    ),
-    Row(
-        "R11.4",
-        &[Repeated(IriRef, &[("%80", 33)], &[("%80", 33)], false)],
-    ),
-    Row(
-        "R11.5",
-        &[Repeated(
-            IriRef,
-            &[("%61", 31), ("%E2", 1)],
-            &[("a", 31), ("%E2", 1)],
-            false,
-        )],
-    ),
-    Row(
-        "R14.8",
-        &[Repeated(
-            UriRef,
-            &[("http://a/", 1), ("../", 10000), ("g", 1)],
-            &[("http://a/g", 1)],
-            true,
-        )],
-    ),
-    Row(
-        "R14.9",
-        &[Repeated(
-            UriRef,
-            &[("http://a/", 1), ("x/", 5000), ("../", 5000), ("g", 1)],
-            &[("http://a/g", 1)],
-            false,
-        )],
     ),
 ];
 

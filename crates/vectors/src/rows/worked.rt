@@ -1,13 +1,15 @@
-//! Rows of parsing and of normal forms, over all kinds.
+//! Rows of parsing, of normal forms and of targets, over all kinds.
 
 use crate::ask::Ask::{
-    Authority, Host, Normal, NormalUnder, Parts, Refused, Repeated, Returned, Strict,
+    Authority, Host, NoTarget, Normal, NormalTarget, NormalUnder, Parts, Refused, Repeated,
+    Returned, Strict, Target,
 };
 use crate::ask::Row;
 use crate::reading::HostValue::{Ipv4, RegName};
 use crate::reading::Kind::{Iri, IriRef, Uri, UriRef};
 use crate::reading::{AuthorityParts, EMPTY, Parts as Components};
 use fluent_uri::ParseErrorKind::{InvalidIpv6Addr, InvalidPctEncodedOctet, UnexpectedChar};
+use fluent_uri::resolve::ResolveError::{BaseWithFragment, InvalidReferenceAgainstOpaqueBase};
 
 const ROWS: &[Row] = &[
     Row("1", &[Parts(UriRef, "", EMPTY), Normal(UriRef, "", "")]),
@@ -90,6 +92,27 @@ const ROWS: &[Row] = &[
         )],
     ),
     Row(
+        "12",
+        &[
+            Target(Uri, ("foo:/bar/..", "."), "foo:/", false),
+            Target(Uri, ("foo:/", ".//@@"), "foo:/.//@@", false),
+        ],
+    ),
+    Row(
+        "13",
+        &[
+            Target(Uri, ("http://x/", "//a:80"), "http://a:80", false),
+            NormalTarget(Uri, ("http://x/", "//a:80"), "http://a"),
+        ],
+    ),
+    Row(
+        "14",
+        &[
+            NoTarget(Uri, ("foo:bar", "//g"), InvalidReferenceAgainstOpaqueBase),
+            NoTarget(Uri, ("foo:bar#x", "//g"), BaseWithFragment),
+        ],
+    ),
+    Row(
         "15",
         &[
             Strict(Uri, "http://a//..", "http://a/", false),
@@ -110,6 +133,27 @@ const ROWS: &[Row] = &[
             "http://xn--99zt52a.example.org/%e2%80%ae",
             "http://xn--99zt52a.example.org/\u{202e}",
         )],
+    ),
+    Row(
+        "21",
+        &[
+            Target(
+                Uri,
+                ("http://a/b/c/d;p?q", "g;x=1/../y"),
+                "http://a/b/c/y",
+                false,
+            ),
+            Target(
+                Uri,
+                ("http://a/b/c/d;p?q", "../../../g"),
+                "http://a/g",
+                true,
+            ),
+        ],
+    ),
+    Row(
+        "22",
+        &[Target(Uri, ("foo:/bar/baz/.%2E/", ".."), "foo:/", false)],
     ),
     Row(
         "23",
