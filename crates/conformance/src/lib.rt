@@ -5,6 +5,8 @@
 #[cfg(test)]
 mod addresses;
 #[cfg(test)]
+mod building;
+#[cfg(test)]
 mod connecting;
 #[cfg(test)]
 mod converting;

@@ -15,9 +15,8 @@ pub use uri_parts::error::{ParseError, ParseErrorKind};
 
 /// Building references (RFC 3986, section 5.3).
 pub mod build {
-    pub use uri_ops::build::state;
     pub use uri_ops::build::state::{AdvanceTo, To};
-    pub use uri_ops::build::{BuildError, Builder};
+    pub use uri_ops::build::{BuildError, Builder, state};
 }
 
 /// The components of a reference that are more than percent-encoded texts.

@@ -13,7 +13,8 @@ pub mod state;
 
 use crate::build::draft::Draft;
 use crate::build::state::{
-    AdvanceTo, AuthorityEnd, AuthorityStart, End, FragmentEnd, NonRefStart, PathEnd, QueryEnd, SchemeEnd, Start, State, To,
+    AdvanceTo, AuthorityEnd, AuthorityStart, End, FragmentEnd, NonRefStart, PathEnd, QueryEnd,
+    SchemeEnd, Start, State, To,
 };
 use crate::traits::{RiMaybeRef, owned};
 use std::alloc::Global;
