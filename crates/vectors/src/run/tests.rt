@@ -1,8 +1,11 @@
 use super::run;
-use crate::ask::Ask::{Normal, NormalUnder, Refused, Repeated, Strict};
+use crate::ask::Ask::{
+    NoTarget, Normal, NormalTarget, NormalUnder, Refused, Repeated, Strict, Target,
+};
 use crate::ask::Row;
 use crate::reading::Kind::{Uri, UriRef};
 use fluent_uri::ParseErrorKind::UnexpectedChar;
+use fluent_uri::resolve::ResolveError::{BaseWithFragment, InvalidReferenceAgainstOpaqueBase};
 use std::io::{self, ErrorKind, Write};
 
 /// Two rows that hold, and between them two that differ.
@@ -65,6 +68,33 @@ fn normal_forms_that_differ_are_named(rt: HostRuntime) {
     assert_eq!(rt;
         out.as_slice(),
         "fail B1\nfail B2\nfail B3\nfail B4\nfail B5\nfail B6\nfail B7\nfail B8\nrows 12 failed 8\n".as_bytes()
+    );
+}
+
+/// Rows of targets: one of each question that holds, and then some that differ.
+const TARGETS: &[Row] = &[
+    Row("1", &[Target(Uri, ("s:/a/b", "../c"), "s:/c", false)]),
+    Row(
+        "2",
+        &[NoTarget(Uri, ("s:a", "b"), InvalidReferenceAgainstOpaqueBase)],
+    ),
+    Row("3", &[NormalTarget(Uri, ("S:/a", "%62"), "s:/b")]),
+    Row("B1", &[Target(Uri, ("s:/a/b", "../c"), "s:/a/c", false)]),
+    Row("B2", &[Target(Uri, ("s:/a/b", "../c"), "s:/c", true)]),
+    Row("B3", &[Target(Uri, ("s:/a", "../c"), "s:/c", false)]),
+    Row("B4", &[Target(UriRef, ("s:/a/b", "../c"), "s:/c", false)]),
+    Row("B5", &[NoTarget(Uri, ("s:a", "b"), BaseWithFragment)]),
+    Row("B6", &[NoTarget(Uri, ("s:/a", "b"), BaseWithFragment)]),
+    Row("B7", &[NormalTarget(Uri, ("S:/a", "%62"), "S:/%62")]),
+];
+
+#[test]
+fn targets_that_differ_are_named(rt: HostRuntime) {
+    let mut out = Vec::new(rt.alloc());
+    assert_eq!(rt; run(rt.alloc(), TARGETS, &mut out), 1);
+    assert_eq!(rt;
+        out.as_slice(),
+        "fail B1\nfail B2\nfail B3\nfail B4\nfail B5\nfail B6\nfail B7\nrows 10 failed 7\n".as_bytes()
     );
 }
 
