@@ -94,7 +94,7 @@ impl<'a> PartialEq for Scheme<'a> {
     ghost laws = { Prim.search (comparing, rules) };
 
     fn eq(&self, other: &Self) -> bool {
-        self.text.eq_ignore_ascii_case(other.text)
+        self.as_str().eq_ignore_ascii_case(other.as_str())
     }
 }
 
