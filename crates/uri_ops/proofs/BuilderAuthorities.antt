@@ -1,12 +1,12 @@
 -- The text of an authority that is built part by part is one: RFC 3986, section 3.2.
-use Rattle.std.proofs.Common.{◌≡◌, ℕ, Bool, true, List, [], ◌∷◌, ◌++◌, refl, sym, ap, subst, ◌∙◌, append_assoc, append-nil}
+use Rattle.std.proofs.Common.{◌≡◌, ℕ, true, List, [], ◌∷◌, ◌++◌, refl, sym, ap, subst, ◌∙◌, append_assoc, append-nil}
 use Rattle.std.specs.Prelude.{codes, Option, Some, None, is_none}
 use Rattle.std.specs.Str.{IsUtf8}
 use Rattle.std.proofs.lemmas.Str.{IsUtf8-append, IsUtf8-from_is_utf8, is_utf8-from_IsUtf8}
 use Rattle.std.proofs.lemmas.Bool.{and_parts, and_from, false≢true}
 use Rattle.uri_pct.specs.Sets.{TableSet, digit_set, is_reg_name_char, is_sub_delim, is_unreserved, reg_name_set}
 use Rattle.uri_pct.specs.Tokens.{IsValidFor, is_valid_for}
-use Rattle.uri_parts.specs.Authority.{AuthorityParts, IsAuthorityFor, KeepsApart, authority_parts, authority_text, is_authority_for}
+use Rattle.uri_parts.specs.Authority.{AuthorityParts, IsAuthorityFor, authority_parts}
 use Rattle.uri_pct.proofs.Cuts.{excludes}
 use Rattle.uri_parts.specs.Components.{Lacks, marked}
 use Rattle.uri_parts.specs.Grammar.{Kind, is_authority}

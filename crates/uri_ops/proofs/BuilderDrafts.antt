@@ -1,18 +1,17 @@
 -- What each step of a builder answers: a draft with the parts so changed, at the place behind.
-use Rattle.std.proofs.Common.{◌≡◌, ℕ, ◌==◌, ◌+◌, Bool, true, false, not, ◌&&◌, ◌||◌, List, [], ◌∷◌, ◌++◌, length, take, drop, refl, sym, ap, subst, ◌∙◌, append_assoc, string_bytes}
-use Rattle.std.specs.Prelude.{codes, Option, Some, None, is_some, is_none}
-use Rattle.std.specs.Option.{option_map_or}
+use Rattle.std.proofs.Common.{◌≡◌, ℕ, ◌==◌, Bool, true, false, not, ◌&&◌, ◌||◌, List, [], ◌++◌, length, refl, sym, ap, subst, ◌∙◌, append_assoc, string_bytes}
+use Rattle.std.specs.Prelude.{codes, Some, is_some, is_none}
 use Rattle.std.specs.Str.{IsUtf8}
 use Rattle.std.proofs.lemmas.Str.{is_utf8-from_IsUtf8}
-use Rattle.std.proofs.lemmas.Bool.{and_parts, and_from, cases_Bool}
+use Rattle.std.proofs.lemmas.Bool.{and_parts, and_from}
 use Rattle.uri_pct.specs.Sets.{TableSet}
 use Rattle.uri_pct.specs.Tokens.{is_valid_for}
-use Rattle.uri_parts.specs.Grammar.{Kind, is_authority, is_scheme}
+use Rattle.uri_parts.specs.Grammar.{Kind, is_scheme}
 use Rattle.uri_ops.specs.declared.build.draft.Draft.{Draft}
 use Rattle.uri_ops.specs.declared.build.draft.Lengths.{Lengths}
 use Rattle.uri_ops.specs.BuilderParts.{BuilderParts, is_authority_text, is_scheme_text, is_text_for, with_authority, with_fragment, with_path, with_query, with_scheme}
 use Rattle.uri_ops.specs.Builders.{draft_kind, is_before_authority, is_before_fragment, is_before_path, is_before_query, is_fresh}
-use Rattle.uri_ops.specs.Drafts.{IsDraft, parts_in}
+use Rattle.uri_ops.specs.Drafts.{parts_in}
 use Rattle.uri_ops.proofs.BuilderSteps.{authority_step, fragment_step, path_step, query_step, scheme_step}
 use Rattle.uri_ops.proofs.Drafting.{IsStep, none_of}
 
@@ -152,7 +151,3 @@ module _ (a : Draft) (g : Bool) (kept : g ≡ false → a.failed ≡ false) wher
       (λ t.
       let p = and_parts scheme_there (is_some a.lengths.path && is_none a.lengths.fragment) t in
       and_from _ _ p.0 (and_parts (is_some a.lengths.path) (is_none a.lengths.fragment) p.1).0) before
-
-pub authority_rule : (of_kind : Kind) (x : List ℕ) → IsUtf8 x → is_authority of_kind x ≡ true → is_authority_text of_kind x ≡ true
-unfolding is_authority_text
-authority_rule of_kind x u e = and_from _ _ (is_utf8-from_IsUtf8 x u) e

@@ -1,15 +1,15 @@
 -- A builder that is not marked failed is of its kind, and what is known of its draft is known of it.
-use Rattle.std.proofs.Common.{◌≡◌, ℕ, Bool, true, false, not, ◌&&◌, ◌||◌, List, [], refl, sym, ap, subst, ◌∙◌, string_bytes, ⊎_elim}
+use Rattle.std.proofs.Common.{◌≡◌, ℕ, Bool, true, false, not, ◌&&◌, ◌||◌, List, [], refl, sym, ap, ◌∙◌, string_bytes}
 use Rattle.std.specs.Prelude.{is_none}
-use Rattle.std.proofs.lemmas.Bool.{and_parts, and_from, cases_Bool, or_parts, true≢false, not-false}
+use Rattle.std.proofs.lemmas.Bool.{and_parts, and_from, or_parts}
 use Rattle.uri_pct.specs.Sets.{TableSet}
 use Rattle.uri_pct.specs.Tokens.{is_valid_for}
 use Rattle.uri_parts.specs.Authority.{is_authority_for}
 use Rattle.uri_parts.specs.Grammar.{Kind, is_authority}
 use Rattle.uri_parts.proofs.AuthorityPlaces.{empty_is}
 use Rattle.uri_ops.specs.declared.build.draft.Draft.{Draft}
-use Rattle.uri_ops.specs.BuilderParts.{Adds, BuilderParts, known_kind, no_parts}
-use Rattle.uri_ops.specs.Builders.{Follows, builder_parts, draft_kind, draft_parts, is_for, is_fresh, is_fresh_reference, same}
+use Rattle.uri_ops.specs.BuilderParts.{BuilderParts, known_kind, no_parts}
+use Rattle.uri_ops.specs.Builders.{builder_parts, draft_kind, draft_parts, is_for, is_fresh, is_fresh_reference, same}
 use Rattle.uri_ops.specs.Drafts.{parts_in}
 
 same_self : (a b : Bool) → a ≡ b → same a b ≡ true
@@ -67,14 +67,6 @@ no_mark kind d e = let p = or_parts d.failed (not (is_for kind d)) e in (p.0, of
     of_not : (b : Bool) → not b ≡ false → b ≡ true
     of_not true e = refl
     of_not false e = sym e
-
--- a step of the draft is a step of the builder
-pub adds_for : (kind : Kind) (change : BuilderParts → BuilderParts) (held taken made : Draft) → (taken.failed ≡ false → taken ≡ held) → (taken.failed ≡ false → is_for kind taken ≡ true)
-    → Follows taken made → Adds change (draft_parts taken) (draft_parts made) → Adds change (builder_parts kind held) (builder_parts kind made)
-adds_for kind change held taken made same of_kind follows adds e =
-    let m = no_mark kind made e in
-    let f = follows.failed m.0 in
-    held_parts kind made m.0 m.1 ∙ adds m.0 ∙ ap change (sym (held_parts kind taken f (of_kind f)) ∙ ap (builder_parts kind) (same f))
 
 pub fresh_parts : (kind : Kind) (d : Draft) → draft_parts d ≡ no_parts → d.international ≡ kind.path.ucschar → d.needs_scheme ≡ kind.needs_scheme → builder_parts kind d ≡ no_parts
 fresh_parts kind d p i n = held_parts kind d (ap (λ (q : BuilderParts). q.failed) p) (is_for_begun kind d i n) ∙ p

@@ -1,10 +1,10 @@
 -- What each step of a builder makes of its text: the text of the parts so changed.
-use Rattle.std.proofs.Common.{◌≡◌, ℕ, ◌+◌, Bool, true, false, List, [], ◌++◌, length, take, drop, refl, sym, ap, ◌∙◌, length-append, append-nil}
+use Rattle.std.proofs.Common.{◌≡◌, ℕ, ◌+◌, true, false, List, [], ◌++◌, length, refl, sym, ap, ◌∙◌, length-append, append-nil}
 use Rattle.std.specs.Prelude.{codes, Option, Some, None, option_map, unwrap_or}
 use Rattle.uri_parts.specs.Components.{recompose}
 use Rattle.uri_parts.specs.Grammar.{Kind, if_some}
 use Rattle.uri_ops.specs.declared.build.draft.Lengths.{Lengths}
-use Rattle.uri_ops.specs.BuilderParts.{BuilderParts, is_authority_text, is_scheme_text, is_text_for, parts_text, with_authority, with_fragment, with_more_authority, with_path, with_query, with_scheme}
+use Rattle.uri_ops.specs.BuilderParts.{BuilderParts, is_authority_text, is_scheme_text, is_text_for, with_authority, with_fragment, with_more_authority, with_path, with_query, with_scheme}
 use Rattle.uri_ops.specs.Drafts.{IsDraft, behind_part, part_in, parts_in}
 use Rattle.uri_ops.proofs.Drafting.{IsStep, authority_text, by_rules, fragment_text, more_text, path_text, query_text, rules_of, stepped}
 

@@ -1,14 +1,14 @@
 -- The text of a builder's parts is of its kind, with these components, exactly where nothing is refused.
-use Rattle.std.proofs.Common.{◌≡◌, ℕ, ◌<◌, Bool, true, false, not, ◌&&◌, ◌||◌, List, [], ◌∷◌, ◌++◌, length, refl, sym, ap, subst, ◌∙◌, ⊎_elim, ◌⊎◌, inl, inr, cond, arith, string_bytes, take, drop}
-use Rattle.std.specs.Prelude.{codes, Option, Some, None, IfSome, IfNone, IsTrue, is_some, is_none, unwrap_or, slice_index}
+use Rattle.std.proofs.Common.{◌≡◌, ℕ, ◌<◌, Bool, true, false, not, ◌&&◌, ◌||◌, List, [], ◌∷◌, ◌++◌, length, refl, sym, ap, subst, ◌∙◌, inl, inr, cond, arith, string_bytes, take, drop}
+use Rattle.std.specs.Prelude.{codes, Option, Some, None, IfSome, IfNone, is_some, unwrap_or, slice_index}
 use Rattle.std.specs.Char.{is_ascii_alphabetic}
 use Rattle.std.specs.Str.{IsUtf8}
 use Rattle.std.proofs.lemmas.Str.{IsUtf8-from_is_utf8}
-use Rattle.std.proofs.lemmas.Bool.{and_parts, and_from, cases_Bool, cond-true, cond-false, false≢true, not-true, not_from_false, or_parts}
+use Rattle.std.proofs.lemmas.Bool.{and_parts, and_from, cond-true, cond-false, false≢true, not-true, not_from_false}
 use Rattle.uri_pct.specs.Sets.{TableSet, scheme_set}
 use Rattle.uri_pct.specs.Tokens.{is_valid_for}
 use Rattle.uri_pct.proofs.Cuts.{excludes}
-use Rattle.uri_parts.specs.Components.{Components, IsSplitOf, IsRooted, Lacks, components, has_authority, has_scheme, marked, recompose, starts}
+use Rattle.uri_parts.specs.Components.{IsSplitOf, IsRooted, Lacks, has_authority, has_scheme, marked, starts}
 use Rattle.uri_parts.specs.Grammar.{IsOfKind, Kind, are_components, has_colon_first, if_some, is_authority, is_scheme}
 use Rattle.uri_parts.proofs.Marks.{query_text, Begins-query_text}
 use Rattle.uri_parts.proofs.Recompose.{IsSplitOf-components}

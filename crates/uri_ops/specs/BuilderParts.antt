@@ -1,9 +1,9 @@
 -- What a builder holds, and the text of it: RFC 3986, section 5.3.
-use Rattle.std.specs.Prelude.{◌≡◌, ◌&&◌, not, ℕ, Bool, true, false, List, [], ◌++◌, codes, Option, Some, None, is_some, is_none, option_map, unwrap_or, if◌then◌else◌}
+use Rattle.std.specs.Prelude.{◌≡◌, ◌&&◌, ℕ, Bool, false, List, [], ◌++◌, Option, Some, None, is_none, option_map, unwrap_or, if◌then◌else◌}
 use Rattle.std.specs.Str.{is_utf8}
 use Rattle.uri_pct.specs.Sets.{TableSet}
 use Rattle.uri_pct.specs.Tokens.{is_valid_for}
-use Rattle.uri_parts.specs.Authority.{AuthorityParts, authority_parts}
+use Rattle.uri_parts.specs.Authority.{authority_parts}
 use Rattle.uri_parts.specs.Components.{Components, recompose}
 use Rattle.uri_parts.specs.Grammar.{Kind, if_some, is_authority, is_scheme, iri_ref, uri_ref}
 use Rattle.uri_ops.specs.Dots.{is_empty}

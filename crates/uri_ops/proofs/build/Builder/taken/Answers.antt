@@ -1,4 +1,4 @@
-use Rattle.std.proofs.Common.{sym, ◌∙◌}
+use Rattle.std.proofs.Common.{◌∙◌}
 use Rattle.uri_ops.proofs.BuilderKinds.{is_for_test, mark_kept, mark_set}
 use Rattle.uri_ops.proofs.build.Builder.taken.Goals as goal
 

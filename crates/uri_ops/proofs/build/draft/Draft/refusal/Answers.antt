@@ -1,5 +1,4 @@
-use Rattle.std.proofs.Common.{sym, ap, ◌∙◌, string_bytes, take, drop}
-use Rattle.uri_ops.specs.Builders.{draft_parts}
+use Rattle.std.proofs.Common.{sym, ◌∙◌, string_bytes, take, drop}
 use Rattle.uri_ops.specs.Built.{refusal_of}
 use Rattle.uri_ops.specs.Drafts.{behind_part}
 use Rattle.uri_ops.proofs.Tests.{some_map}

@@ -2,7 +2,8 @@ use Rattle.std.proofs.Common.{◌≡◌, false, length, codes, string_bytes}
 use Rattle.std.specs.Prelude.{Some}
 use Rattle.uri_ops.specs.BuilderParts.{with_authority}
 use Rattle.uri_ops.specs.Builders.{draft_kind, is_before_path, is_before_userinfo}
-use Rattle.uri_ops.proofs.BuilderDrafts.{adds_from, at_authority, authority_draft, authority_rule, behind_authority, two_pieces}
+use Rattle.uri_ops.proofs.BuilderAuthorities.{authority_from}
+use Rattle.uri_ops.proofs.BuilderDrafts.{adds_from, at_authority, authority_draft, behind_authority, two_pieces}
 use Rattle.uri_ops.proofs.build.draft.Draft.with_authority.Goals as goal
 
 pub invariant_of-result : goal.invariant_of-result
@@ -11,7 +12,7 @@ invariant_of-result c =
     let old = string_bytes c.args.self.text in
     let new = string_bytes c.append-failed-2.new.text in
     let written = two_pieces old (codes "//") c.args.authority.now (string_bytes c.append-failed.new.text) new c.append-failed.result c.append-failed-2.result c.append-failed-2.ensures.kept c.append-failed.ensures.text c.append-failed-2.ensures.text in
-    let step = authority_draft c.args.self c.args.authority.now new c.utf8.authority c.append-failed-2.result kept c.requires.before (λ f. authority_rule (draft_kind c.args.self) c.args.authority.now c.utf8.authority (c.requires.rule f)) written in
+    let step = authority_draft c.args.self c.args.authority.now new c.utf8.authority c.append-failed-2.result kept c.requires.before (λ f. authority_from (draft_kind c.args.self) c.args.authority.now c.utf8.authority (c.requires.rule f)) written in
     record { ok = λ e. (step e).draft }
 
 pub returns-clause-adds : goal.returns-clause-adds
@@ -20,7 +21,7 @@ returns-clause-adds c =
     let old = string_bytes c.args.self.text in
     let new = string_bytes c.append-failed-2.new.text in
     let written = two_pieces old (codes "//") c.args.authority.now (string_bytes c.append-failed.new.text) new c.append-failed.result c.append-failed-2.result c.append-failed-2.ensures.kept c.append-failed.ensures.text c.append-failed-2.ensures.text in
-    let step = authority_draft c.args.self c.args.authority.now new c.utf8.authority c.append-failed-2.result kept c.requires.before (λ f. authority_rule (draft_kind c.args.self) c.args.authority.now c.utf8.authority (c.requires.rule f)) written in
+    let step = authority_draft c.args.self c.args.authority.now new c.utf8.authority c.append-failed-2.result kept c.requires.before (λ f. authority_from (draft_kind c.args.self) c.args.authority.now c.utf8.authority (c.requires.rule f)) written in
     adds_from (with_authority c.args.authority.now) c.args.self.lengths (record c.args.self.lengths { authority = Some (length c.args.authority.now) }) old new c.args.self.failed c.append-failed-2.result kept (λ e. (step e).parts)
 
 pub returns-clause-at : goal.returns-clause-at

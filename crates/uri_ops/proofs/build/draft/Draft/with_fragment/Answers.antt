@@ -1,4 +1,4 @@
-use Rattle.std.proofs.Common.{◌≡◌, ◌++◌, false, ℕ, List, length, codes, string_bytes}
+use Rattle.std.proofs.Common.{◌≡◌, false, length, codes, string_bytes}
 use Rattle.std.specs.Prelude.{Some}
 use Rattle.uri_ops.specs.BuilderParts.{with_fragment}
 use Rattle.uri_ops.specs.Builders.{is_at_end}

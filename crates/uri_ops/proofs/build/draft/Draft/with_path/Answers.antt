@@ -1,4 +1,4 @@
-use Rattle.std.proofs.Common.{◌≡◌, ◌++◌, false, ℕ, List, length, string_bytes}
+use Rattle.std.proofs.Common.{length, string_bytes}
 use Rattle.std.specs.Prelude.{Some}
 use Rattle.uri_ops.specs.BuilderParts.{with_path}
 use Rattle.uri_ops.specs.Builders.{is_before_query}
