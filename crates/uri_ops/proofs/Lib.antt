@@ -8,6 +8,7 @@ pub mod Slashed
 pub mod LastSlashes
 pub mod KeptSegments
 pub mod DotLaws
+pub mod DotStarts
 pub mod Parts
 pub mod DotBytes
 pub mod Lacking

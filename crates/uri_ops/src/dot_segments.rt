@@ -1,8 +1,8 @@
 //! The removal of dot segments (RFC 3986, section 5.2.4).
-ghost use Rattle.std.specs.Prelude.{◌≡◌, ◌≤◌, ◌++◌, ◌+◌, IfOk, false, OnOk, length, drop, take, string_bytes};
+ghost use Rattle.std.specs.Prelude.{◌≡◌, ◌≤◌, ◌==◌, ◌||◌, ◌++◌, ◌+◌, IfOk, false, true, OnOk, length, drop, take, string_bytes};
 ghost use Rattle.std.specs.String.Boundary.{IsSplitPoint};
 ghost use Rattle.uri_ops.specs.Places.{IsSlashOrAt};
-ghost use Rattle.uri_ops.specs.Dots.{IsAbsolute, before_last_slash, has_slash, is_double_dot, is_empty, is_single_dot, remove_dot_segments, underflows};
+ghost use Rattle.uri_ops.specs.Dots.{IsAbsolute, before_last_slash, has_slash, is_double_dot, is_empty, is_single_dot, lacks_dot_segments, remove_dot_segments, underflows};
 
 use std::alloc::AllocError;
 
@@ -53,6 +53,31 @@ fn pop_segment(start: usize, out: &mut String) -> bool
     is_empty
 }
 
+/// Whether a dot segment begins with this byte.
+fn is_dot_start(byte: u8) -> bool
+    ensures { result ≡ (byte == 46 || byte == 37) }
+{
+    byte == b'.' || byte == b'%'
+}
+
+/// Whether a `.` or a `%` stands behind a `/`, as it does where there is a dot segment.
+pub(crate) fn may_have_dot_segments(path: &str) -> bool
+    requires { IsAbsolute path.now }
+    ensures { result ≡ false → lacks_dot_segments path.now ≡ true }
+{
+    let bytes = path.as_bytes();
+    let mut is_behind_slash = false;
+    let mut i = 0;
+    while i < bytes.len() {
+        if is_behind_slash & is_dot_start(bytes[i]) {
+            return true;
+        }
+        is_behind_slash = bytes[i] == b'/';
+        i += 1;
+    }
+    false
+}
+
 /// Appends a path that begins with `/`, without its dot segments, and answers whether a double dot
 /// had nothing left to remove (RFC 3986, section 5.2.4). A dot counts percent-encoded too.
 ///
@@ -61,6 +86,20 @@ fn pop_segment(start: usize, out: &mut String) -> bool
 /// Only if memory is refused; part of the path may then have been appended.
 #[doc(hidden)]
 pub fn push_without_dot_segments(path: &str, out: &mut String) -> Result<bool, AllocError>
+    requires { IsAbsolute path.now }
+    ensures text { OnOk result (string_bytes out.new ≡ string_bytes out.old ++ remove_dot_segments path.now) }
+    ensures underflow { IfOk result (λ underflowed. underflowed ≡ underflows path.now) }
+{
+    if may_have_dot_segments(path) {
+        return push_kept_segments(path, out);
+    }
+    out.push_str(path)?;
+    Ok(false)
+}
+
+/// Appends a path segment by segment, without its dot segments, and answers whether a double dot had
+/// nothing left to remove.
+fn push_kept_segments(path: &str, out: &mut String) -> Result<bool, AllocError>
     requires { IsAbsolute path.now }
     ensures text { OnOk result (string_bytes out.new ≡ string_bytes out.old ++ remove_dot_segments path.now) }
     ensures underflow { IfOk result (λ underflowed. underflowed ≡ underflows path.now) }

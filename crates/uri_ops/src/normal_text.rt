@@ -18,7 +18,7 @@ ghost use Rattle.uri_ops.specs.NormalPaths.{path_text, path_underflows};
 ghost use Rattle.uri_ops.specs.Target.{guarded};
 
 use crate::default_port::DefaultPort;
-use crate::dot_segments::push_without_dot_segments;
+use crate::dot_segments::{may_have_dot_segments, push_without_dot_segments};
 use crate::normal_authority::push_authority;
 use crate::reading::{push_component, push_lower, push_read};
 use std::alloc::{AllocError, Global};
@@ -116,9 +116,9 @@ fn push_guarded<E: Encoder>(
     push_read(alloc, &E::table(), path, out)
 }
 
-/// Appends what is read of a path that stands under a scheme and begins with `/`, without its dot
-/// segments, and answers whether a double dot had nothing left to remove.
-fn push_absolute<E: Encoder>(
+/// Appends what is read of a path without its dot segments, which are removed in a buffer of its own,
+/// and answers whether a double dot had nothing left to remove.
+fn push_cleaned<E: Encoder>(
     alloc: Global,
     has_authority: bool,
     path: EStr<'_, E>,
@@ -135,6 +135,27 @@ fn push_absolute<E: Encoder>(
     let underflowed = push_without_dot_segments(path.as_str(), &mut plain)?;
     push_guarded::<E>(alloc, has_authority, plain.as_str(), out)?;
     Ok(underflowed)
+}
+
+/// Appends what is read of a path that stands under a scheme and begins with `/`, without its dot
+/// segments, and answers whether a double dot had nothing left to remove.
+fn push_absolute<E: Encoder>(
+    alloc: Global,
+    has_authority: bool,
+    path: EStr<'_, E>,
+    out: &mut String,
+) -> Result<bool, AllocError>
+    requires absolute { IsAbsolute (text_of path) }
+    requires set { IsComponentSet (codes "?#[]") E.set }
+    requires slash { E.set.ascii 47 ≡ true }
+    ensures text { (authority : Option (List ℕ)) → is_some authority ≡ has_authority → OnOk result (string_bytes out.new ≡ string_bytes out.old ++ guarded authority (print (read E.set (remove_dot_segments (text_of path.entry))))) }
+    ensures underflow { IfOk result (λ underflowed. underflowed ≡ underflows (text_of path.entry)) }
+{
+    if may_have_dot_segments(path.as_str()) {
+        return push_cleaned(alloc, has_authority, path, out);
+    }
+    push_guarded::<E>(alloc, has_authority, path.as_str(), out)?;
+    Ok(false)
 }
 
 /// Appends a path as it stands in a normal text, and answers whether a double dot had nothing left
