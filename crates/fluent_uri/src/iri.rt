@@ -45,6 +45,12 @@ pub struct Iri<T: AsStr> {
 }
 
 impl<T: AsStr + Copy> Clone for Iri<T> {
+    ghost use Rattle.std.specs.Prelude.{⊤};
+
+    ghost is_clone = { λ value copy. copy ≡ value };
+
+    ghost is_infallible = { λ _. ⊤ };
+
     fn clone(&self) -> Result<Self, AllocError> {
         Ok(*self)
     }

@@ -49,6 +49,12 @@ pub struct UriRef<T: AsStr> {
 }
 
 impl<T: AsStr + Copy> Clone for UriRef<T> {
+    ghost use Rattle.std.specs.Prelude.{⊤};
+
+    ghost is_clone = { λ value copy. copy ≡ value };
+
+    ghost is_infallible = { λ _. ⊤ };
+
     fn clone(&self) -> Result<Self, AllocError> {
         Ok(*self)
     }

@@ -27,6 +27,12 @@ pub struct Authority<'a, U: Encoder = Userinfo, R: Encoder = RegName> {
 }
 
 impl<'a, U: Encoder, R: Encoder> Clone for Authority<'a, U, R> {
+    ghost use Rattle.std.specs.Prelude.{⊤};
+
+    ghost is_clone = { λ value copy. copy ≡ value };
+
+    ghost is_infallible = { λ _. ⊤ };
+
     fn clone(&self) -> Result<Self, AllocError> {
         Ok(*self)
     }

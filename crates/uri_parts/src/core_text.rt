@@ -22,6 +22,12 @@ pub struct CoreText<'a, K: Rules> {
 }
 
 impl<'a, K: Rules> Clone for CoreText<'a, K> {
+    ghost use Rattle.std.specs.Prelude.{⊤};
+
+    ghost is_clone = { λ value copy. copy ≡ value };
+
+    ghost is_infallible = { λ _. ⊤ };
+
     fn clone(&self) -> Result<Self, AllocError> {
         Ok(*self)
     }
