@@ -12,6 +12,7 @@ pub mod TokenCuts
 pub mod Delimiters
 pub mod Splits
 pub mod Decoding
+pub mod Counts
 pub mod OctetTexts
 pub mod Pieces
 pub mod CharacterPieces
