@@ -1,6 +1,3 @@
-ghost use Rattle.std.specs.Prelude.{IsTrue};
-ghost use Rattle.fluent_uri.specs.Sets.{is_reserved};
-
 use crate::owned_encoding::{Nothing, Octets, Private, valid};
 use fluent_uri::UriRef;
 use fluent_uri::component::Scheme;
@@ -267,17 +264,8 @@ fn rest_that_is_decoded(rt: HostRuntime) -> Result<(), Fail> {
     Ok(())
 }
 
-/// The delimiter passes the test of reserved characters, so that a text may be cut at it.
-#[tactic(auto, using(crate::proofs::Delimiters::reserved_where_allowed))]
-fn is_delimiter<R: Abort>(rt: &R, ch: char)
-    ensures { IsTrue (is_reserved ch) }
-{
-    assert!(rt; table::RESERVED.allows(ch), "{ch}");
-}
-
 #[test]
 fn pieces_from_both_ends(rt: HostRuntime) {
-    is_delimiter(&rt, '/');
     let mut pieces = valid::<_, Path>(&rt, "a/b/c").split('/');
     assert_eq!(rt; pieces.next().map(EStr::as_str), Some("a"));
     assert_eq!(rt; pieces.next_back().map(EStr::as_str), Some("c"));
@@ -288,7 +276,6 @@ fn pieces_from_both_ends(rt: HostRuntime) {
 
 #[test]
 fn empty_pieces(rt: HostRuntime) {
-    is_delimiter(&rt, ',');
     let mut pieces = valid::<_, Path>(&rt, ",").split(',');
     assert_eq!(rt; pieces.next().map(EStr::as_str), Some(""));
     assert_eq!(rt; pieces.next().map(EStr::as_str), Some(""));
@@ -304,8 +291,6 @@ fn texts<'a>((before, after): (EStr<'a, Path>, EStr<'a, Path>)) -> (&'a str, &'a
 
 #[test]
 fn cut_once(rt: HostRuntime) {
-    is_delimiter(&rt, ';');
-    is_delimiter(&rt, ',');
     let path = valid::<_, Path>(&rt, "foo;bar;baz");
     assert_eq!(rt; path.split_once(';').map(texts), Some(("foo", "bar;baz")));
     assert_eq!(rt; path.rsplit_once(';').map(texts), Some(("foo;bar", "baz")));
@@ -333,8 +318,6 @@ fn segments(rt: HostRuntime) -> Result<(), Fail> {
 fn pairs_of_a_query(rt: HostRuntime) -> Result<(), Fail> {
     let reference = UriRef::<&str>::parse("?name=%E5%BC%A0%E4%B8%89&speech=%C2%A1Ol%C3%A9%21")?;
     let query = reference.query().ok_or("a query")?;
-    is_delimiter(&rt, '&');
-    is_delimiter(&rt, '=');
     let mut pieces = query.split('&');
     for (name, value) in [("name", "张三"), ("speech", "¡Olé!")] {
         let piece = pieces.next().ok_or("a piece")?;
@@ -378,9 +361,6 @@ fn texts_compare_by_bytes(rt: HostRuntime) -> Result<(), Fail> {
 /// The calls at encoders of a caller: octets alone, private use alone, and nothing.
 #[test]
 fn own_encoders(rt: HostRuntime) -> Result<(), Fail> {
-    is_delimiter(&rt, '/');
-    is_delimiter(&rt, '&');
-    is_delimiter(&rt, '=');
     let octets = valid::<_, Octets>(&rt, "%61%ff");
     assert_eq!(rt;
         octets.decode().next(),

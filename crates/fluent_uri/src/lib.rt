@@ -31,6 +31,14 @@ pub mod component {
     pub type IHost<'a> = Host<'a, IRegName>;
 }
 
+/// Laws of the definitions that contracts cite: a call does nothing, and its contract is the law.
+pub mod laws {
+    pub use uri_parts::laws::{
+        components_are_a_split, components_are_the_only_split, components_recompose,
+    };
+    pub use uri_pct::laws::{encoding, lossy, pieces, printing};
+}
+
 /// IP addresses (RFC 3986, section 3.2.2), and their canonical texts (RFC 5952).
 pub mod net {
     pub use uri_parts::net::{IpAddr, Ipv4Addr, Ipv6Addr};

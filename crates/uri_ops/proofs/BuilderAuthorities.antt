@@ -119,7 +119,6 @@ module _ (kind : Kind) (sets : HasComponentSets kind) where
   name_outside = excludes_front (codes "/?#") (codes "[]@:") kind.reg_name (ends_outside (codes "/?#[]@:") kind.reg_name refl sets.reg_name.ends)
 
   dotted_outside : excludes reg_name_set (codes "/?#") ≡ true
-  unfolding is_reg_name_char is_unreserved is_sub_delim
   dotted_outside = refl
 
   host_lacks : (text : List ℕ) (host : HostKind) → IsUtf8 text → IsHost kind.reg_name text host → Lacks (codes "/?#") text

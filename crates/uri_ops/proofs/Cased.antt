@@ -84,11 +84,9 @@ abbrev pub AllowsReadable : TableSet → TableSet → Type 0
 AllowsReadable readable set = (c : ℕ) → allows readable c ≡ is_readable set c
 
 letters_unreserved : (c : ℕ) → is_unreserved c ≡ false → to_ascii_lowercase c ≡ c
-unfolding is_unreserved
 letters_unreserved c e = grind (arith, nat_tests)
 
 lower_unreserved : (c : ℕ) → is_unreserved c ≡ true → is_unreserved (to_ascii_lowercase c) ≡ true
-unfolding is_unreserved
 lower_unreserved c e = grind (arith, nat_tests)
 
 lower_octets : (bytes : List ℕ) → map lower_token (map Octet bytes) ≡ map Octet bytes

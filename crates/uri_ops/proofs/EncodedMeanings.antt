@@ -33,7 +33,6 @@ use Rattle.uri_ops.proofs.EncodedAuthorities.{plain_ascii, read_some, authority_
 
 -- a scheme is ASCII
 scheme_percent : is_scheme_char 37 ≡ false
-unfolding is_scheme_char
 scheme_percent = refl
 
 pub scheme_plain : (s : List ℕ) → IsUtf8 s → is_scheme s ≡ true → list_all (λ c. ltb c 128) s ≡ true

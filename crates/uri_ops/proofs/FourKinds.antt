@@ -8,23 +8,18 @@ use Rattle.uri_parts.specs.Grammar.{Kind, uri, uri_ref, iri, iri_ref}
 use Rattle.uri_ops.specs.ComponentSets.{IsComponentSet, HasComponentSets}
 
 in_reg_name : (c : ℕ) → is_unreserved c ≡ true → is_reg_name_char c ≡ true
-unfolding is_reg_name_char
 in_reg_name c e = or_left _ _ e
 
 in_userinfo : (c : ℕ) → is_unreserved c ≡ true → is_userinfo_char c ≡ true
-unfolding is_userinfo_char
 in_userinfo c e = or_left _ _ (in_reg_name c e)
 
 in_pchar : (c : ℕ) → is_unreserved c ≡ true → is_pchar c ≡ true
-unfolding is_pchar
 in_pchar c e = or_left _ _ (in_reg_name c e)
 
 in_path : (c : ℕ) → is_unreserved c ≡ true → is_path_char c ≡ true
-unfolding is_path_char
 in_path c e = or_left _ _ (in_pchar c e)
 
 in_query : (c : ℕ) → is_unreserved c ≡ true → is_query_char c ≡ true
-unfolding is_query_char
 in_query c e = or_left _ _ (in_pchar c e)
 
 -- the set of a component whose ASCII characters are these
@@ -53,7 +48,7 @@ kind_with past private needs = record {
 }
 
 kind_sets : (past private needs : Bool) → HasComponentSets (kind_with past private needs)
-unfolding kind_with component is_userinfo_char is_reg_name_char is_path_char is_query_char is_pchar is_unreserved is_sub_delim
+unfolding kind_with component
 kind_sets past private needs = record {
   userinfo = component_set (codes "/?#[]@") is_userinfo_char past false in_userinfo refl refl;
   reg_name = component_set (codes "/?#[]@:") is_reg_name_char past false in_reg_name refl refl;

@@ -74,26 +74,21 @@ hex_lower : (c : ℕ) → is_ascii_hexdigit c ≡ true → is_ascii_hexdigit (to
 hex_lower c e = grind (arith, nat_tests)
 
 userinfo_lower : (c : ℕ) → is_userinfo_char c ≡ true → is_userinfo_char (to_ascii_lowercase c) ≡ true
-unfolding is_userinfo_char is_reg_name_char is_unreserved is_sub_delim
 userinfo_lower c e = grind (arith, nat_tests)
 
 letter_lower : (c : ℕ) → is_one_of (codes "vV") c ≡ true → is_one_of (codes "vV") (to_ascii_lowercase c) ≡ true
 letter_lower c e = grind (arith, nat_tests)
 
 letter_userinfo : (c : ℕ) → is_one_of (codes "vV") c ≡ true → is_plain_char is_userinfo_char c ≡ true
-unfolding is_userinfo_char is_reg_name_char is_unreserved is_sub_delim
 letter_userinfo c e = grind (arith, nat_tests)
 
 hex_userinfo : (c : ℕ) → is_ascii_hexdigit c ≡ true → is_userinfo_char c ≡ true
-unfolding is_userinfo_char is_reg_name_char is_unreserved is_sub_delim
 hex_userinfo c e = grind (arith, nat_tests)
 
 no_percent : is_userinfo_char 37 ≡ false
-unfolding is_userinfo_char is_reg_name_char is_unreserved is_sub_delim
 no_percent = refl
 
 dot_userinfo : is_plain_char is_userinfo_char 46 ≡ true
-unfolding is_userinfo_char is_reg_name_char is_unreserved is_sub_delim
 dot_userinfo = refl
 
 pub record PlainParts (text : List ℕ) (h : IsIpvFuture text) : Type 0 where
@@ -135,7 +130,6 @@ lower_plain_future text h w =
     }
 
 pub slash_outside : excludes ipv_future_set (codes "/?#") ≡ true
-unfolding is_userinfo_char is_reg_name_char is_unreserved is_sub_delim
 slash_outside = refl
 
 four_fit : (a b c d : ℕ) → a < 256 → b < 256 → c < 256 → d < 256 → (k : ℕ) → get_or (a ∷ b ∷ c ∷ d ∷ []) k 0 < 2 ^ 8
@@ -179,12 +173,10 @@ module _ (names : TableSet) (w : IsComponentSet (codes "/?#[]@:") names) (apart 
       }
 
   digit_unreserved : (c : ℕ) → IsDigitOrDot c → is_plain_char is_unreserved c ≡ true
-  unfolding is_unreserved
   digit_unreserved c (inl range) = grind (arith, nat_tests)
   digit_unreserved c (inr dot) = grind (arith, nat_tests)
 
   not_unreserved : is_unreserved 37 ≡ false
-  unfolding is_unreserved
   not_unreserved = refl
 
   dotted_part : (text octets : List ℕ) → IsDotted text octets → is_part names text ≡ true

@@ -57,7 +57,7 @@ cleaned_guarded authority path =
 
 module _ (set : TableSet) (w : IsComponentSet (codes "?#[]") set) (slash : set.ascii 47 ≡ true) where
   allows_dot : is_valid_for set (codes ".") ≡ true
-  unfolding is_valid_for chars tokens_of is_unreserved
+  unfolding is_valid_for chars tokens_of
   allows_dot = and_from _ true (allows-ascii set 46 (lit< tt) ∙ w.unreserved.ascii 46 refl) refl
 
   part_dot : is_part set (codes ".") ≡ true

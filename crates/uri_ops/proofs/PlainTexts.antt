@@ -77,7 +77,6 @@ lower_twice (c ∷ text) = ap (λ d. d ∷ str_to_ascii_lowercase (str_to_ascii_
 
 -- a scheme in lower case is one
 scheme_char_lower : (c : ℕ) → is_scheme_char c ≡ true → is_scheme_char (to_ascii_lowercase c) ≡ true
-unfolding is_scheme_char
 scheme_char_lower c e = grind (arith, nat_tests)
 
 alphabetic_lower : (c : ℕ) → is_ascii_alphabetic c ≡ true → is_ascii_alphabetic (to_ascii_lowercase c) ≡ true
@@ -88,7 +87,6 @@ first_lower [] e = e
 first_lower (c ∷ text) e = alphabetic_lower c e
 
 no_percent : is_scheme_char 37 ≡ false
-unfolding is_scheme_char
 no_percent = refl
 
 pub scheme_lower : (text : List ℕ) → IsUtf8 text → is_scheme text ≡ true → is_scheme (str_to_ascii_lowercase text) ≡ true

@@ -83,7 +83,6 @@ module _ (set : TableSet) (lacks : LacksPercent set) (wide : IsSubset unreserved
       record { single = same_single_dot (reprinted set s) s u (part_utf8 set s e) same; double = same_double_dot (reprinted set s) s u (part_utf8 set s e) same }
 
   no_slash : (s : List ℕ) → is_part set s ≡ true → has_slash s ≡ false → has_slash (reprinted set s) ≡ false
-  unfolding is_unreserved
   no_slash s e f = reprinted_lacks 47 set lacks wide refl refl s e f
 
   no_slashes : (segs : List (List ℕ)) → Passes (is_part set) segs → NoSlashes segs → NoSlashes (map (reprinted set) segs)

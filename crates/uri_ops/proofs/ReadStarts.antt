@@ -82,11 +82,9 @@ module _ (set : TableSet) (lacks : LacksPercent set) (wide : IsSubset unreserved
       some (d ∷ t) f = refl
 
   no_slash : (s : List ℕ) → is_part set s ≡ true → has_slash s ≡ false → has_slash (reprinted set s) ≡ false
-  unfolding is_unreserved
   no_slash s e f = reprinted_lacks 47 set lacks wide refl refl s e f
 
   no_colon : (s : List ℕ) → is_part set s ≡ true → list_any (λ c. eqb c 58) s ≡ false → list_any (λ c. eqb c 58) (reprinted set s) ≡ false
-  unfolding is_unreserved
   no_colon s e f = reprinted_lacks 58 set lacks wide refl refl s e f
 
   pub starts_reprinted : (x : List ℕ) → is_part set x ≡ true → starts 47 (reprinted set x) ≡ starts 47 x

@@ -101,6 +101,8 @@ impl<R, S: State> Builder<R, S> {
 
     /// The builder that the step answers for the value, where there is one, and else the same
     /// builder in the state behind the step.
+    ///
+    /// The step may be called on every builder, as each method of `Builder` may that asks nothing.
     pub fn optional<F, V, T: State>(self, step: F, value: Option<V>) -> Builder<R, T>
     where
         S: AdvanceTo<T>,
@@ -167,7 +169,8 @@ impl<R: RiMaybeRef, S: State> Builder<R, S> {
     }
 
     /// Gives the authority (RFC 3986, section 3.2) part by part: the closure is called with this
-    /// builder and an empty authority begun, and the answer is the builder that it returns.
+    /// builder and an empty authority begun, and the answer is the builder that it returns. It may
+    /// be called on every builder.
     pub fn authority_with<F, T: State>(self, parts: F) -> Builder<R, AuthorityEnd>
     where
         S: To<AuthorityStart>,

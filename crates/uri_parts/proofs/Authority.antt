@@ -8,7 +8,7 @@ use Rattle.std.specs.Str.{IsUtf8}
 use Rattle.std.proofs.lemmas.Bool.{and_from, and_parts, cond-true, cond-false, true≢false, both_ways, cases_Bool}
 use Rattle.std.proofs.lemmas.Bool.Decides.{nat_tests}
 use Rattle.std.proofs.lemmas.Slice.Eq.{bytes_eq-Decides}
-use Rattle.uri_pct.specs.Sets.{TableSet, is_one_of, digit_set, ipv_future_set, is_userinfo_char, is_reg_name_char, is_unreserved, is_sub_delim}
+use Rattle.uri_pct.specs.Sets.{TableSet, is_one_of, digit_set, ipv_future_set}
 use Rattle.uri_pct.specs.Tokens.{is_valid_for, IsValidFor}
 use Rattle.uri_pct.proofs.Cuts.{excludes}
 use Rattle.uri_parts.specs.Components.{Lacks, before_any, from_any, starts, marked, when}
@@ -91,7 +91,6 @@ host_cut host tail (inr lacks) begins =
     (cond-false _ _ _ s ∙ cut.0, cond-false _ _ _ s ∙ cut.1)
 
 pub literal_outside : (excludes ipv_future_set (codes "]") ≡ true) × (excludes ipv_future_set (codes "@") ≡ true)
-unfolding is_userinfo_char is_reg_name_char is_unreserved is_sub_delim
 literal_outside = (refl, refl)
 
 lacks_at_bracketed : (address : List ℕ) → Lacks (codes "@") address → Lacks (codes "@") (bracketed address)

@@ -4,7 +4,6 @@ use Rattle.std.specs.Prelude.{codes, map, replicate, Some, None}
 use Rattle.std.specs.List.{list_any, list_all}
 use Rattle.std.specs.Net.Reader.{read_ipv4, read_ipv6, read_segments, read_segment, read_number, read_octet}
 use Rattle.std.specs.Str.{chars}
-use Rattle.uri_pct.specs.Sets as Sets
 use Rattle.uri_pct.specs.Sets.{userinfo_set, reg_name_set}
 use Rattle.uri_pct.specs.Tokens as Tokens
 use Rattle.uri_pct.specs.Tokens.{tokens_of}
@@ -45,12 +44,12 @@ accepted : list_all (is_authority_for userinfo_set reg_name_set) (
     codes "" ∷ codes "@:" ∷ codes "u@h:80" ∷ codes "u:p@h" ∷ codes "h:" ∷ codes "a%20b" ∷ codes "127.0.0.001" ∷ codes "user%40x@[v1F.a:b]:8080"
     ∷ codes "[V1.x]" ∷ codes "[::ffff:192.0.2.1]:" ∷ codes "[1:2:3:4:5:6:7::]" ∷ codes "[1:2:3:4:5:6:7:8]" ∷ codes "[1:2:3:4:5:6:1.2.3.4]" ∷ []
     ) ≡ true
-unfolding is_authority_for Tokens.is_valid_for tokens_of chars Sets.allows Sets.is_userinfo_char Sets.is_reg_name_char Sets.is_unreserved Sets.is_sub_delim Tokens.is_pct_encoded is_host is_ipv_future ipv4_value read_ipv4 read_octet read_number ipv6_value read_ipv6 read_segments read_segment
+unfolding is_authority_for Tokens.is_valid_for tokens_of chars Tokens.is_pct_encoded is_host is_ipv_future ipv4_value read_ipv4 read_octet read_number ipv6_value read_ipv6 read_segments read_segment
 accepted = refl
 
 refused : list_any (is_authority_for userinfo_set reg_name_set) (
     codes "[1:2:3:4::5:6:7:8]" ∷ codes "[1:2:3:4:5:6:7:8:9]" ∷ codes "[44:55::66::77]" ∷ codes "[1.2.3.4]" ∷ codes "[::01.1.1.1]" ∷ codes "[::12345]" ∷ codes "[::1" ∷ codes "[::1]x"
     ∷ codes "[]" ∷ codes "[vG.addr]" ∷ codes "[v.addr]" ∷ codes "[vF.]" ∷ codes "[vF.%20]" ∷ codes "[fe80::abcd%eth0]" ∷ codes "a@b@c" ∷ codes "h:80a" ∷ codes "a:b:c" ∷ codes "u[@h" ∷ codes "a%2" ∷ []
     ) ≡ false
-unfolding is_authority_for Tokens.is_valid_for tokens_of chars Sets.allows Sets.is_userinfo_char Sets.is_reg_name_char Sets.is_unreserved Sets.is_sub_delim Tokens.is_pct_encoded is_host is_ipv_future ipv4_value read_ipv4 read_octet read_number ipv6_value read_ipv6 read_segments read_segment
+unfolding is_authority_for Tokens.is_valid_for tokens_of chars Tokens.is_pct_encoded is_host is_ipv_future ipv4_value read_ipv4 read_octet read_number ipv6_value read_ipv6 read_segments read_segment
 refused = refl

@@ -8,7 +8,7 @@ use Rattle.std.proofs.lemmas.List.Elements.{All-nil, All-cons, All-append}
 use Rattle.std.proofs.NetLemmas.Alphabet.{IsDigitOrDot, All-ipv4_text}
 use Rattle.std.proofs.lemmas.Bool.{and_from, and_parts, lt-ltb, ltb-true, false≢true, both_ways, cases_Bool}
 use Rattle.std.proofs.lemmas.Bool.Decides.{nat_tests}
-use Rattle.uri_pct.specs.Sets.{TableSet, LacksPercent, is_one_of, hexdig_set, reg_name_set, ipv_future_set, is_userinfo_char, is_reg_name_char, is_unreserved, is_sub_delim}
+use Rattle.uri_pct.specs.Sets.{TableSet, LacksPercent, is_one_of, hexdig_set, reg_name_set, ipv_future_set, is_userinfo_char, is_reg_name_char}
 use Rattle.uri_pct.specs.Tokens.{is_valid_for}
 use Rattle.uri_pct.proofs.Cuts.{excludes}
 use Rattle.uri_parts.specs.Components.{Lacks, before_any, from_any}
@@ -55,19 +55,16 @@ is_ipv_future-sound (letter ∷ rest) e =
 
 -- no character of an address in brackets is past those of userinfo
 address_userinfo : (c : ℕ) → is_address_char c ≡ true → is_userinfo_char c ≡ true
-unfolding is_address_char is_userinfo_char is_reg_name_char is_unreserved is_sub_delim
+unfolding is_address_char
 address_userinfo c e = grind (arith, nat_tests)
 
 hex_userinfo : (c : ℕ) → is_ascii_hexdigit c ≡ true → is_userinfo_char c ≡ true
-unfolding is_userinfo_char is_reg_name_char is_unreserved is_sub_delim
 hex_userinfo c e = grind (arith, nat_tests)
 
 letter_userinfo : (c : ℕ) → is_one_of (codes "vV") c ≡ true → is_userinfo_char c ≡ true
-unfolding is_userinfo_char is_reg_name_char is_unreserved is_sub_delim
 letter_userinfo c e = grind (arith, nat_tests)
 
 digit_reg_name : (c : ℕ) → IsDigitOrDot c → is_reg_name_char c ≡ true
-unfolding is_reg_name_char is_unreserved is_sub_delim
 digit_reg_name c (inl range) = grind (arith, nat_tests)
 digit_reg_name c (inr dot) = grind (arith, nat_tests)
 
@@ -101,7 +98,6 @@ ipv4_lacks marks outside text octets h =
     subst (Lacks marks) (sym h.spelled) (lacks_from marks IsDigitOrDot (λ c d. plain reg_name_set marks outside c (digit_reg_name c d)) _ chars)
 
 future_percent : LacksPercent ipv_future_set
-unfolding is_userinfo_char is_reg_name_char is_unreserved is_sub_delim
 future_percent = refl
 
 without : (a b c d : Bool) → (a && (b && (c && d))) ≡ true → (a && (c && (c && d))) ≡ true
@@ -125,7 +121,6 @@ module _ (marks : List ℕ) (outside : excludes ipv_future_set marks ≡ true) w
   ipv6_lacks text segments h = address_text-lacks marks (λ c e. userinfo_plain c (address_userinfo c e)) text (address_text-ipv6 text segments h)
 
   dot_userinfo : is_userinfo_char 46 ≡ true
-  unfolding is_userinfo_char is_reg_name_char is_unreserved
   dot_userinfo = refl
 
   hex_lacks : (text : List ℕ) → IsUtf8 text → is_valid_for hexdig_set text ≡ true → Lacks marks text

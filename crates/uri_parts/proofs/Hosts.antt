@@ -6,7 +6,7 @@ use Rattle.std.proofs.lemmas.Bool.{and_parts, or_right, eqb-true, cond-true, con
 use Rattle.std.proofs.lemmas.Bool.Decides.{nat_tests}
 use Rattle.std.proofs.lemmas.Slice.Eq.{bytes_eq-Decides}
 use Rattle.std.proofs.lemmas.Option.{none-some}
-use Rattle.uri_pct.specs.Sets.{TableSet, LacksPercent, is_one_of, ipv_future_set, reg_name_set, is_userinfo_char, is_reg_name_char, is_unreserved, is_sub_delim}
+use Rattle.uri_pct.specs.Sets.{TableSet, LacksPercent, is_one_of, ipv_future_set, reg_name_set}
 use Rattle.uri_pct.specs.Tokens.{is_valid_for}
 use Rattle.uri_pct.proofs.Cuts.{excludes}
 use Rattle.uri_parts.specs.Components.{Lacks, starts}
@@ -93,11 +93,9 @@ is_host-sound names text t = ⊎_elim
     (cases_Bool (starts 91 text))
 
 bracket_outside : excludes ipv_future_set (codes "]") ≡ true
-unfolding is_userinfo_char is_reg_name_char is_unreserved is_sub_delim
 bracket_outside = refl
 
 pub name_marks_outside : excludes reg_name_set (codes "@:[") ≡ true
-unfolding is_reg_name_char is_unreserved is_sub_delim
 name_marks_outside = refl
 
 pub utf8_bracketed : (address : List ℕ) → IsUtf8 (bracketed address) → IsUtf8 address

@@ -4,7 +4,7 @@ use Rattle.std.specs.Prelude.{codes, is_some}
 use Rattle.std.specs.Str.{chars}
 use Rattle.std.proofs.lemmas.Bool.{cases_lt, cond-true, cond-false, lt-ltb, le-ltb, and_parts, and_from}
 use Rattle.std.proofs.lemmas.Bool.Decides.{nat_tests}
-use Rattle.uri_pct.specs.Sets.{TableSet, is_one_of, is_scheme_char, is_segment_nz_nc_char, is_path_char, is_query_char, is_pchar, is_userinfo_char, is_reg_name_char, is_unreserved, is_sub_delim, segment_nz_nc_set, isegment_nz_nc_set, path_set, userinfo_set, reg_name_set, query_set, fragment_set, allows_past_ascii}
+use Rattle.uri_pct.specs.Sets.{TableSet, is_one_of, is_scheme_char, is_segment_nz_nc_char, is_path_char, segment_nz_nc_set, isegment_nz_nc_set, path_set, userinfo_set, reg_name_set, query_set, fragment_set, allows_past_ascii}
 use Rattle.uri_pct.specs.Tokens.{is_valid_for, tokens_of}
 use Rattle.uri_pct.specs.Fronts.{allows_first}
 use Rattle.uri_parts.specs.Grammar.{Kind, uri, uri_ref, iri, iri_ref, IsOfKind}
@@ -12,15 +12,12 @@ use Rattle.uri_parts.specs.Components.{components}
 use Rattle.uri_parts.proofs.Separations.{Separates}
 
 scheme_in_segment : (c : ℕ) → is_scheme_char c ≡ true → is_segment_nz_nc_char c ≡ true
-unfolding is_scheme_char is_segment_nz_nc_char is_reg_name_char is_unreserved is_sub_delim
 scheme_in_segment c e = grind (arith, nat_tests)
 
 segment_in_path : (c : ℕ) → is_segment_nz_nc_char c ≡ true → is_path_char c ≡ true
-unfolding is_segment_nz_nc_char is_path_char is_pchar
 segment_in_path c e = grind (arith, nat_tests)
 
 path_in_segment : (c : ℕ) → is_one_of (codes ":/") c ≡ false → is_segment_nz_nc_char c ≡ false → is_path_char c ≡ false
-unfolding is_segment_nz_nc_char is_path_char is_pchar
 path_in_segment c m e = grind (arith, nat_tests)
 
 -- the sets of the four kinds differ in flags alone
@@ -48,7 +45,6 @@ first_rest ucschar b bs m e = ⊎_elim
     (cases_lt b 128)
 
 separates : (ucschar iprivate needs_scheme : Bool) → Separates (segment_with ucschar) (kind_with ucschar iprivate needs_scheme)
-unfolding is_scheme_char is_segment_nz_nc_char is_path_char is_query_char is_pchar is_userinfo_char is_reg_name_char is_unreserved is_sub_delim
 separates ucschar iprivate needs_scheme = record {
   userinfo_lacks = refl;
   reg_name_lacks = refl;

@@ -6,7 +6,7 @@ use Rattle.std.specs.Str.{IsUtf8, continuation_len}
 use Rattle.std.proofs.lemmas.List.{drop-drop}
 use Rattle.std.proofs.lemmas.Bool.{cases_Bool, cond-true, cond-false, and_left, and_right, and_parts, eqb-true, not_from_true, not-false, both_ways, false≢true, and_cases, false_from_ne_true, or_left}
 use Rattle.std.proofs.lemmas.Bool.Decides.{nat_tests}
-use Rattle.uri_pct.specs.Sets.{TableSet, LacksPercent, is_one_of, is_scheme_char, scheme_set}
+use Rattle.uri_pct.specs.Sets.{TableSet, LacksPercent, is_one_of, scheme_set}
 use Rattle.uri_pct.specs.Fronts.{front_from, front, after, allows_first, begins_hex}
 use Rattle.uri_pct.proofs.Cuts.{to_mark, excludes, front_zero_mark, front_cons, other_len, mark_len}
 use Rattle.uri_pct.proofs.Fronts.{front-after, front-within}
@@ -93,11 +93,9 @@ colon_first bs e = any_colon bs ∙ ⊎_elim
     (cases_Bool (starts 58 (from_any (codes ":/?#") bs)))
 
 pub scheme_lacks : LacksPercent scheme_set
-unfolding is_scheme_char
 scheme_lacks = refl
 
 pub scheme_marks : excludes scheme_set (codes ":/?#") ≡ true
-unfolding is_scheme_char
 scheme_marks = refl
 
 module _ (segment : TableSet) (kind : Kind) (w : Separates segment kind) where

@@ -28,7 +28,6 @@ past_ascii_scalar set c e = ⊎_elim
     (or_cases (set.ucschar && is_ucschar c) (set.iprivate && is_iprivate c) e)
 
 pub unreserved_below : (c : ℕ) → is_unreserved c ≡ true → c < 128
-unfolding is_unreserved
 unreserved_below c e = grind (arith, nat_tests)
 
 -- a character other than `%`
@@ -36,7 +35,6 @@ printable_char : (c : ℕ) → IsScalar c → eqb c 37 ≡ false → is_printabl
 printable_char c scalar e = and_from _ _ (and_from _ true scalar refl) (not_from_false _ e)
 
 pub printable_allowed : (set : TableSet) (c : ℕ) → LacksPercent set → allows set c ≡ true → is_printable (Char c) ≡ true
-unfolding allows
 printable_allowed set c lacks e = ⊎_elim
     (λ h. let low : set.ascii c ≡ true = sym (cond-true _ _ _ (lt-ltb c 128 h)) ∙ e in
     printable_char c (low_scalar c (omega arith)) (false_from_ne_true _ (λ p. false≢true (sym lacks ∙ ap set.ascii (sym (eqb-true c 37 p)) ∙ low))))
@@ -45,7 +43,6 @@ printable_allowed set c lacks e = ⊎_elim
     (cases_lt c 128)
 
 unreserved_printable : (c : ℕ) → is_unreserved c ≡ true → eqb c 37 ≡ false
-unfolding is_unreserved
 unreserved_printable c e = grind (arith, nat_tests)
 
 pub printable_readable : (set : TableSet) (c : ℕ) → is_readable set c ≡ true → is_printable (Char c) ≡ true
@@ -57,7 +54,7 @@ printable_readable set c e = ⊎_elim
 
 -- a readable character is one of the set
 pub allows_readable : (set : TableSet) (c : ℕ) → IsSubset unreserved_set set → is_readable set c ≡ true → allows set c ≡ true
-unfolding is_readable allows
+unfolding is_readable
 allows_readable set c wide e = ⊎_elim
     (λ u. cond-true _ _ _ (lt-ltb c 128 (unreserved_below c u)) ∙ wide.ascii c u)
     (λ p. cond-false _ _ _ (le-ltb c 128 (past_ascii_scalar set c p).0) ∙ p)
@@ -118,13 +115,11 @@ printable_lowered (Octet value) e = e
 
 -- a letter in lower case is unreserved, and every other character stays
 lower_cases : (c : ℕ) → (to_ascii_lowercase c ≡ c) ⊎ (is_unreserved (to_ascii_lowercase c) ≡ true)
-unfolding is_unreserved
 lower_cases c = ⊎_elim (λ h. inl (cond-true _ _ _ (lt-ltb c 65 h))) (λ l.
     ⊎_elim (λ h. inr (grind (arith, nat_tests))) (λ k. inl (cond-false _ _ _ (le-ltb c 65 l) ∙ cond-false _ _ _ (le-ltb c 91 k))) (cases_lt c 91))
     (cases_lt c 65)
 
 allows_lowered : (set : TableSet) (t : Token) → IsSubset unreserved_set set → allows_token set t ≡ true → allows_token set (lower_token t) ≡ true
-unfolding allows
 allows_lowered set (Octet value) wide e = e
 allows_lowered set (Char c) wide e = ⊎_elim
     (λ same. ap (allows set) same ∙ e)

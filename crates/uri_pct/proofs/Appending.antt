@@ -13,7 +13,6 @@ use Rattle.uri_pct.proofs.Printing.{char_first, is_valid_for-print, tokens-print
 
 -- a character that a table allows is no `%`
 no_percent : (set : TableSet) (c : ℕ) → LacksPercent set → allows set c ≡ true → eqb c 37 ≡ false
-unfolding allows
 no_percent set c lacks e = false_from_ne_true _ (λ p. false≢true (sym lacks ∙ sym (ap (allows set) (eqb-true c 37 p)) ∙ e))
 
 module _ (set : TableSet) (lacks : LacksPercent set) where

@@ -9,7 +9,7 @@ use Rattle.std.proofs.lemmas.List.{append-nil, take-append-drop, drop_all, lengt
 use Rattle.std.proofs.lemmas.List.Folds.{list_all-append}
 use Rattle.std.proofs.lemmas.List.Sums.{prefix_len-le-length, prefix_len_stops}
 use Rattle.std.proofs.lemmas.Str.{chars-append, chars-encodes, encode_ascii, encodes-chars, scalars-chars, IsUtf8-take, IsUtf8-drop, IsCharBoundary-before_ascii, IsCharBoundary-after_ascii, IsCharBoundary-end}
-use Rattle.uri_pct.specs.Sets.{TableSet, LacksPercent, IsSubset, allows}
+use Rattle.uri_pct.specs.Sets.{TableSet, LacksPercent, IsSubset}
 use Rattle.uri_pct.specs.Texts.{lacks}
 use Rattle.uri_pct.specs.Tokens.{Token, Char, Octet, is_pct_encoded, tokens_of, tokens, allows_token, is_valid_for, IsValidFor}
 use Rattle.uri_pct.specs.Chunks.{Chunk, Text, Byte, onto_chunks, chunks_of, chunks, widest_set}
@@ -73,7 +73,6 @@ pub record BeginsOctet (text : List ℕ) : Type 0 where
 
 -- a `%` by itself is not allowed
 percent_out : (ts : List Token) → list_all (allows_token widest_set) (Char 37 ∷ ts) ≡ true → ⊥
-unfolding allows
 percent_out ts e = false≢true e
 
 octet_is : (high low : ℕ) (cs : List ℕ) → all_scalars (high ∷ low ∷ cs) ≡ true → is_pct_encoded 37 high low ≡ true → list_all (allows_token widest_set) (tokens_of (37 ∷ high ∷ low ∷ cs)) ≡ true

@@ -12,6 +12,8 @@ pub mod TokenCuts
 pub mod Delimiters
 pub mod Splits
 pub mod Decoding
+pub mod Counts
+pub mod Literals
 pub mod OctetTexts
 pub mod Pieces
 pub mod CharacterPieces

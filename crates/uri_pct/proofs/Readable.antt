@@ -13,7 +13,7 @@ none_past set c below = false_from_ne_true _ (λ e. let p = past_ascii_scalar se
 
 -- the unreserved characters, with the flags of the set
 pub allows_where_readable : (set : TableSet) (c : ℕ) → allows (set_of_masks 0x03FF600000000000 0x47FFFFFE87FFFFFE false set.ucschar set.iprivate) c ≡ is_readable set c
-unfolding is_readable allows allows_past_ascii
+unfolding is_readable allows_past_ascii
 allows_where_readable set c = ⊎_elim
     (λ below. cond-true _ _ _ (lt-ltb c 128 below) ∙ ap (λ (s : TableSet). s.ascii c) unreserved_table ∙ sym (or-false (is_unreserved c)) ∙ ap (λ b. is_unreserved c || b) (sym (none_past set c below)))
     (λ past. cond-false _ _ _ (le-ltb c 128 past) ∙ ap (λ b. b || allows_past_ascii set c) (sym (unreserved_past c past)))

@@ -9,7 +9,7 @@ use Rattle.std.proofs.lemmas.List.Folds.{list_all-append}
 use Rattle.std.proofs.lemmas.List.{length-append}
 use Rattle.std.proofs.Math.Seq.{get_or-append_seam, take-append_seam}
 use Rattle.std.proofs.lemmas.Str.{chars-append, IsUtf8-take, IsCharBoundary-before_ascii}
-use Rattle.uri_pct.specs.Sets.{TableSet, is_reserved, is_gen_delim, is_sub_delim}
+use Rattle.uri_pct.specs.Sets.{TableSet, is_reserved}
 use Rattle.uri_pct.specs.Tokens.{Char, Octet, is_pct_encoded, tokens_of, tokens, allows_token, is_valid_for}
 use Rattle.uri_pct.proofs.Printing.{char_first}
 
@@ -21,11 +21,9 @@ pub record IsMark (c : ℕ) : Type 0 where
 
 -- each reserved character is one
 pub reserved_mark : (c : ℕ) → is_reserved c ≡ true → IsMark c
-unfolding is_reserved is_gen_delim is_sub_delim
 reserved_mark c e = record { ascii = grind (arith, nat_tests); no_digit = grind (arith, nat_tests); no_percent = grind (arith, nat_tests) }
 
 pub slash_reserved : is_reserved 47 ≡ true
-unfolding is_reserved is_gen_delim is_sub_delim
 slash_reserved = refl
 
 no_octet_2 : (c d e : ℕ) → is_ascii_hexdigit d ≡ false → is_pct_encoded c d e ≡ false

@@ -34,11 +34,9 @@ unfolding allows_first
 allows_first-past set b rest h = cond-false _ _ _ (le-ltb b 128 h)
 
 pub allows-ascii : (set : TableSet) (c : ℕ) → c < 128 → allows set c ≡ set.ascii c
-unfolding allows
 allows-ascii set c h = cond-true _ _ _ (lt-ltb c 128 h)
 
 pub allows-past : (set : TableSet) (c : ℕ) → 128 ≤ c → allows set c ≡ allows_past_ascii set c
-unfolding allows
 allows-past set c h = cond-false _ _ _ (le-ltb c 128 h)
 
 regroup : (x y z : Bool) → (y && z) ≡ false → ((x && y) && z) ≡ false

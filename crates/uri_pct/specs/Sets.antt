@@ -9,43 +9,43 @@ abbrev pub is_one_of : List ℕ → ℕ → Bool
 is_one_of text c = list_any (λ x. x == c) text
 
 -- RFC 3986, section 2.3
-unfoldable pub is_unreserved : ℕ → Bool
+abbrev pub is_unreserved : ℕ → Bool
 is_unreserved c = is_ascii_alphabetic c || is_ascii_digit c || is_one_of (codes "-._~") c
 
 -- RFC 3986, section 2.2
-unfoldable pub is_gen_delim : ℕ → Bool
+abbrev pub is_gen_delim : ℕ → Bool
 is_gen_delim c = is_one_of (codes ":/?#[]@") c
 
-unfoldable pub is_sub_delim : ℕ → Bool
+abbrev pub is_sub_delim : ℕ → Bool
 is_sub_delim c = is_one_of (codes "!$&'()*+,;=") c
 
-unfoldable pub is_reserved : ℕ → Bool
+abbrev pub is_reserved : ℕ → Bool
 is_reserved c = is_gen_delim c || is_sub_delim c
 
 -- RFC 3986, section 3.1
-unfoldable pub is_scheme_char : ℕ → Bool
+abbrev pub is_scheme_char : ℕ → Bool
 is_scheme_char c = is_ascii_alphabetic c || is_ascii_digit c || is_one_of (codes "+-.") c
 
 -- RFC 3986, section 3.2.2: the characters of a registered name
-unfoldable pub is_reg_name_char : ℕ → Bool
+abbrev pub is_reg_name_char : ℕ → Bool
 is_reg_name_char c = is_unreserved c || is_sub_delim c
 
 -- RFC 3986, section 3.2.1; those of an IPvFuture address too, section 3.2.2
-unfoldable pub is_userinfo_char : ℕ → Bool
+abbrev pub is_userinfo_char : ℕ → Bool
 is_userinfo_char c = is_reg_name_char c || c == 58
 
 -- RFC 3986, section 3.3
-unfoldable pub is_pchar : ℕ → Bool
+abbrev pub is_pchar : ℕ → Bool
 is_pchar c = is_reg_name_char c || is_one_of (codes ":@") c
 
-unfoldable pub is_segment_nz_nc_char : ℕ → Bool
+abbrev pub is_segment_nz_nc_char : ℕ → Bool
 is_segment_nz_nc_char c = is_reg_name_char c || c == 64
 
-unfoldable pub is_path_char : ℕ → Bool
+abbrev pub is_path_char : ℕ → Bool
 is_path_char c = is_pchar c || c == 47
 
 -- RFC 3986, sections 3.4 and 3.5: the characters of a query and of a fragment
-unfoldable pub is_query_char : ℕ → Bool
+abbrev pub is_query_char : ℕ → Bool
 is_query_char c = is_pchar c || is_one_of (codes "/?") c
 
 -- RFC 3987, section 2.2: the characters past ASCII that stand in every part of an IRI
@@ -73,7 +73,7 @@ pub record TableSet : Type 0 where
 unfoldable pub allows_past_ascii : TableSet → ℕ → Bool
 allows_past_ascii set c = set.ucschar && is_ucschar c || set.iprivate && is_iprivate c
 
-unfoldable pub allows : TableSet → ℕ → Bool
+abbrev pub allows : TableSet → ℕ → Bool
 allows set c = if nat_lt c 128 then set.ascii c else allows_past_ascii set c
 
 -- `%` stands for no character of the set

@@ -1,5 +1,5 @@
 //! Decoding of percent-encoded texts (RFC 3986, section 2.1).
-ghost use Rattle.std.specs.Prelude.{◌≡◌, ◌==◌, IsTrue, IfOk, IsOkAnd};
+ghost use Rattle.std.specs.Prelude.{◌≡◌, ◌<◌, ◌^◌, ◌==◌, IsTrue, IfOk, IsOkAnd, length};
 ghost use Rattle.std.specs.List.{position_or_len};
 ghost use Rattle.uri_pct.specs.Chunks.{widest_set};
 ghost use Rattle.uri_pct.specs.Texts.{is_unencoded};
@@ -116,14 +116,16 @@ impl<'a> Iterator for Decode<'a> {
 }
 
 impl<'a, E: Encoder> EStr<'a, E> {
-    ghost use Rattle.uri_pct.specs.Decodes.{undecoded};
+    ghost use Rattle.uri_pct.specs.Decodes.{undecoded, chunks_left};
     ghost use Rattle.uri_pct.specs.EStrs.{text_of};
 
     /// The text to be decoded. The table of `E` allows percent-encoded octets:
-    /// `Table::allows_pct_encoded` tests it.
+    /// `E::table().allows_pct_encoded` tests it. The number of its parts fits `usize`, so that
+    /// `count` may be called.
     pub fn decode(self) -> Decode<'a>
         requires { IsTrue (E.set).pct_encoded }
-        ensures { undecoded result ≡ text_of self.entry }
+        ensures text { undecoded result ≡ text_of self.entry }
+        ensures fits { length (chunks_left result) < 2 ^ 64 }
     {
         let octets = E::table().allows_pct_encoded();
         prove!(octets);

@@ -90,7 +90,8 @@ impl<E: Encoder> EString<E> {
     /// each other as the octets of its UTF-8 (RFC 3986, section 2.1).
     ///
     /// The table of `E` allows all that the table of `SubE` allows, and this one allows
-    /// percent-encoded octets: `Table::is_subset` and `Table::allows_pct_encoded` test it.
+    /// percent-encoded octets: `SubE::table().is_subset` and `SubE::table().allows_pct_encoded`
+    /// test it.
     /// Where memory is refused, the text is as it was.
     pub fn encode_str<SubE: Encoder>(&mut self, text: &str) -> Result<(), AllocError>
         requires subset { IsSubset SubE.set E.set }
@@ -107,7 +108,8 @@ impl<E: Encoder> EString<E> {
     /// byte of an ill-formed part as an octet (RFC 3986, section 2.1).
     ///
     /// The table of `E` allows all that the table of `SubE` allows, and this one allows
-    /// percent-encoded octets: `Table::is_subset` and `Table::allows_pct_encoded` test it.
+    /// percent-encoded octets: `SubE::table().is_subset` and `SubE::table().allows_pct_encoded`
+    /// test it.
     /// Where memory is refused, the text is as it was.
     pub fn encode_bytes<SubE: Encoder>(&mut self, bytes: &[u8]) -> Result<(), AllocError>
         requires subset { IsSubset SubE.set E.set }
@@ -120,7 +122,7 @@ impl<E: Encoder> EString<E> {
         Ok(())
     }
 
-    /// Appends a character that the table of `E` allows: `Table::allows` tests it.
+    /// Appends a character that the table of `E` allows: `E::table().allows` tests it.
     ///
     /// Where memory is refused, which it isn't within the capacity, the text is as it was.
     pub fn push(&mut self, ch: char) -> Result<(), AllocError>

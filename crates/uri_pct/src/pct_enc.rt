@@ -110,7 +110,7 @@ impl<'a, E: Encoder> EStr<'a, E> {
     }
 
     /// The same text, for an encoder whose table allows all that the table of `E` allows:
-    /// `Table::is_subset` tests it.
+    /// `E::table().is_subset` tests it.
     pub fn upcast<SuperE: Encoder>(self) -> EStr<'a, SuperE>
         requires { IsSubset E.set SuperE.set }
         ensures { text_of result ≡ text_of self.entry }
@@ -122,8 +122,8 @@ impl<'a, E: Encoder> EStr<'a, E> {
     }
 
     /// The byte as a percent-encoded octet, `%` and two upper-case hexadecimal digits
-    /// (RFC 3986, section 2.1). The table of `E` allows such octets: `Table::allows_pct_encoded`
-    /// tests it.
+    /// (RFC 3986, section 2.1). The table of `E` allows such octets:
+    /// `E::table().allows_pct_encoded` tests it.
     pub fn encode_byte(byte: u8) -> EStr<'static, E>
         requires { IsTrue (E.set).pct_encoded }
         ensures { text_of result ≡ text_of_token (Octet byte) }

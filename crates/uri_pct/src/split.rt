@@ -1,5 +1,5 @@
 //! Texts cut at delimiters (RFC 3986, section 2.2).
-ghost use Rattle.std.specs.Prelude.{◌≡◌, ◌==◌, IsTrue, IfSome, MatchOption, true, drop, is_some};
+ghost use Rattle.std.specs.Prelude.{◌≡◌, ◌==◌, IsTrue, IfSome, MatchOption, true, drop, is_some, length, ◌<◌, ◌^◌};
 ghost use Rattle.std.specs.List.{slice_split, join_with_byte, AllPass};
 ghost use Rattle.uri_pct.specs.Sets.{is_reserved};
 ghost use Rattle.uri_pct.specs.Texts.{lacks, is_absolute, IsFirstCut, IsLastCut};
@@ -92,13 +92,17 @@ impl<'a, E: Encoder> EStr<'a, E> {
 
     /// The pieces between the places of `delimiter`, which is reserved (RFC 3986, section 2.2):
     /// `RESERVED.allows` tests it. No piece holds the delimiter, and joined by it they are the
-    /// text; the empty text is one empty piece.
+    /// text; the empty text is one empty piece. Their number fits `usize`, so that `count` may be
+    /// called.
     pub fn split(self, delimiter: char) -> Split<'a, E>
         requires { IsTrue (is_reserved delimiter) }
         ensures pieces { pieces_left result ≡ slice_split (λ b. b == delimiter) (text_of self.entry) }
         ensures joined { join_with_byte delimiter (pieces_left result) ≡ text_of self.entry }
         ensures apart { AllPass (lacks delimiter) (pieces_left result) }
+        ensures fits { length (pieces_left result) < 2 ^ 64 }
     {
+        // What is read is in memory, so its length is known to fit.
+        let _text = self.as_str();
         Split {
             rest: Some(self),
             delimiter,
@@ -111,11 +115,13 @@ impl<'a, E: PathEncoder> EStr<'a, E> {
     ghost use Rattle.uri_pct.specs.Splits.{pieces_left};
 
     /// The segments of the path (RFC 3986, section 3.3): what stands behind its first `/`, cut at
-    /// each further `/`; or `None` exactly if the path does not begin with `/`.
+    /// each further `/`; or `None` exactly if the path does not begin with `/`. Their number fits
+    /// `usize`.
     pub fn segments_if_absolute(self) -> Option<Split<'a, E>>
         ensures absolute { is_some result ≡ is_absolute (text_of self.entry) }
         ensures segments { IfSome result
             (λ s. pieces_left s ≡ slice_split (λ b. b == 47) (drop 1 (text_of self.entry))) }
+        ensures fits { IfSome result (λ s. length (pieces_left s) < 2 ^ 64) }
     {
         if self.is_rootless() {
             return None;

@@ -25,7 +25,9 @@ impl Table {
 
     /// The characters of these codes, and no flag.
     ///
-    /// Each byte is ASCII and not `%`; the list may be empty.
+    /// Each byte is ASCII and not `%`; the list may be empty. A function of the caller's with the
+    /// clause `result ≡ list_all is_plain_ascii bytes.now` tests it, whose body is
+    /// `bytes.iter().all(|&byte| byte < 128 && byte != b'%')`.
     pub fn new(bytes: &[u8]) -> Table
         requires { IsTrue (list_all is_plain_ascii bytes.now) }
         ensures { set_of result ≡ plain (is_one_of bytes.now) }
@@ -169,7 +171,7 @@ impl Table {
     }
 
     /// Whether the character may stand for itself.
-    #[tactic(auto, using(std::proofs::lemmas::Bool::Decides::nat_tests), unfolding(crate::specs::Sets::allows))]
+    #[tactic(auto, using(std::proofs::lemmas::Bool::Decides::nat_tests))]
     pub fn allows(&self, ch: char) -> bool
         ensures { result ≡ allows (set_of self.now) ch }
     {

@@ -1,6 +1,7 @@
-use Rattle.std.proofs.Common.{subst}
+use Rattle.std.proofs.Common.{subst, arith}
 use Rattle.uri_pct.specs.Chunks.{widest_set}
 use Rattle.uri_pct.specs.Sets.{LacksPercent}
+use Rattle.uri_pct.proofs.Counts.{length-chunks}
 use Rattle.uri_pct.proofs.EStrs.{valid_in_more}
 use Rattle.uri_pct.proofs.Decoding.{in_widest}
 use Rattle.uri_pct.proofs.Percent.{lacks_percent}
@@ -10,3 +11,6 @@ pub of_text-requires : goal.of_text-requires
 of_text-requires g c =
     let lacks = subst LacksPercent c.table.ensures (lacks_percent c.table.result) in
     valid_in_more g.E.Encoder.set widest_set c.as_str.result.now (in_widest g.E.Encoder.set lacks) c.as_str.ensures.valid
+
+pub returns-clause-fits : goal.returns-clause-fits
+returns-clause-fits g c = rw c.of_text.ensures (omega (arith, length-chunks c.as_str.result.now c.as_str.utf8))

@@ -1,0 +1,31 @@
+//! Builders that are handed a closure.
+#![tactic(auto)]
+
+use fluent_uri::UriRef;
+use fluent_uri::build::{BuildError, Builder};
+use fluent_uri::pct_enc::EStr;
+use fluent_uri::pct_enc::encoder::{Path, Query};
+use std::alloc::Global;
+
+/// `optional` is handed a step of the builder.
+pub fn with_the_query_if_any(
+    alloc: Global,
+    path: EStr<'_, Path>,
+    query: Option<EStr<'_, Query>>,
+) -> Result<UriRef<String>, BuildError> {
+    UriRef::<String>::builder(alloc)
+        .path(path)
+        .optional(Builder::query, query)
+        .build()
+}
+
+/// `authority_with` is handed a closure that answers another builder.
+pub fn with_no_authority(
+    alloc: Global,
+    path: EStr<'_, Path>,
+) -> Result<UriRef<String>, BuildError> {
+    UriRef::<String>::builder(alloc)
+        .authority_with(|_| UriRef::<String>::builder(alloc))
+        .path(path)
+        .build()
+}

@@ -1,0 +1,32 @@
+//! How many pieces and parts there are.
+#![tactic(auto)]
+
+ghost use Rattle.std.specs.Prelude.{◌≡◌, ◌==◌, length};
+ghost use Rattle.std.specs.List.{slice_split};
+ghost use Rattle.fluent_uri.specs.Chunks.{chunks};
+ghost use Rattle.fluent_uri.specs.EStrs.{text_of};
+
+use fluent_uri::pct_enc::EStr;
+use fluent_uri::pct_enc::encoder::{Path, Query};
+
+/// How many pieces lie between the places of `&`.
+pub fn pair_count(query: EStr<'_, Query>) -> usize
+    ensures { result ≡ length (slice_split (λ b. b == 38) (text_of query.entry)) }
+{
+    query.split('&').count()
+}
+
+/// How many segments an absolute path has.
+pub fn segment_count(path: EStr<'_, Path>) -> usize {
+    match path.segments_if_absolute() {
+        Some(segments) => segments.count(),
+        None => 0,
+    }
+}
+
+/// How many parts a path decodes to.
+pub fn part_count(path: EStr<'_, Path>) -> usize
+    ensures { result ≡ length (chunks (text_of path.entry)) }
+{
+    path.decode().count()
+}

@@ -1,0 +1,46 @@
+//! What is decoded is what was given.
+ghost use Rattle.std.specs.Prelude.{◌≡◌, IfOk, string_bytes};
+ghost use Rattle.fluent_uri.specs.Cows.{cow_items};
+
+use fluent_uri::laws;
+use fluent_uri::pct_enc::encoder::{Data, IData, IQuery, Path, Query};
+use fluent_uri::pct_enc::{CowSlice, CowStr, DecodeError, EStr, EString};
+use std::alloc::{AllocError, Global};
+
+/// The text, encoded for a query and decoded again.
+pub fn echoed(alloc: Global, text: &str) -> Result<String, DecodeError>
+    ensures { IfOk result (λ s. string_bytes s ≡ text.now) }
+{
+    let mut encoded = EString::<Query>::new(alloc);
+    encoded.encode_str::<Data>(text)?;
+    match encoded.as_estr().decode().to_string(alloc)? {
+        CowStr::Borrowed(text) => Ok(String::from_str(alloc, text)?),
+        CowStr::Owned(text) => Ok(text),
+    }
+}
+
+/// The text, encoded for the query of an IRI and decoded again.
+pub fn echoed_in_an_iri(alloc: Global, text: &str) -> Result<String, DecodeError>
+    ensures { IfOk result (λ s. string_bytes s ≡ text.now) }
+{
+    let mut encoded = EString::<IQuery>::new(alloc);
+    encoded.encode_str::<IData>(text)?;
+    match encoded.as_estr().decode().to_string(alloc)? {
+        CowStr::Borrowed(text) => Ok(String::from_str(alloc, text)?),
+        CowStr::Owned(text) => Ok(text),
+    }
+}
+
+/// The same, by the law alone.
+#[tactic(auto)]
+pub fn echoed_by_the_law(alloc: Global, text: &str) -> Result<String, DecodeError>
+    ensures { IfOk result (λ s. string_bytes s ≡ text.now) }
+{
+    laws::encoding();
+    let mut encoded = EString::<Query>::new(alloc);
+    encoded.encode_str::<Data>(text)?;
+    match encoded.as_estr().decode().to_string(alloc)? {
+        CowStr::Borrowed(text) => Ok(String::from_str(alloc, text)?),
+        CowStr::Owned(text) => Ok(text),
+    }
+}

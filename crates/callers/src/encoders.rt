@@ -1,0 +1,103 @@
+//! The encoders, each under its public name, have the sets of their rules.
+#![tactic(auto)]
+
+ghost use Rattle.std.specs.Prelude.{◌≡◌};
+ghost use Rattle.fluent_uri.specs.Sets.{userinfo_set, reg_name_set, digit_set, path_set, query_set, fragment_set, iuserinfo_set, ireg_name_set, ipath_set, iquery_set, ifragment_set, data_set, idata_set};
+ghost use Rattle.fluent_uri.specs.Tables.{set_of};
+
+use fluent_uri::pct_enc::Table;
+use fluent_uri::pct_enc::encoder::{
+    Data, Encoder, Fragment, IData, IFragment, IPath, IQuery, IRegName, IUserinfo, Path,
+    PathEncoder, Port, Query, RegName, Userinfo,
+};
+
+/// The table of `Userinfo`.
+pub fn userinfo() -> Table
+    ensures { set_of result ≡ userinfo_set }
+{
+    Userinfo::table()
+}
+
+/// The table of `RegName`.
+pub fn reg_name() -> Table
+    ensures { set_of result ≡ reg_name_set }
+{
+    RegName::table()
+}
+
+/// The table of `Port`.
+pub fn port() -> Table
+    ensures { set_of result ≡ digit_set }
+{
+    Port::table()
+}
+
+/// The table of `Path`.
+pub fn path() -> Table
+    ensures { set_of result ≡ path_set }
+{
+    Path::table()
+}
+
+/// The table of `Query`.
+pub fn query() -> Table
+    ensures { set_of result ≡ query_set }
+{
+    Query::table()
+}
+
+/// The table of `Fragment`.
+pub fn fragment() -> Table
+    ensures { set_of result ≡ fragment_set }
+{
+    Fragment::table()
+}
+
+/// The table of `IUserinfo`.
+pub fn iuserinfo() -> Table
+    ensures { set_of result ≡ iuserinfo_set }
+{
+    IUserinfo::table()
+}
+
+/// The table of `IRegName`.
+pub fn ireg_name() -> Table
+    ensures { set_of result ≡ ireg_name_set }
+{
+    IRegName::table()
+}
+
+/// The table of `IPath`.
+pub fn ipath() -> Table
+    ensures { set_of result ≡ ipath_set }
+{
+    IPath::table()
+}
+
+/// The table of `IQuery`.
+pub fn iquery() -> Table
+    ensures { set_of result ≡ iquery_set }
+{
+    IQuery::table()
+}
+
+/// The table of `IFragment`.
+pub fn ifragment() -> Table
+    ensures { set_of result ≡ ifragment_set }
+{
+    IFragment::table()
+}
+
+/// The table of `Data`.
+pub fn data() -> Table
+    ensures { set_of result ≡ data_set }
+{
+    Data::table()
+}
+
+/// The table of `IData`.
+pub fn idata() -> Table
+    ensures { set_of result ≡ idata_set }
+{
+    IData::table()
+}

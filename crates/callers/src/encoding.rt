@@ -1,0 +1,117 @@
+//! Texts that are encoded, decoded, and widened to an encoder that allows more.
+#![tactic(auto)]
+
+use fluent_uri::pct_enc::encoder::{
+    Data, Encoder, Fragment, IData, IPath, IQuery, Path, Query, RegName, Userinfo,
+};
+use fluent_uri::pct_enc::{Decode, EStr, EString};
+use std::alloc::AllocError;
+
+/// Appends data to a path.
+pub fn encode_for_a_path(path: &mut EString<Path>, text: &str) -> Result<(), AllocError> {
+    path.encode_str::<Data>(text)
+}
+
+/// Appends data to a query.
+pub fn encode_for_a_query(query: &mut EString<Query>, text: &str) -> Result<(), AllocError> {
+    query.encode_str::<Data>(text)
+}
+
+/// Appends data to a registered name.
+pub fn encode_for_a_name(name: &mut EString<RegName>, text: &str) -> Result<(), AllocError> {
+    name.encode_str::<Data>(text)
+}
+
+/// Appends data to the query of an IRI.
+pub fn encode_for_an_iri(query: &mut EString<IQuery>, text: &str) -> Result<(), AllocError> {
+    query.encode_str::<IData>(text)
+}
+
+/// Appends what may keep its delimiters.
+pub fn encode_a_path(path: &mut EString<Path>, text: &str) -> Result<(), AllocError> {
+    path.encode_str::<Path>(text)
+}
+
+/// Appends bytes to a query.
+pub fn encode_bytes_for_a_query(
+    query: &mut EString<Query>,
+    bytes: &[u8],
+) -> Result<(), AllocError> {
+    query.encode_bytes::<Data>(bytes)
+}
+
+/// Appends a text, for encoders whose tables pass the tests.
+pub fn encode_if_allowed<E: Encoder, SubE: Encoder>(
+    text: &mut EString<E>,
+    given: &str,
+) -> Result<(), AllocError> {
+    if SubE::table().is_subset(&E::table()) && SubE::table().allows_pct_encoded() {
+        text.encode_str::<SubE>(given)?;
+    }
+    Ok(())
+}
+
+/// Appends bytes, for encoders whose tables pass the tests.
+pub fn encode_bytes_if_allowed<E: Encoder, SubE: Encoder>(
+    text: &mut EString<E>,
+    given: &[u8],
+) -> Result<(), AllocError> {
+    if SubE::table().is_subset(&E::table()) && SubE::table().allows_pct_encoded() {
+        text.encode_bytes::<SubE>(given)?;
+    }
+    Ok(())
+}
+
+/// A path may stand as a query.
+pub fn path_as_query(path: EStr<'_, Path>) -> EStr<'_, Query> {
+    path.upcast()
+}
+
+/// A path of a URI may stand in an IRI.
+pub fn path_of_a_uri(path: EStr<'_, Path>) -> EStr<'_, IPath> {
+    path.upcast()
+}
+
+/// A query may stand as a fragment.
+pub fn query_as_fragment(query: EStr<'_, Query>) -> EStr<'_, Fragment> {
+    query.upcast()
+}
+
+/// The text, for an encoder whose table passes the test.
+pub fn widened_if_allowed<E: Encoder, SuperE: Encoder>(
+    text: EStr<'_, E>,
+) -> Option<EStr<'_, SuperE>> {
+    if E::table().is_subset(&SuperE::table()) {
+        Some(text.upcast())
+    } else {
+        None
+    }
+}
+
+/// The octet of `/`.
+pub fn slash() -> EStr<'static, Userinfo> {
+    EStr::encode_byte(b'/')
+}
+
+/// The octet, for an encoder whose table passes the test.
+pub fn octet_if_allowed<E: Encoder>(byte: u8) -> Option<EStr<'static, E>> {
+    if E::table().allows_pct_encoded() {
+        Some(EStr::encode_byte(byte))
+    } else {
+        None
+    }
+}
+
+/// What a path decodes to.
+pub fn decode_a_path(path: EStr<'_, Path>) -> Decode<'_> {
+    path.decode()
+}
+
+/// What a text decodes to, for an encoder whose table passes the test.
+pub fn decode_if_allowed<E: Encoder>(text: EStr<'_, E>) -> Option<Decode<'_>> {
+    if E::table().allows_pct_encoded() {
+        Some(text.decode())
+    } else {
+        None
+    }
+}

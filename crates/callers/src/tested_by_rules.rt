@@ -1,0 +1,46 @@
+//! Characters that a constant allows.
+
+use fluent_uri::pct_enc::encoder::{Path, Query};
+use fluent_uri::pct_enc::{EStr, EString, Split, table};
+use std::alloc::AllocError;
+
+/// Cut at each place of a character that `RESERVED` allows.
+pub fn pieces(query: EStr<'_, Query>, delimiter: char) -> Option<Split<'_, Query>> {
+    if table::RESERVED.allows(delimiter) {
+        Some(query.split(delimiter))
+    } else {
+        None
+    }
+}
+
+/// Cut at the first place of a character that `RESERVED` allows.
+pub fn cut_at_the_first(
+    query: EStr<'_, Query>,
+    delimiter: char,
+) -> Option<(EStr<'_, Query>, EStr<'_, Query>)> {
+    if table::RESERVED.allows(delimiter) {
+        query.split_once(delimiter)
+    } else {
+        None
+    }
+}
+
+/// Cut at the last place of a character that `RESERVED` allows.
+pub fn cut_at_the_last(
+    path: EStr<'_, Path>,
+    delimiter: char,
+) -> Option<(EStr<'_, Path>, EStr<'_, Path>)> {
+    if table::RESERVED.allows(delimiter) {
+        path.rsplit_once(delimiter)
+    } else {
+        None
+    }
+}
+
+/// Appends a character that `QUERY` allows.
+pub fn push_if_in_a_query(query: &mut EString<Query>, ch: char) -> Result<(), AllocError> {
+    if table::QUERY.allows(ch) {
+        query.push(ch)?;
+    }
+    Ok(())
+}

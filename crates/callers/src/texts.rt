@@ -1,0 +1,33 @@
+//! Texts that were tested.
+#![tactic(auto)]
+
+use fluent_uri::component::Scheme;
+use fluent_uri::pct_enc::EStr;
+use fluent_uri::pct_enc::encoder::{Encoder, Path};
+
+/// The text, if it is valid for any encoder.
+pub fn valid_or_empty<E: Encoder>(text: &str) -> EStr<'_, E> {
+    if EStr::<E>::new(text).is_some() {
+        EStr::new_or_panic(text)
+    } else {
+        EStr::EMPTY
+    }
+}
+
+/// The text, if it is valid for `Path`.
+pub fn path_or_empty(text: &str) -> EStr<'_, Path> {
+    if EStr::<Path>::new(text).is_some() {
+        EStr::new_or_panic(text)
+    } else {
+        EStr::EMPTY
+    }
+}
+
+/// The text, if it is a scheme.
+pub fn scheme_if_one(text: &str) -> Option<Scheme<'_>> {
+    if Scheme::new(text).is_some() {
+        Some(Scheme::new_or_panic(text))
+    } else {
+        None
+    }
+}
