@@ -33,6 +33,7 @@ pub use Rattle.uri_parts.specs.SchemePorts
 pub use Rattle.uri_parts.specs.Schemes
 pub use Rattle.uri_ops.specs.Conversions
 pub use Rattle.uri_ops.specs.Encoded
+pub use Rattle.uri_ops.specs.EncodedTargets
 pub use Rattle.uri_ascii.specs.Parses
 pub use Rattle.uri_ascii.specs.UriRefs
 pub use Rattle.uri_ascii.specs.Uris

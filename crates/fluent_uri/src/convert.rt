@@ -3,6 +3,8 @@ ghost use Rattle.std.specs.Prelude.{◌≡◌, IfOk};
 ghost use Rattle.uri_parts.specs.Grammar.{iri, iri_ref, uri, uri_ref};
 ghost use Rattle.uri_ops.specs.Conversions.{Converts, ConvertsOwned, scheme_refusal, ascii_refusal, uri_refusal};
 ghost use Rattle.uri_ops.specs.Encoded.{encoded_text, MeanTheSame};
+ghost use Rattle.uri_ops.specs.Meaning.{meaning_of};
+ghost use Rattle.uri_ops.specs.Ports.{PortFunction};
 ghost use Rattle.uri_ascii.specs.UriRefs.{uri_ref_text};
 ghost use Rattle.uri_ascii.specs.Uris.{uri_text};
 ghost use Rattle.fluent_uri.specs.IriRefs.{iri_ref_text};
@@ -219,13 +221,13 @@ impl TryFrom<IriRef<String>> for Uri<String> {
     }
 }
 
-#[tactic(auto, using(uri_ops::proofs::Conversions::iri_encoded, uri_ops::proofs::Conversions::iri_means))]
+#[tactic(auto, using(uri_ops::proofs::Conversions::iri_encoded, uri_ops::proofs::Conversions::iri_means, uri_ops::proofs::Conversions::iri_means_under))]
 impl<T: AsStr> Iri<T> {
     /// The IRI as a URI: each character past ASCII becomes the octets of its UTF-8, with
     /// upper-case digits, and all else stays (RFC 3987, section 3.1). No name of a host is written in
     /// Punycode.
     ///
-    /// Read as an IRI it means what the IRI means.
+    /// Read as an IRI it means what the IRI means, whichever default ports there are.
     ///
     /// # Errors
     ///
@@ -237,6 +239,8 @@ impl<T: AsStr> Iri<T> {
     pub fn to_uri(&self, alloc: Global) -> Result<Uri<String>, AllocError>
         ensures text { IfOk result (λ encoded. uri_text encoded ≡ encoded_text (iri_text self.now)) }
         ensures meaning { IfOk result (λ encoded. MeanTheSame iri (uri_text encoded) (iri_text self.now)) }
+        ensures under { (ports : PortFunction) → IfOk result (λ encoded.
+            meaning_of iri ports (uri_text encoded) ≡ meaning_of iri ports (iri_text self.now)) }
     {
         let text = encoded(alloc, self.core().as_str())?;
         match Uri::<String>::parse(text) {
@@ -246,13 +250,14 @@ impl<T: AsStr> Iri<T> {
     }
 }
 
-#[tactic(auto, using(uri_ops::proofs::Conversions::iri_ref_encoded, uri_ops::proofs::Conversions::iri_ref_means))]
+#[tactic(auto, using(uri_ops::proofs::Conversions::iri_ref_encoded, uri_ops::proofs::Conversions::iri_ref_means, uri_ops::proofs::Conversions::iri_ref_means_under))]
 impl<T: AsStr> IriRef<T> {
     /// The IRI reference as a URI reference: each character past ASCII becomes the octets of its UTF-8, with
     /// upper-case digits, and all else stays (RFC 3987, section 3.1). No name of a host is written in
     /// Punycode.
     ///
-    /// Read as an IRI reference it means what the IRI reference means.
+    /// Read as an IRI reference it means what the IRI reference means, whichever default ports
+    /// there are.
     ///
     /// # Errors
     ///
@@ -264,6 +269,9 @@ impl<T: AsStr> IriRef<T> {
     pub fn to_uri_ref(&self, alloc: Global) -> Result<UriRef<String>, AllocError>
         ensures text { IfOk result (λ encoded. uri_ref_text encoded ≡ encoded_text (iri_ref_text self.now)) }
         ensures meaning { IfOk result (λ encoded. MeanTheSame iri_ref (uri_ref_text encoded) (iri_ref_text self.now)) }
+        ensures under { (ports : PortFunction) → IfOk result (λ encoded.
+            meaning_of iri_ref ports (uri_ref_text encoded)
+            ≡ meaning_of iri_ref ports (iri_ref_text self.now)) }
     {
         let text = encoded(alloc, self.core().as_str())?;
         match UriRef::<String>::parse(text) {

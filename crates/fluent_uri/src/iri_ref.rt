@@ -1,12 +1,14 @@
 //! IRI references (RFC 3987, section 2.2).
-ghost use Rattle.std.specs.Prelude.{◌≡◌, ◌↔◌, IsOk, IfOk, IfErr, OnOk, OnErr, None, Some, is_some, option_map, string_bytes, Ok};
+ghost use Rattle.std.specs.Prelude.{◌≡◌, ◌↔◌, IsOk, IfOk, IfErr, OnOk, OnErr, None, Some, is_some, option_map, string_bytes, Ok, true};
 ghost use Rattle.uri_parts.specs.Components.{components};
 ghost use Rattle.uri_parts.specs.Errors.{IsErrorIn};
 ghost use Rattle.uri_parts.specs.Fragments.{IsWithFragment};
-ghost use Rattle.uri_parts.specs.Grammar.{IsOfKind, iri_ref};
+ghost use Rattle.uri_parts.specs.Grammar.{IsOfKind, iri, iri_ref};
 ghost use Rattle.uri_parts.specs.Positions.{AreAt};
 ghost use Rattle.uri_parts.specs.SchemePorts.{default_port};
 ghost use Rattle.uri_ops.specs.Normalizers.{IsNormalForm};
+ghost use Rattle.uri_ops.specs.EncodedTargets.{IsErrorForEncoded, IsTargetOfEncoded};
+ghost use Rattle.uri_ops.specs.NormalTargets.{IsErrorOfMeanings, IsTargetOfMeanings};
 ghost use Rattle.uri_ops.specs.Resolving.{IsRefusalFor};
 ghost use Rattle.uri_ops.specs.Target.{resolution_of};
 
@@ -327,6 +329,14 @@ impl<'a> IriRef<&'a str> {
     ) -> Result<Iri<String>, ResolveError>
         ensures target { IfOk result (λ target. resolution_of (components (iri_text base.now)) (components (iri_ref_text self.entry)) ≡ Ok (iri_text target)) }
         ensures refusal { IfErr result (IsRefusalFor (components (iri_text base.now)) (components (iri_ref_text self.entry))) }
+        ensures encoded { IfOk result (λ target. IsTargetOfEncoded true
+            (iri_text base.now) (iri_ref_text self.entry) (iri_text target)) }
+        ensures encoded_error { IfErr result
+            (IsErrorForEncoded true (iri_text base.now) (iri_ref_text self.entry)) }
+        ensures alike { IfOk result (λ target. IsTargetOfMeanings iri iri_ref
+            (iri_text base.now) (iri_ref_text self.entry) (iri_text target)) }
+        ensures alike_error { IfErr result
+            (IsErrorOfMeanings iri iri_ref (iri_text base.now) (iri_ref_text self.entry)) }
     {
         resolve::resolved_against(alloc, base, &self)
     }
@@ -461,6 +471,14 @@ impl IriRef<String> {
     ) -> Result<Iri<String>, ResolveError>
         ensures target { IfOk result (λ target. resolution_of (components (iri_text base.now)) (components (iri_ref_text self.now)) ≡ Ok (iri_text target)) }
         ensures refusal { IfErr result (IsRefusalFor (components (iri_text base.now)) (components (iri_ref_text self.now))) }
+        ensures encoded { IfOk result (λ target. IsTargetOfEncoded true
+            (iri_text base.now) (iri_ref_text self.now) (iri_text target)) }
+        ensures encoded_error { IfErr result
+            (IsErrorForEncoded true (iri_text base.now) (iri_ref_text self.now)) }
+        ensures alike { IfOk result (λ target. IsTargetOfMeanings iri iri_ref
+            (iri_text base.now) (iri_ref_text self.now) (iri_text target)) }
+        ensures alike_error { IfErr result
+            (IsErrorOfMeanings iri iri_ref (iri_text base.now) (iri_ref_text self.now)) }
     {
         resolve::resolved_against(alloc, base, self)
     }

@@ -1,13 +1,15 @@
 //! URI references (RFC 3986, section 4.1).
-ghost use Rattle.std.specs.Prelude.{◌≡◌, ◌↔◌, IsOk, IfOk, IfErr, OnOk, OnErr, None, Some, is_some, option_map, string_bytes, Ok};
+ghost use Rattle.std.specs.Prelude.{◌≡◌, ◌↔◌, IsOk, IfOk, IfErr, OnOk, OnErr, None, Some, is_some, option_map, string_bytes, Ok, true};
 ghost use Rattle.std.specs.Str.{IsUtf8};
 ghost use Rattle.uri_parts.specs.Components.{components};
 ghost use Rattle.uri_parts.specs.Errors.{IsErrorIn};
 ghost use Rattle.uri_parts.specs.Fragments.{IsWithFragment};
-ghost use Rattle.uri_parts.specs.Grammar.{IsOfKind, uri_ref};
+ghost use Rattle.uri_parts.specs.Grammar.{IsOfKind, uri, uri_ref};
 ghost use Rattle.uri_parts.specs.Positions.{AreAt};
 ghost use Rattle.uri_parts.specs.SchemePorts.{default_port};
 ghost use Rattle.uri_ops.specs.Normalizers.{IsNormalForm};
+ghost use Rattle.uri_ops.specs.EncodedTargets.{IsErrorForEncoded, IsTargetOfEncoded};
+ghost use Rattle.uri_ops.specs.NormalTargets.{IsErrorOfMeanings, IsTargetOfMeanings};
 ghost use Rattle.uri_ops.specs.Resolving.{IsRefusalFor};
 ghost use Rattle.uri_ops.specs.Target.{resolution_of};
 
@@ -330,6 +332,14 @@ impl<'a> UriRef<&'a str> {
     ) -> Result<Uri<String>, ResolveError>
         ensures target { IfOk result (λ target. resolution_of (components (uri_text base.now)) (components (uri_ref_text self.entry)) ≡ Ok (uri_text target)) }
         ensures refusal { IfErr result (IsRefusalFor (components (uri_text base.now)) (components (uri_ref_text self.entry))) }
+        ensures encoded { IfOk result (λ target. IsTargetOfEncoded true
+            (uri_text base.now) (uri_ref_text self.entry) (uri_text target)) }
+        ensures encoded_error { IfErr result
+            (IsErrorForEncoded true (uri_text base.now) (uri_ref_text self.entry)) }
+        ensures alike { IfOk result (λ target. IsTargetOfMeanings uri uri_ref
+            (uri_text base.now) (uri_ref_text self.entry) (uri_text target)) }
+        ensures alike_error { IfErr result
+            (IsErrorOfMeanings uri uri_ref (uri_text base.now) (uri_ref_text self.entry)) }
     {
         resolve::resolved_against(alloc, base, &self)
     }
@@ -464,6 +474,14 @@ impl UriRef<String> {
     ) -> Result<Uri<String>, ResolveError>
         ensures target { IfOk result (λ target. resolution_of (components (uri_text base.now)) (components (uri_ref_text self.now)) ≡ Ok (uri_text target)) }
         ensures refusal { IfErr result (IsRefusalFor (components (uri_text base.now)) (components (uri_ref_text self.now))) }
+        ensures encoded { IfOk result (λ target. IsTargetOfEncoded true
+            (uri_text base.now) (uri_ref_text self.now) (uri_text target)) }
+        ensures encoded_error { IfErr result
+            (IsErrorForEncoded true (uri_text base.now) (uri_ref_text self.now)) }
+        ensures alike { IfOk result (λ target. IsTargetOfMeanings uri uri_ref
+            (uri_text base.now) (uri_ref_text self.now) (uri_text target)) }
+        ensures alike_error { IfErr result
+            (IsErrorOfMeanings uri uri_ref (uri_text base.now) (uri_ref_text self.now)) }
     {
         resolve::resolved_against(alloc, base, self)
     }

@@ -13,8 +13,8 @@ use Rattle.uri_ops.specs.declared.convert.ConvertError.TheVariants.{NoScheme, No
 use Rattle.uri_ops.specs.ComponentSets.{HasComponentSets}
 use Rattle.uri_ops.specs.Conversions.{is_past_ascii, first_past_ascii, scheme_refusal, ascii_refusal, uri_refusal}
 use Rattle.uri_ops.specs.Encoded.{encoded_text, ascii_kind, MeanTheSame}
-use Rattle.uri_ops.specs.Meaning.{bare_meaning_of}
-use Rattle.uri_ops.specs.Ports.{no_defaults}
+use Rattle.uri_ops.specs.Meaning.{bare_meaning_of, meaning_of}
+use Rattle.uri_ops.specs.Ports.{PortFunction, no_defaults}
 use Rattle.uri_ops.proofs.AsciiTexts.{text_ascii}
 use Rattle.uri_ops.proofs.EncodedMeanings.{encoded_is_text, meaning_of-encoded}
 use Rattle.uri_ops.proofs.EncodedPaths.{encoded-ascii}
@@ -138,6 +138,9 @@ module _ (kind : Kind) (sets : HasComponentSets kind) where
   unfolding MeanTheSame
   encoded_means text encoded e u h = ap (bare_meaning_of kind) e ∙ meaning_of-encoded kind sets no_defaults text (record { utf8 = u; grammar = h })
 
+  encoded_means_under : (text encoded : List ℕ) → encoded ≡ encoded_text text → IsUtf8 text → IsOfKind kind text → (ports : PortFunction) → meaning_of kind ports encoded ≡ meaning_of kind ports text
+  encoded_means_under text encoded e u h ports = ap (meaning_of kind ports) e ∙ meaning_of-encoded kind sets ports text (record { utf8 = u; grammar = h })
+
 pub iri_encoded : (text encoded : List ℕ) → encoded ≡ encoded_text text → IsUtf8 text → IsOfKind iri text → IsOfKind uri encoded
 iri_encoded text encoded e u h = encoded_of_kind iri iri_sets text encoded e u h
 
@@ -149,3 +152,9 @@ iri_means text encoded e u h = encoded_means iri iri_sets text encoded e u h
 
 pub iri_ref_means : (text encoded : List ℕ) → encoded ≡ encoded_text text → IsUtf8 text → IsOfKind iri_ref text → MeanTheSame iri_ref encoded text
 iri_ref_means text encoded e u h = encoded_means iri_ref iri_ref_sets text encoded e u h
+
+pub iri_means_under : (text encoded : List ℕ) → encoded ≡ encoded_text text → IsUtf8 text → IsOfKind iri text → (ports : PortFunction) → meaning_of iri ports encoded ≡ meaning_of iri ports text
+iri_means_under text encoded e u h ports = encoded_means_under iri iri_sets text encoded e u h ports
+
+pub iri_ref_means_under : (text encoded : List ℕ) → encoded ≡ encoded_text text → IsUtf8 text → IsOfKind iri_ref text → (ports : PortFunction) → meaning_of iri_ref ports encoded ≡ meaning_of iri_ref ports text
+iri_ref_means_under text encoded e u h ports = encoded_means_under iri_ref iri_ref_sets text encoded e u h ports

@@ -1,16 +1,20 @@
 -- Without characters past ASCII a base and a reference come to the same target without them.
-use Rattle.std.proofs.Common.{◌≡◌, ℕ, true, false, cond, not, List, [], ◌∷◌, ◌++◌, refl, sym, ap, subst, ◌∙◌, ◌&&◌, ◌||◌, ⊎_elim, option_map}
-use Rattle.std.specs.Prelude.{Option, Some, None, Ok, is_some, is_none}
+use Rattle.std.proofs.Common.{◌≡◌, ℕ, Bool, true, false, cond, not, List, [], ◌∷◌, ◌++◌, refl, sym, ap, subst, ◌∙◌, ◌&&◌, ◌||◌, ⊎_elim, option_map}
+use Rattle.std.specs.Prelude.{Option, Some, None, Result, Ok, Err, is_some, is_none, is_ok}
 use Rattle.std.specs.Result.{result_map_both}
 use Rattle.std.specs.List.{list_all}
 use Rattle.std.specs.Str.{IsUtf8, is_utf8}
 use Rattle.std.proofs.lemmas.Str.{IsUtf8-append, IsUtf8-nil, IsUtf8-from_is_utf8, is_utf8-from_IsUtf8}
-use Rattle.std.proofs.lemmas.Bool.{cases_Bool, cond-true, cond-false, cond_both, and_parts, and_from, and_left}
+use Rattle.std.proofs.lemmas.Bool.{cases_Bool, cond-true, cond-false, cond_both, and_parts, and_from, and_left, false≢true}
 use Rattle.uri_parts.specs.Components.{Components, starts, IsRooted, components, recompose}
 use Rattle.uri_parts.proofs.Recompose.{IsSplitOf-components}
 use Rattle.uri_ops.specs.Dots.{is_empty, underflows, directory}
 use Rattle.uri_ops.specs.Target.{Refusal, is_opaque, is_fragment_only, is_refused_as_opaque, merged, joined, cleaned_path, guarded, target_of, target_underflows, resolution_of}
 use Rattle.uri_ops.specs.Encoded.{encoded_text}
+use Rattle.uri_ops.specs.EncodedTargets.{IsTargetOfEncoded, IsErrorForEncoded}
+use Rattle.uri_ops.specs.Resolving.{IsTarget, IsErrorFor}
+use Rattle.uri_ops.specs.declared.resolve.ResolveError.{ResolveError}
+use Rattle.uri_ops.specs.declared.resolve.ResolveError.TheVariants as Of
 use Rattle.uri_ops.proofs.Segments.{Passes, append_passes}
 use Rattle.uri_ops.proofs.Slashed.{slashed, directory_slashed, parent_passes}
 use Rattle.uri_ops.proofs.DotLaws.{by_segments, rooted}
@@ -156,3 +160,24 @@ target_underflows_encoded b t target u v e =
     ∙ ap (λ x. target_underflows (encoded_components base) x) (components-encoded t v)
     ∙ ap (λ (x : Components). starts 47 x.path && underflows x.path) (joined_encoded base r.scheme r.authority r.path r.query r.fragment (components_utf8 b u) merge)
     ∙ path_underflows (joined base r).path (utf8_joined base r (components_utf8 b u) (components_utf8 t v) merge)
+
+-- what is answered for both
+pub target_of_encoded : (allowed : Bool) (b t target : List ℕ) → IsUtf8 b → IsUtf8 t → IsTarget allowed (components b) (components t) target → IsTargetOfEncoded allowed b t target
+target_of_encoded allowed b t target u v h =
+    (resolution_encoded b t u v ∙ ap (result_map_both encoded_text (λ (refusal : Refusal). refusal)) h.0, λ no. target_underflows_encoded b t target u v h.0 ∙ h.1 no)
+
+some_target : (r : Result (List ℕ) Refusal) → is_ok r ≡ true → (target : List ℕ) × (r ≡ Ok target)
+some_target (Ok target) e = (target, refl)
+some_target (Err z) e = absurd (false≢true e)
+
+ok_encoded : (r : Result (List ℕ) Refusal) → is_ok (result_map_both encoded_text (λ (refusal : Refusal). refusal) r) ≡ is_ok r
+ok_encoded (Ok target) = refl
+ok_encoded (Err z) = refl
+
+pub error_for_encoded : (allowed : Bool) (b t : List ℕ) (error : ResolveError) → IsUtf8 b → IsUtf8 t → IsErrorFor allowed (components b) (components t) error → IsErrorForEncoded allowed b t error
+error_for_encoded allowed b t Of.BaseWithFragment u v h = resolution_encoded b t u v ∙ ap (result_map_both encoded_text (λ (refusal : Refusal). refusal)) h
+error_for_encoded allowed b t Of.InvalidReferenceAgainstOpaqueBase u v h = resolution_encoded b t u v ∙ ap (result_map_both encoded_text (λ (refusal : Refusal). refusal)) h
+error_for_encoded allowed b t Of.PathUnderflow u v h =
+    let target = some_target (resolution_of (components b) (components t)) h.0 in
+    (ap is_ok (resolution_encoded b t u v) ∙ ok_encoded (resolution_of (components b) (components t)) ∙ h.0, h.1, target_underflows_encoded b t target.0 u v target.1 ∙ h.2)
+error_for_encoded allowed b t Of.OutOfMemory u v h = ap is_ok (resolution_encoded b t u v) ∙ ok_encoded (resolution_of (components b) (components t)) ∙ h

@@ -1,19 +1,39 @@
 -- Resolving and normalising in one: RFC 3986, sections 5.2 and 6.2.2.
-use Rattle.std.specs.Prelude.{◌≡◌, ℕ, List, Ok}
-use Rattle.uri_parts.specs.Components.{components}
+use Rattle.std.specs.Prelude.{◌≡◌, ℕ, true, List, Ok, Err, is_ok}
+use Rattle.uri_parts.specs.Components.{Components, components}
 use Rattle.uri_parts.specs.Grammar.{Kind}
 use Rattle.uri_ops.specs.Meaning.{meaning_of}
 use Rattle.uri_ops.specs.Normalizers.{IsNormalForm}
 use Rattle.uri_ops.specs.Ports.{PortFunction}
 use Rattle.uri_ops.specs.Resolving.{IsRefusalFor}
-use Rattle.uri_ops.specs.Target.{resolution_of}
+use Rattle.uri_ops.specs.Target.{BaseWithFragment, InvalidReferenceAgainstOpaqueBase, resolution_of}
 use Rattle.uri_ops.specs.Texts.{IsTextOf}
 use Rattle.uri_ops.specs.declared.resolve.ResolveError.{ResolveError}
+use Rattle.uri_ops.specs.declared.resolve.ResolveError.TheVariants as Of
 
 -- another text of the kind with the same meaning, such as the normal text
 pub record MeansTheSame (kind : Kind) (ports : PortFunction) (text other : List ℕ) : Type 0 where
   pub of_kind : IsTextOf kind other
   pub meaning : meaning_of kind ports other ≡ meaning_of kind ports text
+
+-- there is a target, and it means what this text means
+abbrev pub HasTargetMeaning : Kind → PortFunction → List ℕ → List ℕ → List ℕ → Type 0
+HasTargetMeaning kind ports base reference text = (target : List ℕ) × ((resolution_of (components base) (components reference) ≡ Ok target) × (meaning_of kind ports target ≡ meaning_of kind ports text))
+
+-- what an error says of whether there is a target: where dot segments underflow, or memory is refused, there is one
+abbrev pub IsRefusedFor : Components → Components → ResolveError → Type 0
+IsRefusedFor base r Of.BaseWithFragment = resolution_of base r ≡ Err BaseWithFragment
+IsRefusedFor base r Of.InvalidReferenceAgainstOpaqueBase = resolution_of base r ≡ Err InvalidReferenceAgainstOpaqueBase
+IsRefusedFor base r Of.PathUnderflow = is_ok (resolution_of base r) ≡ true
+IsRefusedFor base r Of.OutOfMemory = is_ok (resolution_of base r) ≡ true
+
+-- the target of a base of the first kind and a reference of the second: any that mean the same have a target that means the same
+pub record IsTargetOfMeanings (kind of_reference : Kind) (base reference target : List ℕ) : Type 0 where
+  pub alike : (ports : PortFunction) (b r : List ℕ) → MeansTheSame kind ports base b → MeansTheSame of_reference ports reference r → HasTargetMeaning kind ports b r target
+
+-- the error for a base of the first kind and a reference of the second: any that mean the same are refused alike
+pub record IsErrorOfMeanings (kind of_reference : Kind) (base reference : List ℕ) (error : ResolveError) : Type 0 where
+  pub alike : (ports : PortFunction) (b r : List ℕ) → MeansTheSame kind ports base b → MeansTheSame of_reference ports reference r → IsRefusedFor (components b) (components r) error
 
 -- there is a target, and this is its normal form
 abbrev pub IsNormalFormOfTarget : Kind → PortFunction → List ℕ → List ℕ → List ℕ → Type 0

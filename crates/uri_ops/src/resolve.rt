@@ -5,6 +5,8 @@ ghost use Rattle.std.specs.Str.{IsCharBoundary, IsUtf8};
 ghost use Rattle.uri_parts.specs.Components.{IsRooted, components, has_authority, marked, recompose, starts};
 ghost use Rattle.uri_ops.specs.Dots.{directory, underflows};
 ghost use Rattle.uri_ops.specs.Normalizers.{ports_of};
+ghost use Rattle.uri_ops.specs.EncodedTargets.{IsErrorForEncoded, IsTargetOfEncoded};
+ghost use Rattle.uri_ops.specs.NormalTargets.{IsErrorOfMeanings, IsTargetOfMeanings};
 ghost use Rattle.uri_ops.specs.NormalTargets.{IsNormalTarget, IsRefusedAlike};
 ghost use Rattle.uri_ops.specs.Resolvers.{allows_underflow, base_of};
 ghost use Rattle.uri_ops.specs.Resolving.{IsErrorFor, IsRefusalFor, IsTarget, components_of, finished, is_merged};
@@ -321,6 +323,15 @@ fn resolved_text<B: Ri, Q: RefOf<B>>(
     ensures of_kind { IfOk result (λ text. IsTextOf B.kind (string_bytes text)) }
     ensures target { IfOk result (λ text. IsTarget allow_path_underflow (components (B.text base.now)) (components (Q.text reference.now)) (string_bytes text)) }
     ensures error { IfErr result (IsErrorFor allow_path_underflow (components (B.text base.now)) (components (Q.text reference.now))) }
+    ensures encoded { IfOk result (λ text.
+        IsTargetOfEncoded allow_path_underflow (B.text base.now) (Q.text reference.now)
+        (string_bytes text)) }
+    ensures encoded_error { IfErr result
+        (IsErrorForEncoded allow_path_underflow (B.text base.now) (Q.text reference.now)) }
+    ensures alike { IfOk result (λ text. IsTargetOfMeanings B.kind Q.kind
+        (B.text base.now) (Q.text reference.now) (string_bytes text)) }
+    ensures alike_error { IfErr result
+        (IsErrorOfMeanings B.kind Q.kind (B.text base.now) (Q.text reference.now)) }
 {
     target_text(
         alloc,
@@ -341,6 +352,15 @@ pub fn resolved<B: Ri, Q: RefOf<B>>(
 ) -> Result<B::Owned, ResolveError>
     ensures target { IfOk result (λ target. IsTarget allow_path_underflow (components (B.text base.now)) (components (Q.text reference.now)) (B.owned_text target)) }
     ensures error { IfErr result (IsErrorFor allow_path_underflow (components (B.text base.now)) (components (Q.text reference.now))) }
+    ensures encoded { IfOk result (λ target.
+        IsTargetOfEncoded allow_path_underflow (B.text base.now) (Q.text reference.now)
+        (B.owned_text target)) }
+    ensures encoded_error { IfErr result
+        (IsErrorForEncoded allow_path_underflow (B.text base.now) (Q.text reference.now)) }
+    ensures alike { IfOk result (λ target. IsTargetOfMeanings B.kind Q.kind
+        (B.text base.now) (Q.text reference.now) (B.owned_text target)) }
+    ensures alike_error { IfErr result
+        (IsErrorOfMeanings B.kind Q.kind (B.text base.now) (Q.text reference.now)) }
 {
     let text = resolved_text(alloc, base, reference, allow_path_underflow)?;
     let positions = positions_in::<B::Rules>(text.as_str());
@@ -357,6 +377,14 @@ pub fn resolved_against<B: Ri, Q: RefOf<B>>(
 ) -> Result<B::Owned, ResolveError>
     ensures target { IfOk result (λ target. resolution_of (components (B.text base.now)) (components (Q.text reference.now)) ≡ Ok (B.owned_text target)) }
     ensures refusal { IfErr result (IsRefusalFor (components (B.text base.now)) (components (Q.text reference.now))) }
+    ensures encoded { IfOk result (λ target.
+        IsTargetOfEncoded true (B.text base.now) (Q.text reference.now) (B.owned_text target)) }
+    ensures encoded_error { IfErr result
+        (IsErrorForEncoded true (B.text base.now) (Q.text reference.now)) }
+    ensures alike { IfOk result (λ target. IsTargetOfMeanings B.kind Q.kind
+        (B.text base.now) (Q.text reference.now) (B.owned_text target)) }
+    ensures alike_error { IfErr result
+        (IsErrorOfMeanings B.kind Q.kind (B.text base.now) (Q.text reference.now)) }
 {
     resolved(alloc, base, reference, true)
 }
@@ -398,7 +426,10 @@ impl<R: Ri> Resolver<R> {
     ///   with `/`.
     /// - A reference with a scheme keeps a path that doesn't begin with `/` as it stands.
     ///
-    /// Nothing else of the two texts changes: the target is not normalised.
+    /// Nothing else of the two texts changes: the target is not normalised. A base and a reference
+    /// that mean the same, such as their normal forms, have a target that means the same. With each
+    /// character past ASCII as the octets of its UTF-8 (RFC 3987, section 3.1), base and reference
+    /// have the target changed so. Both are refused alike.
     ///
     /// # Errors
     ///
@@ -413,6 +444,15 @@ impl<R: Ri> Resolver<R> {
     ) -> Result<R::Owned, ResolveError>
         ensures target { IfOk result (λ target. IsTarget (allows_underflow self.now) (components (R.text (base_of self.now))) (components (Q.text reference.now)) (R.owned_text target)) }
         ensures error { IfErr result (IsErrorFor (allows_underflow self.now) (components (R.text (base_of self.now))) (components (Q.text reference.now))) }
+        ensures encoded { IfOk result (λ target.
+            IsTargetOfEncoded (allows_underflow self.now) (R.text (base_of self.now))
+            (Q.text reference.now) (R.owned_text target)) }
+        ensures encoded_error { IfErr result (IsErrorForEncoded (allows_underflow self.now)
+            (R.text (base_of self.now)) (Q.text reference.now)) }
+        ensures alike { IfOk result (λ target. IsTargetOfMeanings R.kind Q.kind
+            (R.text (base_of self.now)) (Q.text reference.now) (R.owned_text target)) }
+        ensures alike_error { IfErr result
+            (IsErrorOfMeanings R.kind Q.kind (R.text (base_of self.now)) (Q.text reference.now)) }
     {
         resolved(alloc, &self.base, reference, self.allow_path_underflow)
     }

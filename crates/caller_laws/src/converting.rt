@@ -1,0 +1,66 @@
+//! IRIs, and the URIs that they are converted to (RFC 3987, section 3.1).
+ghost use Rattle.std.specs.Prelude.{◌≡◌, IfOk, IfErr, true};
+ghost use Rattle.fluent_uri.specs.Components.{components};
+ghost use Rattle.fluent_uri.specs.Encoded.{encoded_text};
+ghost use Rattle.fluent_uri.specs.EncodedTargets.{IsErrorForEncoded};
+ghost use Rattle.fluent_uri.specs.IriRefs.{iri_ref_text};
+ghost use Rattle.fluent_uri.specs.Iris.{iri_text};
+ghost use Rattle.fluent_uri.specs.Resolving.{IsTarget};
+ghost use Rattle.fluent_uri.specs.Uris.{uri_text};
+
+use fluent_uri::resolve::{ResolveError, Resolver};
+use fluent_uri::{Iri, IriRef, Uri};
+use std::alloc::{AllocError, Global};
+
+/// Whether the URI of an IRI, read as an IRI again, has the normal form of the IRI: it has.
+///
+/// # Errors
+///
+/// Only if memory is refused.
+pub fn same_normal_form(alloc: Global, iri: &Iri<String>) -> Result<bool, AllocError>
+    ensures { IfOk result (λ same. same ≡ true) }
+{
+    let converted = Iri::<String>::from(iri.to_uri(alloc)?);
+    Ok(converted.normalize(alloc)? == iri.normalize(alloc)?)
+}
+
+/// The target of a reference against a base, converted: it is the target of the two converted.
+///
+/// # Errors
+///
+/// Those of `Resolver::resolve` for the two, which are those for the two converted.
+pub fn target_as_uri(
+    alloc: Global,
+    base: Iri<&str>,
+    reference: IriRef<&str>,
+    allow_underflow: bool,
+) -> Result<Uri<String>, ResolveError>
+    ensures target { IfOk result (λ target. IsTarget allow_underflow
+        (components (encoded_text (iri_text base.entry)))
+        (components (encoded_text (iri_ref_text reference.entry))) (uri_text target)) }
+    ensures error { IfErr result
+        (IsErrorForEncoded allow_underflow (iri_text base.entry) (iri_ref_text reference.entry)) }
+{
+    let resolver = Resolver::with_base(base).allow_path_underflow(allow_underflow);
+    Ok(resolver.resolve(alloc, &reference)?.to_uri(alloc)?)
+}
+
+/// Whether a base and a reference that are converted first come to the converted target: they do.
+///
+/// # Errors
+///
+/// Those of `Resolver::resolve`.
+pub fn same_target(
+    alloc: Global,
+    base: Iri<&str>,
+    reference: IriRef<&str>,
+) -> Result<bool, ResolveError>
+    ensures { IfOk result (λ same. same ≡ true) }
+{
+    let target = Resolver::with_base(base).resolve(alloc, &reference)?;
+    let of_uris = Resolver::with_base(base.to_uri(alloc)?).resolve(
+        alloc,
+        &reference.to_uri_ref(alloc)?,
+    )?;
+    Ok(target.to_uri(alloc)? == of_uris)
+}

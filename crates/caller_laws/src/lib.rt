@@ -1,0 +1,6 @@
+//! What a caller of `fluent_uri` proves from its contracts alone: each function's contract is a
+//! law, and its body no more than the calls that the law speaks of.
+#![tactic(auto)]
+
+pub mod converting;
+pub mod swapping;
