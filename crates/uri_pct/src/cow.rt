@@ -61,8 +61,7 @@ impl<'a> fmt::Display for CowStr<'a> {
 
     ghost styled_output = { λ text spec. Some (styled_text spec (cow_text text)) };
 
-    /// Prints the text as it stands, with the width, fill, alignment and precision that are asked
-    /// for.
+    /// Prints the text as it stands, padded and cut as the format asks.
     fn fmt<W: fmt::Write>(&self, f: &mut fmt::Formatter<W>) -> fmt::Result {
         f.pad(self.as_str())
     }

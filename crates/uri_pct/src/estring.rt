@@ -190,8 +190,7 @@ impl<E: Encoder> fmt::Display for EString<E> {
 
     ghost styled_output = { λ e spec. Some (styled_text spec (owned_text e)) };
 
-    /// Prints the text as it stands, with the width, fill, alignment and precision that are asked
-    /// for.
+    /// Prints the text as it stands, padded and cut as the format asks.
     fn fmt<W: fmt::Write>(&self, f: &mut fmt::Formatter<W>) -> fmt::Result {
         f.pad(self.as_str())
     }

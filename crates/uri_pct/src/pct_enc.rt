@@ -175,8 +175,7 @@ impl<'a, E: Encoder> fmt::Display for EStr<'a, E> {
 
     ghost styled_output = { λ e spec. Some (styled_text spec (text_of e)) };
 
-    /// Prints the text as it stands, with the width, fill, alignment and precision that are asked
-    /// for.
+    /// Prints the text as it stands, padded and cut as the format asks.
     fn fmt<W: fmt::Write>(&self, f: &mut fmt::Formatter<W>) -> fmt::Result {
         f.pad(self.text)
     }
