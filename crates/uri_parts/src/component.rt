@@ -145,12 +145,16 @@ impl<'a, U: Encoder, R: Encoder> Authority<'a, U, R> {
 
 impl<'a, U: Encoder, R: Encoder> fmt::Display for Authority<'a, U, R> {
     ghost use Rattle.std.specs.Prelude.{Some};
+    ghost use Rattle.std.specs.Fmt.{styled_text};
     ghost use Rattle.uri_parts.specs.AuthorityTexts.{authority_text};
 
     ghost output = { λ a. Some (authority_text a) };
 
+    ghost styled_output = { λ a spec. Some (styled_text spec (authority_text a)) };
+
+    /// Prints the text as it stands, padded and cut as the format asks.
     fn fmt<W: fmt::Write>(&self, f: &mut fmt::Formatter<W>) -> fmt::Result {
-        f.write_str(self.text)
+        f.pad(self.text)
     }
 }
 

@@ -1,5 +1,5 @@
 //! Laws of the definitions that contracts cite, each the contract of a function that does nothing.
-ghost use Rattle.std.specs.Prelude.{◌≡◌, ◌↔◌, ℕ, List, true};
+ghost use Rattle.std.specs.Prelude.{◌≡◌, ◌↔◌, ℕ, List, [], ◌∷◌, true};
 ghost use Rattle.std.specs.Cmp.Lexicographic.{slice_cmp};
 ghost use Rattle.std.specs.Ordering.{nat_cmp};
 ghost use Rattle.std.specs.declared.cmp.Ordering.TheVariants.{Less};
@@ -47,6 +47,20 @@ pub fn ipv6_text_is_read_back(address: &Ipv6Addr)
 {
     let _segments = address.segments();
 }
+
+/// The constants of IPv4 addresses are those of RFC 1122, section 3.2.1.3.
+#[doc(hidden)]
+pub fn ipv4_constants_are_their_addresses()
+    ensures localhost { ipv4_octets Ipv4Addr.LOCALHOST ≡ 127 ∷ 0 ∷ 0 ∷ 1 ∷ [] }
+    ensures unspecified { ipv4_octets Ipv4Addr.UNSPECIFIED ≡ 0 ∷ 0 ∷ 0 ∷ 0 ∷ [] }
+{}
+
+/// The constants of IPv6 addresses are those of RFC 4291, sections 2.5.2 and 2.5.3.
+#[doc(hidden)]
+pub fn ipv6_constants_are_their_addresses()
+    ensures localhost { ipv6_segments Ipv6Addr.LOCALHOST ≡ 0 ∷ 0 ∷ 0 ∷ 0 ∷ 0 ∷ 0 ∷ 0 ∷ 1 ∷ [] }
+    ensures unspecified { ipv6_segments Ipv6Addr.UNSPECIFIED ≡ 0 ∷ 0 ∷ 0 ∷ 0 ∷ 0 ∷ 0 ∷ 0 ∷ 0 ∷ [] }
+{}
 
 /// IPv4 addresses are compared by their octets, first to last.
 #[doc(hidden)]

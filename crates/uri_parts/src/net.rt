@@ -15,6 +15,12 @@ pub struct Ipv4Addr(net::Ipv4Addr);
 impl Ipv4Addr {
     ghost use Rattle.uri_parts.specs.Addresses.{ipv4_octets};
 
+    /// The loopback address, `127.0.0.1` (RFC 1122, section 3.2.1.3).
+    pub const LOCALHOST: Self = Ipv4Addr(net::Ipv4Addr::LOCALHOST);
+
+    /// The address of no host in particular, `0.0.0.0` (RFC 1122, section 3.2.1.3).
+    pub const UNSPECIFIED: Self = Ipv4Addr(net::Ipv4Addr::UNSPECIFIED);
+
     /// The address with these four octets, which prints as `a.b.c.d`.
     pub const fn new(a: u8, b: u8, c: u8, d: u8) -> Self
         ensures { ipv4_octets result ≡ a ∷ b ∷ c ∷ d ∷ [] }
@@ -52,6 +58,30 @@ impl fmt::Display for Ipv4Addr {
     }
 }
 
+impl From<net::Ipv4Addr> for Ipv4Addr {
+    ghost use Rattle.std.specs.Net.Addr as std_addresses;
+    ghost use Rattle.uri_parts.specs.Addresses.{ipv4_octets};
+
+    ghost from_gives = { λ given made. ipv4_octets made ≡ std_addresses.ipv4_octets given };
+
+    /// The same address.
+    fn from(address: net::Ipv4Addr) -> Self {
+        Ipv4Addr(address)
+    }
+}
+
+impl From<Ipv4Addr> for net::Ipv4Addr {
+    ghost use Rattle.std.specs.Net.Addr as std_addresses;
+    ghost use Rattle.uri_parts.specs.Addresses.{ipv4_octets};
+
+    ghost from_gives = { λ given made. std_addresses.ipv4_octets made ≡ ipv4_octets given };
+
+    /// The same address.
+    fn from(address: Ipv4Addr) -> Self {
+        address.0
+    }
+}
+
 /// An IPv6 address: eight segments of 16 bits.
 ///
 /// Addresses are compared by their segments, first to last. One is printed by RFC 5952: in
@@ -63,6 +93,12 @@ pub struct Ipv6Addr(net::Ipv6Addr);
 
 impl Ipv6Addr {
     ghost use Rattle.uri_parts.specs.Addresses.{ipv6_segments};
+
+    /// The loopback address, `::1` (RFC 4291, section 2.5.3).
+    pub const LOCALHOST: Self = Ipv6Addr(net::Ipv6Addr::LOCALHOST);
+
+    /// The address of no host at all, `::` (RFC 4291, section 2.5.2).
+    pub const UNSPECIFIED: Self = Ipv6Addr(net::Ipv6Addr::UNSPECIFIED);
 
     /// The address with these eight segments.
     pub const fn new(a: u16, b: u16, c: u16, d: u16, e: u16, f: u16, g: u16, h: u16) -> Self
@@ -102,6 +138,30 @@ impl fmt::Display for Ipv6Addr {
     }
 }
 
+impl From<net::Ipv6Addr> for Ipv6Addr {
+    ghost use Rattle.std.specs.Net.Addr as std_addresses;
+    ghost use Rattle.uri_parts.specs.Addresses.{ipv6_segments};
+
+    ghost from_gives = { λ given made. ipv6_segments made ≡ std_addresses.ipv6_segments given };
+
+    /// The same address.
+    fn from(address: net::Ipv6Addr) -> Self {
+        Ipv6Addr(address)
+    }
+}
+
+impl From<Ipv6Addr> for net::Ipv6Addr {
+    ghost use Rattle.std.specs.Net.Addr as std_addresses;
+    ghost use Rattle.uri_parts.specs.Addresses.{ipv6_segments};
+
+    ghost from_gives = { λ given made. std_addresses.ipv6_segments made ≡ ipv6_segments given };
+
+    /// The same address.
+    fn from(address: Ipv6Addr) -> Self {
+        address.0
+    }
+}
+
 /// An IP address of either version. Each IPv4 address is less than each IPv6 address.
 #[derive(Clone, Copy, Debug, PartialEq, Eq, PartialOrd, Ord, Hash)]
 pub enum IpAddr {
@@ -120,6 +180,34 @@ impl fmt::Display for IpAddr {
         match self {
             IpAddr::V4(address) => fmt::Display::fmt(address, f),
             IpAddr::V6(address) => fmt::Display::fmt(address, f),
+        }
+    }
+}
+
+impl From<net::IpAddr> for IpAddr {
+    ghost use Rattle.uri_parts.specs.Addresses.{IsSameAddress};
+
+    ghost from_gives = { λ given made. IsSameAddress made given };
+
+    /// The same address, of the same version.
+    fn from(address: net::IpAddr) -> Self {
+        match address {
+            net::IpAddr::V4(address) => IpAddr::V4(address.into()),
+            net::IpAddr::V6(address) => IpAddr::V6(address.into()),
+        }
+    }
+}
+
+impl From<IpAddr> for net::IpAddr {
+    ghost use Rattle.uri_parts.specs.Addresses.{IsSameAddress};
+
+    ghost from_gives = { λ given made. IsSameAddress given made };
+
+    /// The same address, of the same version.
+    fn from(address: IpAddr) -> Self {
+        match address {
+            IpAddr::V4(address) => net::IpAddr::V4(address.into()),
+            IpAddr::V6(address) => net::IpAddr::V6(address.into()),
         }
     }
 }

@@ -73,12 +73,16 @@ impl<'a> Scheme<'a> {
 
 impl<'a> fmt::Display for Scheme<'a> {
     ghost use Rattle.std.specs.Prelude.{Some};
+    ghost use Rattle.std.specs.Fmt.{styled_text};
     ghost use Rattle.uri_parts.specs.Schemes.{scheme_text};
 
     ghost output = { λ s. Some (scheme_text s) };
 
+    ghost styled_output = { λ s spec. Some (styled_text spec (scheme_text s)) };
+
+    /// Prints the text as it stands, padded and cut as the format asks.
     fn fmt<W: fmt::Write>(&self, f: &mut fmt::Formatter<W>) -> fmt::Result {
-        f.write_str(self.text)
+        f.pad(self.text)
     }
 }
 

@@ -1,7 +1,8 @@
 //! Text or bytes that are borrowed where they can be.
-ghost use Rattle.std.specs.Prelude.{◌≡◌};
+ghost use Rattle.std.specs.Prelude.{◌≡◌, IfOk, OnErr, string_bytes};
 
-use std::alloc::AllocError;
+use std::alloc::{AllocError, Global};
+use std::fmt;
 use thiserror::Error;
 
 /// A text that is borrowed or owned.
@@ -20,6 +21,83 @@ pub enum CowSlice<'a, T> {
     Borrowed(&'a [T]),
     /// Items of its own.
     Owned(Vec<T>),
+}
+
+impl<'a> CowStr<'a> {
+    ghost use Rattle.uri_pct.specs.Cows.{cow_text, IsBorrowedText};
+
+    /// The text, for as long as the value is borrowed.
+    pub fn as_str(&self) -> &str
+        ensures { result.now ≡ cow_text self.now }
+    {
+        match self {
+            CowStr::Borrowed(text) => text,
+            CowStr::Owned(text) => text.as_str(),
+        }
+    }
+
+    /// The text as one of its own: a copy, where it is borrowed.
+    ///
+    /// # Errors
+    ///
+    /// Only if memory is refused for a copy. The borrowed text is where it was.
+    pub fn into_owned(self, alloc: Global) -> Result<String, AllocError>
+        ensures text { IfOk result (λ text. string_bytes text ≡ cow_text self.entry) }
+        ensures refused { OnErr result (IsBorrowedText self.entry) }
+    {
+        match self {
+            CowStr::Borrowed(text) => String::from_str(alloc, text),
+            CowStr::Owned(text) => Ok(text),
+        }
+    }
+}
+
+impl<'a> fmt::Display for CowStr<'a> {
+    ghost use Rattle.std.specs.Prelude.{Some};
+    ghost use Rattle.std.specs.Fmt.{styled_text};
+    ghost use Rattle.uri_pct.specs.Cows.{cow_text};
+
+    ghost output = { λ text. Some (cow_text text) };
+
+    ghost styled_output = { λ text spec. Some (styled_text spec (cow_text text)) };
+
+    /// Prints the text as it stands, padded and cut as the format asks.
+    fn fmt<W: fmt::Write>(&self, f: &mut fmt::Formatter<W>) -> fmt::Result {
+        f.pad(self.as_str())
+    }
+}
+
+impl<'a, T> CowSlice<'a, T> {
+    ghost use Rattle.uri_pct.specs.Cows.{cow_items};
+
+    /// The items, for as long as the value is borrowed.
+    pub fn as_slice(&self) -> &[T]
+        ensures { result.now ≡ cow_items self.now }
+    {
+        match self {
+            CowSlice::Borrowed(items) => items,
+            CowSlice::Owned(items) => items.as_slice(),
+        }
+    }
+}
+
+impl<'a, T: Copy> CowSlice<'a, T> {
+    ghost use Rattle.uri_pct.specs.Cows.{cow_items, AreBorrowedItems};
+
+    /// The items as ones of its own: a copy, where they are borrowed.
+    ///
+    /// # Errors
+    ///
+    /// Only if memory is refused for a copy. The borrowed items are where they were.
+    pub fn into_owned(self, alloc: Global) -> Result<Vec<T>, AllocError>
+        ensures items { IfOk result (λ items. items.items ≡ cow_items self.entry) }
+        ensures refused { OnErr result (AreBorrowedItems self.entry) }
+    {
+        match self {
+            CowSlice::Borrowed(items) => Vec::from_slice(alloc, items),
+            CowSlice::Owned(items) => Ok(items),
+        }
+    }
 }
 
 /// Why a text does not decode to text.

@@ -1,5 +1,5 @@
 //! Owned texts that are percent-encoded over an encoder's set (RFC 3986, section 2.1).
-ghost use Rattle.std.specs.Prelude.{◌≡◌, ◌<◌, ◌≤◌, ◌+◌, ◌++◌, ◌∷◌, [], OnOk, OnErr, IfOk, IsTrue, true, encode_utf8, length, string_bytes};
+ghost use Rattle.std.specs.Prelude.{◌≡◌, ◌==◌, ◌<◌, ◌≤◌, ◌+◌, ◌++◌, ◌∷◌, [], OnOk, OnErr, IfOk, IsTrue, true, encode_utf8, length, string_bytes};
 ghost use Rattle.std.specs.String.{string_capacity};
 ghost use Rattle.uri_pct.specs.EStrs.{text_of};
 ghost use Rattle.uri_pct.specs.Encoding.{encode_text, encode_bytes};
@@ -62,6 +62,28 @@ impl<E: Encoder> EString<E> {
         ensures { text_of result ≡ owned_text self.now }
     {
         EStr::new_unchecked(self.text.as_str())
+    }
+
+    /// The text as it stands, for as long as the value is borrowed.
+    pub fn as_str(&self) -> &str
+        ensures text { result.now ≡ owned_text self.now }
+        ensures valid { IsValidFor E.set result.now }
+    {
+        self.as_estr().as_str()
+    }
+
+    /// The length of the text in bytes.
+    pub fn len(&self) -> usize
+        ensures { result ≡ length (owned_text self.now) }
+    {
+        self.text.len()
+    }
+
+    /// Whether the text is empty.
+    pub fn is_empty(&self) -> bool
+        ensures { result ≡ (length (owned_text self.now) == 0) }
+    {
+        self.text.is_empty()
     }
 
     /// How many bytes the text may have before it takes more memory.
@@ -163,12 +185,16 @@ impl<'a, E: Encoder> EStr<'a, E> {
 
 impl<E: Encoder> fmt::Display for EString<E> {
     ghost use Rattle.std.specs.Prelude.{Some};
+    ghost use Rattle.std.specs.Fmt.{styled_text};
     ghost use Rattle.uri_pct.specs.EStrings.{owned_text};
 
     ghost output = { λ e. Some (owned_text e) };
 
+    ghost styled_output = { λ e spec. Some (styled_text spec (owned_text e)) };
+
+    /// Prints the text as it stands, padded and cut as the format asks.
     fn fmt<W: fmt::Write>(&self, f: &mut fmt::Formatter<W>) -> fmt::Result {
-        f.write_str(self.text.as_str())
+        f.pad(self.as_str())
     }
 }
 

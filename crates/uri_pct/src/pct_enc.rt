@@ -168,12 +168,16 @@ impl<'a, E: Encoder> Default for EStr<'a, E> {
 
 impl<'a, E: Encoder> fmt::Display for EStr<'a, E> {
     ghost use Rattle.std.specs.Prelude.{Some};
+    ghost use Rattle.std.specs.Fmt.{styled_text};
     ghost use Rattle.uri_pct.specs.EStrs.{text_of};
 
     ghost output = { λ e. Some (text_of e) };
 
+    ghost styled_output = { λ e spec. Some (styled_text spec (text_of e)) };
+
+    /// Prints the text as it stands, padded and cut as the format asks.
     fn fmt<W: fmt::Write>(&self, f: &mut fmt::Formatter<W>) -> fmt::Result {
-        f.write_str(self.text)
+        f.pad(self.text)
     }
 }
 
