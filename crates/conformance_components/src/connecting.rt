@@ -1,3 +1,4 @@
+use checks::{equal, prints};
 use fluent_uri::component::{Authority, Scheme, SocketError, SocketTarget};
 use fluent_uri::pct_enc::CowStr;
 use fluent_uri::pct_enc::encoder::Encoder;
@@ -5,9 +6,8 @@ use fluent_uri::{IriRef, UriRef};
 use std::alloc::{AllocError, Global};
 use std::hash::{DefaultHasher, Hash, Hasher};
 use std::process::Abort;
-use std::test::Fail;
 
-const DEFAULT_PORTS: [(&str, u16); 44] = [
+const DEFAULT_PORTS: &[(&str, u16)] = &[
     ("aaa", 3868),
     ("aaas", 5658),
     ("acap", 674),
@@ -59,27 +59,28 @@ fn default_port(text: &str) -> Option<u16> {
 }
 
 #[test]
-fn default_ports_in_both_cases_of_letters(rt: HostRuntime) -> Result<(), Fail> {
-    for (scheme, port) in DEFAULT_PORTS {
-        assert_eq!(rt; default_port(scheme), Some(port), "{scheme}");
-        let capitals = scheme.to_ascii_uppercase(rt.alloc())?;
-        assert_eq!(rt; default_port(capitals.as_str()), Some(port), "{capitals}");
+fn default_ports_in_both_cases_of_letters(rt: HostRuntime) {
+    for &(scheme, port) in DEFAULT_PORTS {
+        equal(default_port(scheme), Some(port)).expect(&rt, scheme);
+        let capitals = scheme.to_ascii_uppercase(rt.alloc()).expect(&rt, scheme);
+        equal(default_port(capitals.as_str()), Some(port)).expect(&rt, scheme);
     }
-    Ok(())
 }
 
 #[test]
 fn default_ports_of_mixed_case(rt: HostRuntime) {
-    assert_eq!(rt; default_port("COAP+TCP"), Some(5683));
-    assert_eq!(rt; default_port("Z39.50R"), Some(210));
-    assert_eq!(rt; default_port("hTTp"), Some(80));
+    equal(default_port("COAP+TCP"), Some(5683)).expect(&rt, "COAP+TCP");
+    equal(default_port("Z39.50R"), Some(210)).expect(&rt, "Z39.50R");
+    equal(default_port("hTTp"), Some(80)).expect(&rt, "hTTp");
 }
+
+const WITHOUT_A_DEFAULT_PORT: &[&str] = &["httpx", "htt", "h", "coap+", "z39.50", "mailto", "urn"];
 
 #[test]
 fn schemes_without_a_default_port(rt: HostRuntime) {
-    for scheme in ["httpx", "htt", "h", "coap+", "z39.50", "mailto", "urn"] {
-        assert!(rt; Scheme::new(scheme).is_some());
-        assert_eq!(rt; default_port(scheme), None, "{scheme}");
+    for &text in WITHOUT_A_DEFAULT_PORT {
+        let scheme = Scheme::new(text).expect(&rt, text);
+        equal(scheme.default_port(), None).expect(&rt, text);
     }
 }
 
@@ -89,35 +90,31 @@ fn hash_of(scheme: Scheme<'_>) -> u64 {
     state.finish()
 }
 
-/// RFC 3986, section 3.1.
+/// Pairs of schemes, and whether they are equal (RFC 3986, section 3.1).
+const SCHEMES: &[(&str, &str, bool)] = &[
+    ("HTTP", "http", true),
+    ("z39.50R", "Z39.50r", true),
+    ("http", "https", false),
+    ("a+b", "a-b", false),
+];
+
 #[test]
-fn schemes_are_equal_in_any_case(rt: HostRuntime) -> Result<(), Fail> {
-    for (a, b, equal) in [
-        ("HTTP", "http", true),
-        ("z39.50R", "Z39.50r", true),
-        ("http", "https", false),
-        ("a+b", "a-b", false),
-    ] {
-        let (Some(a), Some(b)) = (Scheme::new(a), Scheme::new(b)) else {
-            assert!(rt; false, "no scheme");
-            return Ok(());
-        };
-        assert_eq!(rt; a == b, equal);
-        assert_eq!(rt; hash_of(a) == hash_of(b), equal);
+fn schemes_are_equal_in_any_case(rt: HostRuntime) {
+    for &(a, b, wanted) in SCHEMES {
+        let (first, second) = (Scheme::new(a).expect(&rt, a), Scheme::new(b).expect(&rt, b));
+        equal(first == second, wanted).expect(&rt, a);
+        equal(hash_of(first) == hash_of(second), wanted).expect(&rt, a);
     }
-    Ok(())
 }
 
 #[test]
-fn schemes_stand_as_they_are(rt: HostRuntime) -> Result<(), Fail> {
+fn schemes_stand_as_they_are(rt: HostRuntime) {
     let text = "HtTp";
-    assert!(rt; Scheme::new("1a").is_none());
-    if Scheme::new(text).is_some() {
-        let scheme = Scheme::new_or_panic(text);
-        assert_eq!(rt; scheme.as_str(), text);
-        assert_eq!(rt; format!(in rt.alloc(); "{scheme}")?.as_str(), text);
-    }
-    Ok(())
+    equal(Scheme::new("1a").is_none(), true).expect(&rt, "1a");
+    assert!(rt; Scheme::new(text).is_some());
+    let scheme = Scheme::new_or_panic(text);
+    equal(scheme.as_str(), text).expect(&rt, text);
+    prints(rt.alloc(), &scheme, text).expect(&rt, text);
 }
 
 /// The port as a number, or nothing where it is refused.
@@ -125,7 +122,8 @@ fn port<U: Encoder, R: Encoder>(authority: Option<Authority<'_, U, R>>) -> Optio
     authority?.port_to_u16().ok()
 }
 
-const PORTS: [(&str, Option<Option<u16>>); 12] = [
+/// Ports as numbers (RFC 3986, section 3.2.3).
+const PORTS: &[(&str, Option<Option<u16>>)] = &[
     ("//h", Some(None)),
     ("//h:", Some(None)),
     ("//@:", Some(None)),
@@ -140,17 +138,16 @@ const PORTS: [(&str, Option<Option<u16>>); 12] = [
     ("//h:18446744073709551696", None),
 ];
 
-/// RFC 3986, section 3.2.3.
 #[test]
-fn ports_as_numbers(rt: HostRuntime) -> Result<(), Fail> {
-    for (text, number) in PORTS {
-        let (uri, iri) = (UriRef::<&str>::parse(text)?, IriRef::<&str>::parse(text)?);
-        assert_eq!(rt; port(uri.authority()), number, "{text}");
-        assert_eq!(rt; port(iri.authority()), number, "{text}");
+fn ports_as_numbers(rt: HostRuntime) {
+    for &(text, number) in PORTS {
+        let uri = UriRef::<&str>::parse(text).expect(&rt, text);
+        equal(port(uri.authority()), number).expect(&rt, text);
+        let iri = IriRef::<&str>::parse(text).expect(&rt, text);
+        equal(port(iri.authority()), number).expect(&rt, text);
     }
-    let iri = IriRef::<&str>::parse("//é:00443")?;
-    assert_eq!(rt; port(iri.authority()), Some(Some(443)));
-    Ok(())
+    let iri = IriRef::<&str>::parse("//é:00443").expect(&rt, "//é:00443");
+    equal(port(iri.authority()), Some(Some(443))).expect(&rt, "//é:00443");
 }
 
 /// The answer in words, at the default port 80.
@@ -178,18 +175,14 @@ fn leads_to<U: Encoder, R: Encoder, A: Abort>(
     alloc: Global,
     authority: Option<Authority<'_, U, R>>,
     wanted: &str,
-) -> Result<(), AllocError> {
-    match authority {
-        Some(authority) => {
-            let answer = target(alloc, authority)?;
-            assert_eq!(rt; answer.as_str(), wanted, "{authority}");
-        }
-        None => assert!(rt; false, "no authority"),
-    }
-    Ok(())
+) {
+    let authority = authority.expect(rt, wanted);
+    let answer = target(alloc, authority).expect(rt, wanted);
+    equal(answer.as_str(), wanted).expect(rt, authority.as_str());
 }
 
-const TARGETS: [(&str, &str); 18] = [
+/// Where to connect, by port and host (RFC 3986, sections 3.2.2 and 3.2.3).
+const TARGETS: &[(&str, &str)] = &[
     ("//127.0.0.1:", "V4 127.0.0.1, 80"),
     ("//127.0.0.1:8080", "V4 127.0.0.1, 8080"),
     ("//[::1]", "V6 ::1, 80"),
@@ -210,36 +203,35 @@ const TARGETS: [(&str, &str); 18] = [
     ("//a%FF:65536", "InvalidPort"),
 ];
 
-/// RFC 3986, sections 3.2.2 and 3.2.3.
 #[test]
-fn targets_by_port_and_host(rt: HostRuntime) -> Result<(), Fail> {
+fn targets_by_port_and_host(rt: HostRuntime) {
     let alloc = rt.alloc();
-    for (text, wanted) in TARGETS {
-        let (uri, iri) = (UriRef::<&str>::parse(text)?, IriRef::<&str>::parse(text)?);
-        leads_to(&rt, alloc, uri.authority(), wanted)?;
-        leads_to(&rt, alloc, iri.authority(), wanted)?;
+    for &(text, wanted) in TARGETS {
+        let uri = UriRef::<&str>::parse(text).expect(&rt, text);
+        leads_to(&rt, alloc, uri.authority(), wanted);
+        let iri = IriRef::<&str>::parse(text).expect(&rt, text);
+        leads_to(&rt, alloc, iri.authority(), wanted);
     }
-    let iri = IriRef::<&str>::parse("//é:81")?;
-    leads_to(&rt, alloc, iri.authority(), "borrowed é, 81")?;
-    Ok(())
+    let iri = IriRef::<&str>::parse("//é:81").expect(&rt, "//é:81");
+    leads_to(&rt, alloc, iri.authority(), "borrowed é, 81");
 }
 
+const MESSAGES: &[(SocketError, &str)] = &[
+    (SocketError::InvalidPort, "invalid port value"),
+    (
+        SocketError::UnsupportedMechanism,
+        "address mechanism not supported",
+    ),
+    (
+        SocketError::NameNotUtf8,
+        "registered name does not decode to valid UTF-8",
+    ),
+    (SocketError::OutOfMemory, "out of memory"),
+];
+
 #[test]
-fn messages(rt: HostRuntime) -> Result<(), Fail> {
-    for (error, message) in [
-        (SocketError::InvalidPort, "invalid port value"),
-        (
-            SocketError::UnsupportedMechanism,
-            "address mechanism not supported",
-        ),
-        (
-            SocketError::NameNotUtf8,
-            "registered name does not decode to valid UTF-8",
-        ),
-        (SocketError::OutOfMemory, "out of memory"),
-    ] {
-        let said = format!(in rt.alloc(); "{error}")?;
-        assert_eq!(rt; said.as_str(), message);
+fn messages(rt: HostRuntime) {
+    for (error, message) in MESSAGES {
+        prints(rt.alloc(), error, message).expect(&rt, message);
     }
-    Ok(())
 }
