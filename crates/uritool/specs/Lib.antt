@@ -1,4 +1,0 @@
-pub mod Lines
-pub mod Texts
-pub mod Commands
-pub mod Asked

@@ -2,17 +2,10 @@
 //! and `uritool resolve uri|iri BASE REF`.
 #![tactic(auto)]
 
-mod command;
-mod lines;
-mod normal;
-mod refusal;
-mod run;
-mod target;
-
-use crate::run::run;
 use std::env;
 use std::io::Write;
 use std::process::ExitCode;
+use uri_commands::run::run;
 
 fn main(rt: HostRuntime) -> ExitCode {
     let alloc = rt.alloc();

@@ -1,15 +1,9 @@
 //! Stored rows of texts and of what `fluent_uri` must answer for them, run one after the other.
 #![tactic(auto)]
 
-mod ask;
-mod normal;
-mod reading;
-mod rows;
-mod run;
-mod target;
-
-use crate::run::run;
 use std::process::ExitCode;
+use uri_rows::rows;
+use uri_rows::run::run;
 
 fn main(rt: HostRuntime) -> ExitCode {
     let alloc = rt.alloc();

@@ -1,0 +1,172 @@
+use checks::{equal, prints};
+use fluent_uri::build::state::FragmentEnd;
+use fluent_uri::build::{BuildError, Builder};
+use fluent_uri::component::{Authority, Scheme};
+use fluent_uri::pct_enc::EStr;
+use fluent_uri::pct_enc::encoder::Encoder;
+use fluent_uri::{Iri, IriRef, Uri, UriRef};
+use std::process::Abort;
+
+fn part<'a, R: Abort, E: Encoder>(rt: &R, text: &'a str) -> EStr<'a, E> {
+    EStr::new(text).expect(rt, text)
+}
+
+fn scheme<'a, R: Abort>(rt: &R, text: &'a str) -> Scheme<'a> {
+    Scheme::new(text).expect(rt, text)
+}
+
+fn is_uri<R: Abort>(rt: &R, built: Result<Uri<String>, BuildError>, wanted: &str) {
+    let uri = built.expect(rt, wanted);
+    equal(uri.as_str(), wanted).expect(rt, wanted);
+}
+
+fn is_uri_ref<R: Abort>(rt: &R, built: Result<UriRef<String>, BuildError>, wanted: &str) {
+    let reference = built.expect(rt, wanted);
+    equal(reference.as_str(), wanted).expect(rt, wanted);
+}
+
+fn is_refused<R: Abort>(rt: &R, built: Result<UriRef<String>, BuildError>, wanted: BuildError) {
+    equal(built.err(), Some(wanted)).expect(rt, "a refusal");
+}
+
+/// RFC 3986, section 3.3: without an authority a path doesn't begin with `//`.
+#[test]
+fn path_with_two_slashes(rt: HostRuntime) {
+    let built = UriRef::<String>::builder(rt.alloc())
+        .path(part(&rt, "//x"))
+        .build();
+    is_refused(&rt, built, BuildError::PathStartsWithDoubleSlash);
+}
+
+/// RFC 3986, section 4.2: a relative path has no `:` in its first segment.
+#[test]
+fn colon_in_the_first_segment(rt: HostRuntime) {
+    let built = UriRef::<String>::builder(rt.alloc())
+        .path(part(&rt, "a:b"))
+        .build();
+    is_refused(&rt, built, BuildError::FirstPathSegmentContainsColon);
+    let dotted = UriRef::<String>::builder(rt.alloc())
+        .path(part(&rt, "./a:b"))
+        .build();
+    is_uri_ref(&rt, dotted, "./a:b");
+}
+
+#[test]
+fn colon_behind_a_scheme(rt: HostRuntime) {
+    let built = Uri::<String>::builder(rt.alloc())
+        .scheme(scheme(&rt, "foo"))
+        .path(part(&rt, "a:b"))
+        .build();
+    is_uri(&rt, built, "foo:a:b");
+}
+
+#[test]
+fn optional_parts(rt: HostRuntime) {
+    let built = UriRef::<String>::builder(rt.alloc())
+        .path(part(&rt, "foo"))
+        .optional(Builder::query, Some(part(&rt, "bar")))
+        .optional(Builder::fragment, None)
+        .build();
+    is_uri_ref(&rt, built, "foo?bar");
+}
+
+/// The answer of `optional` is the builder that its closure returns.
+#[test]
+fn another_builder_for_an_optional_part(rt: HostRuntime) {
+    let alloc = rt.alloc();
+    let other = UriRef::<String>::builder(alloc)
+        .path(part(&rt, "/y"))
+        .advance::<FragmentEnd>();
+    let built = UriRef::<String>::builder(alloc)
+        .path(part(&rt, "/x"))
+        .query(part(&rt, "q"))
+        .optional(|_, ()| other, Some(()))
+        .build();
+    is_uri_ref(&rt, built, "/y");
+}
+
+#[test]
+fn international_parts(rt: HostRuntime) {
+    let iri = Iri::<String>::builder(rt.alloc())
+        .scheme(scheme(&rt, "foo"))
+        .path(part(&rt, "/é"))
+        .query(part(&rt, "ü"))
+        .fragment(part(&rt, "ß"))
+        .build()
+        .expect(&rt, "an IRI");
+    equal(iri.as_str(), "foo:/é?ü#ß").expect(&rt, "an IRI");
+    let reference = IriRef::<String>::builder(rt.alloc())
+        .path(part(&rt, ""))
+        .fragment(part(&rt, "é"))
+        .build()
+        .expect(&rt, "an IRI reference");
+    equal(reference.as_str(), "#é").expect(&rt, "an IRI reference");
+}
+
+#[test]
+fn empty_authority(rt: HostRuntime) {
+    let built = Uri::<String>::builder(rt.alloc())
+        .scheme(scheme(&rt, "file"))
+        .authority(Authority::EMPTY)
+        .path(part(&rt, "/path/to/file"))
+        .build();
+    is_uri(&rt, built, "file:///path/to/file");
+}
+
+#[test]
+fn authority_of_another_uri(rt: HostRuntime) {
+    let text = "foo://user@example.com:8042";
+    let other = Uri::<&str>::parse(text).expect(&rt, text);
+    let built = Uri::<String>::builder(rt.alloc())
+        .scheme(scheme(&rt, "http"))
+        .authority(other.authority().expect(&rt, text))
+        .path(part(&rt, ""))
+        .build();
+    is_uri(&rt, built, "http://user@example.com:8042");
+}
+
+/// RFC 3986, section 3.3: behind an authority a path is empty or begins with `/`.
+#[test]
+fn rootless_path_behind_an_authority(rt: HostRuntime) {
+    let built = UriRef::<String>::builder(rt.alloc())
+        .authority(Authority::EMPTY)
+        .path(part(&rt, "a"))
+        .build();
+    is_refused(&rt, built, BuildError::NonemptyRootlessPath);
+}
+
+/// The answer of `authority_with` is the builder that its closure returns.
+#[test]
+fn another_builder_for_the_authority(rt: HostRuntime) {
+    let alloc = rt.alloc();
+    let reference = UriRef::<String>::builder(alloc)
+        .authority_with(|_| UriRef::<String>::builder(alloc))
+        .path(part(&rt, "/x"))
+        .build()
+        .expect(&rt, "a reference");
+    equal(reference.as_str(), "/x").expect(&rt, "a reference");
+    equal(reference.has_authority(), false).expect(&rt, "no authority");
+}
+
+const MESSAGES: &[(BuildError, &str)] = &[
+    (BuildError::OutOfMemory, "out of memory"),
+    (
+        BuildError::NonemptyRootlessPath,
+        "when authority is present, path should either be empty or start with '/'",
+    ),
+    (
+        BuildError::PathStartsWithDoubleSlash,
+        "when authority is not present, path should not start with \"//\"",
+    ),
+    (
+        BuildError::FirstPathSegmentContainsColon,
+        "when neither scheme nor authority is present, first path segment should not contain ':'",
+    ),
+];
+
+#[test]
+fn messages(rt: HostRuntime) {
+    for (error, message) in MESSAGES {
+        prints(rt.alloc(), error, message).expect(&rt, message);
+    }
+}

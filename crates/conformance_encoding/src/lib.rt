@@ -1,0 +1,7 @@
+//! Sets of characters, percent-encoded texts, and what texts are encoded as and decode to.
+#![tactic(auto)]
+
+#[cfg(test)]
+mod encoding;
+#[cfg(test)]
+mod owned_encoding;

@@ -1,0 +1,7 @@
+//! Normal forms and targets.
+#![tactic(auto)]
+
+#[cfg(test)]
+mod normalising;
+#[cfg(test)]
+mod resolving;

@@ -1,0 +1,250 @@
+//! What `uritool` prints for given words, and the status that it ends with.
+use crate::writers::Takes;
+use checks::equal;
+use std::alloc::{AllocError, Global};
+use std::io::Write;
+use std::process::Abort;
+use uri_commands::run::run;
+
+const USAGE: &str =
+    "usage: uritool parse KIND TEXT | normalize KIND TEXT | resolve uri|iri BASE REF\n";
+
+const WHOLE: &[&str] = &[
+    "parse",
+    "uri-ref",
+    "foo://example.com/over/there?name=ferret#nose",
+];
+
+fn run_words<O: Write, E: Write>(
+    alloc: Global,
+    words: &[&str],
+    out: &mut O,
+    err: &mut E,
+) -> Result<u8, AllocError> {
+    let mut owned = Vec::new(alloc);
+    for word in words {
+        owned.push(String::from_str(alloc, word)?)?;
+    }
+    Ok(run(alloc, owned.as_slice(), out, err))
+}
+
+fn ends_with<R: Abort>(rt: &R, alloc: Global, words: &[&str], status: u8, out: &str, err: &str) {
+    let (mut got_out, mut got_err) = (Vec::new(alloc), Vec::new(alloc));
+    let got = run_words(alloc, words, &mut got_out, &mut got_err).expect(rt, "memory");
+    equal(got_out.as_slice(), out.as_bytes()).expect(rt, out);
+    equal(got_err.as_slice(), err.as_bytes()).expect(rt, err);
+    equal(got, status).expect(rt, "status");
+}
+
+/// Words, and what they have printed.
+const ANSWERED: &[(&[&str], &str)] = &[
+    // Components of a URI reference.
+    (&["parse", "uri-ref", ""], "path=\n"),
+    (&["parse", "uri-ref", "a/b"], "path=a/b\n"),
+    (&["parse", "uri-ref", "//h"], "authority=h\npath=\n"),
+    (
+        &["parse", "uri-ref", "s://?#"],
+        "scheme=s\nauthority=\npath=\nquery=\nfragment=\n",
+    ),
+    (
+        WHOLE,
+        "scheme=foo\nauthority=example.com\npath=/over/there\nquery=name=ferret\nfragment=nose\n",
+    ),
+    // Components of the other kinds.
+    (&["parse", "uri", "urn:a:b"], "scheme=urn\npath=a:b\n"),
+    (
+        &["parse", "iri", "http://résumé.example.org/"],
+        "scheme=http\nauthority=résumé.example.org\npath=/\n",
+    ),
+    (&["parse", "iri-ref", "café"], "path=café\n"),
+    // Normal forms.
+    (
+        &["normalize", "uri", "http://a/b/c/%2E/%2E./%2e%2E/d"],
+        "http://a/d\n",
+    ),
+    (&["normalize", "uri", "http://h:0080/"], "http://h/\n"),
+    (&["normalize", "uri", "http://a//../.."], "http://a/\n"),
+    (&["normalize", "uri-ref", ""], "\n"),
+    (&["normalize", "uri-ref", "foo:/.//@@"], "foo:/.//@@\n"),
+    (&["normalize", "uri-ref", "%C3%a9"], "%C3%A9\n"),
+    (&["normalize", "iri", "HTTP://R%c3%89/É"], "http://rÉ/É\n"),
+    (&["normalize", "iri-ref", "/%C3%41%A9%C3%A9"], "/%C3A%A9é\n"),
+    // Targets.
+    (
+        &["resolve", "uri", "http://a/b/c/d;p?q", "g;x=1/../y"],
+        "http://a/b/c/y\n",
+    ),
+    (
+        &["resolve", "uri", "http://a/b/c/d;p?q", "../../../g"],
+        "http://a/g\n",
+    ),
+    (
+        &["resolve", "uri", "http://a/b/c/d;p?q", ""],
+        "http://a/b/c/d;p?q\n",
+    ),
+    (&["resolve", "uri", "foo:/bar/..", "."], "foo:/\n"),
+    (&["resolve", "uri", "foo:/", ".//@@"], "foo:/.//@@\n"),
+    (&["resolve", "uri", "http://x/", "//a:80"], "http://a:80\n"),
+    (
+        &["resolve", "uri", "HTTP://A/%2e%2E/b/c", "%2E./d"],
+        "HTTP://A/d\n",
+    ),
+    (&["resolve", "iri", "http://é/a/b", "../ü"], "http://é/ü\n"),
+];
+
+#[test]
+fn prints_answers(rt: HostRuntime) {
+    for &(words, out) in ANSWERED {
+        ends_with(&rt, rt.alloc(), words, 0, out, "");
+    }
+}
+
+/// Words, and the line that tells why they are refused.
+const REFUSED: &[(&[&str], &str)] = &[
+    // A text to parse.
+    (
+        &["parse", "uri", "foo"],
+        "error: unexpected character at index 3\n",
+    ),
+    (
+        &["parse", "iri", "foo"],
+        "error: unexpected character at index 3\n",
+    ),
+    (
+        &["parse", "uri-ref", "é"],
+        "error: unexpected character at index 0\n",
+    ),
+    (
+        &["parse", "iri-ref", "a b"],
+        "error: unexpected character at index 1\n",
+    ),
+    (
+        &["parse", "uri-ref", ":hello"],
+        "error: unexpected character at index 0\n",
+    ),
+    (
+        &["parse", "uri-ref", "text%a"],
+        "error: invalid percent-encoded octet at index 4\n",
+    ),
+    // A text to normalise.
+    (
+        &["normalize", "uri", "foo"],
+        "error: unexpected character at index 3\n",
+    ),
+    (
+        &["normalize", "uri-ref", "é"],
+        "error: unexpected character at index 0\n",
+    ),
+    (
+        &["normalize", "iri", "foo"],
+        "error: unexpected character at index 3\n",
+    ),
+    (
+        &["normalize", "iri-ref", "a b"],
+        "error: unexpected character at index 1\n",
+    ),
+    (
+        &["normalize", "iri-ref", "%"],
+        "error: invalid percent-encoded octet at index 0\n",
+    ),
+    (
+        &["normalize", "uri", "http://[:]"],
+        "error: invalid IPv6 address at index 8\n",
+    ),
+    // A base, a reference or the target.
+    (
+        &["resolve", "uri", "foo", "%"],
+        "error: base: unexpected character at index 3\n",
+    ),
+    (
+        &["resolve", "iri", "/", "a"],
+        "error: base: unexpected character at index 0\n",
+    ),
+    (
+        &["resolve", "uri", "http://a/", "%"],
+        "error: reference: invalid percent-encoded octet at index 0\n",
+    ),
+    (
+        &["resolve", "uri", "http://a/", "é"],
+        "error: reference: unexpected character at index 0\n",
+    ),
+    (
+        &["resolve", "uri", "foo:bar#x", "//g"],
+        "error: base should not have fragment\n",
+    ),
+    (
+        &["resolve", "uri", "foo:bar", "//g"],
+        "error: when base has a rootless path and no authority, reference should either have scheme, be empty or start with '#'\n",
+    ),
+];
+
+#[test]
+fn says_why_words_are_refused(rt: HostRuntime) {
+    for &(words, err) in REFUSED {
+        ends_with(&rt, rt.alloc(), words, 1, "", err);
+    }
+}
+
+/// Words that are no command.
+const OTHERS: &[&[&str]] = &[
+    &[],
+    &["parse", "uri-ref"],
+    &["parse", "url", "foo"],
+    &["Parse", "uri-ref", "foo"],
+    &["parse", "uri-ref", "foo", "bar"],
+    &["normalize", "uri-ref"],
+    &["normalize", "url", "foo"],
+    &["normalize", "uri-ref", "foo", "bar"],
+    &["resolve", "uri", "http://a/"],
+    &["resolve", "uri-ref", "http://a/", "b"],
+    &["resolve", "iri-ref", "http://a/", "b"],
+    &["resolve", "uri", "http://a/", "b", "c"],
+    &["links", "http://a/", "b"],
+];
+
+#[test]
+fn shows_usage(rt: HostRuntime) {
+    for &words in OTHERS {
+        ends_with(&rt, rt.alloc(), words, 2, "", USAGE);
+    }
+}
+
+/// That the output fails after so many writes, and that this is said.
+fn output_fails<R: Abort>(rt: &R, alloc: Global, words: &[&str], writes: usize) {
+    let mut err = Vec::new(alloc);
+    let status = run_words(alloc, words, &mut Takes(writes), &mut err).expect(rt, "memory");
+    equal((writes, status), (writes, 1)).expect(rt, "status");
+    equal(err.as_slice(), b"error: output failed\n".as_slice()).expect(rt, "error output");
+}
+
+#[test]
+fn says_that_the_output_failed(rt: HostRuntime) {
+    let alloc = rt.alloc();
+    for writes in 0..5 {
+        output_fails(&rt, alloc, WHOLE, writes);
+    }
+    output_fails(&rt, alloc, &["normalize", "uri", "http://a/"], 0);
+    output_fails(&rt, alloc, &["resolve", "uri", "http://a/", "b"], 0);
+    let status = run_words(alloc, WHOLE, &mut Takes(100), &mut Vec::new(alloc));
+    equal(status.expect(&rt, "memory"), 0).expect(&rt, "status");
+}
+
+/// Words, and the status that they end with where the error output fails.
+const WITHOUT_ERRORS: &[(&[&str], u8)] = &[
+    (&["parse", "uri-ref", "a"], 0),
+    (&["parse", "uri-ref", "%"], 1),
+    (&["normalize", "uri-ref", "a"], 0),
+    (&["normalize", "uri-ref", "%"], 1),
+    (&["parse", "url", "a"], 2),
+];
+
+#[test]
+fn ends_alike_without_errors_shown(rt: HostRuntime) {
+    let alloc = rt.alloc();
+    for &(words, wanted) in WITHOUT_ERRORS {
+        let status = run_words(alloc, words, &mut Vec::new(alloc), &mut Takes(0));
+        equal(status.expect(&rt, "memory"), wanted).expect(&rt, "status");
+    }
+    let status = run_words(alloc, WHOLE, &mut Takes(0), &mut Takes(0));
+    equal(status.expect(&rt, "memory"), 1).expect(&rt, "status");
+}

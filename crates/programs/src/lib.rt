@@ -1,0 +1,9 @@
+//! What the programs do with given words and rows, over writers that keep what they take or fail.
+#![tactic(auto)]
+
+#[cfg(test)]
+mod commands;
+#[cfg(test)]
+mod rows;
+#[cfg(test)]
+mod writers;

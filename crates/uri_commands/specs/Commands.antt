@@ -1,0 +1,74 @@
+-- What the words of a command line ask for, and what is printed then.
+use Rattle.std.specs.Prelude.{◌≡◌, ℕ, ◌&&◌, List, [], ◌∷◌, ◌++◌, codes, map, String, string_bytes, Option, Some, None, option_map, if◌then◌else◌}
+use Rattle.std.specs.Result.{result_ok}
+use Rattle.fluent_uri.specs.Components.{components}
+use Rattle.fluent_uri.specs.Grammar.{Kind, uri, uri_ref, iri, iri_ref, is_of_kind}
+use Rattle.fluent_uri.specs.Meaning.{meaning_of}
+use Rattle.fluent_uri.specs.Normal.{normal_text}
+use Rattle.fluent_uri.specs.SchemePorts.{default_port}
+use Rattle.fluent_uri.specs.Target.{resolution_of}
+use Rattle.uri_commands.specs.Lines.{component_lines}
+use Rattle.uri_commands.specs.declared.command.BaseName.{BaseName}
+use Rattle.uri_commands.specs.declared.command.BaseName.TheVariants as bases
+use Rattle.uri_commands.specs.declared.command.KindName.{KindName}
+use Rattle.uri_commands.specs.declared.command.KindName.TheVariants.{Uri, UriRef, Iri, IriRef}
+
+abbrev pub kind_of : KindName → Kind
+kind_of Uri = uri
+kind_of UriRef = uri_ref
+kind_of Iri = iri
+kind_of IriRef = iri_ref
+
+abbrev pub word_of_kind : KindName → List ℕ
+word_of_kind Uri = codes "uri"
+word_of_kind UriRef = codes "uri-ref"
+word_of_kind Iri = codes "iri"
+word_of_kind IriRef = codes "iri-ref"
+
+abbrev pub kind_of_base : BaseName → Kind
+kind_of_base bases.Uri = uri
+kind_of_base bases.Iri = iri
+
+-- the kind of its references
+abbrev pub kind_of_references : BaseName → Kind
+kind_of_references bases.Uri = uri_ref
+kind_of_references bases.Iri = iri_ref
+
+abbrev pub word_of_base : BaseName → List ℕ
+word_of_base bases.Uri = codes "uri"
+word_of_base bases.Iri = codes "iri"
+
+-- `parse KIND TEXT`, `normalize KIND TEXT`, `resolve uri|iri BASE REF`
+pub data Command : Type 0 where
+  Parse : KindName → List ℕ → Command
+  Normalize : KindName → List ℕ → Command
+  Resolve : BaseName → List ℕ → List ℕ → Command
+
+-- the words that ask for it
+abbrev pub words_of : Command → List (List ℕ)
+words_of (Parse name text) = codes "parse" ∷ word_of_kind name ∷ text ∷ []
+words_of (Normalize name text) = codes "normalize" ∷ word_of_kind name ∷ text ∷ []
+words_of (Resolve name base reference) = codes "resolve" ∷ word_of_base name ∷ base ∷ reference ∷ []
+
+-- the normal form of a text of the kind, under the default ports of schemes
+unfoldable pub normal_form_of : Kind → List ℕ → List ℕ
+normal_form_of kind text = normal_text (meaning_of kind default_port text)
+
+-- the target of a reference against a base, if it has one
+unfoldable pub target_text : List ℕ → List ℕ → Option (List ℕ)
+target_text base reference = result_ok (resolution_of (components base) (components reference))
+
+-- what is printed for it, or that it is refused
+abbrev pub output_of : Command → Option (List ℕ)
+output_of (Parse name text) = if is_of_kind (kind_of name) text then Some (component_lines (components text)) else None
+output_of (Normalize name text) = if is_of_kind (kind_of name) text then Some (normal_form_of (kind_of name) text ++ codes "\n") else None
+output_of (Resolve name base reference) =
+    if is_of_kind (kind_of_base name) base && is_of_kind (kind_of_references name) reference
+    then option_map (λ target. target ++ codes "\n") (target_text base reference) else None
+
+-- the bytes of the words
+abbrev pub texts : {Z : Type 0} → List (String Z) → List (List ℕ)
+texts words = map string_bytes words
+
+abbrev pub IsCommand : List (List ℕ) → Type 0
+IsCommand words = (command : Command) × (words ≡ words_of command)

@@ -1,0 +1,13 @@
+-- What contracts see of the texts that are printed.
+use Rattle.std.specs.Prelude.{option_map}
+use Rattle.fluent_uri.specs.Components.{Components}
+use Rattle.uri_commands.specs.declared.lines.Texts.{Texts}
+
+abbrev pub components_in : Texts → Components
+components_in texts = record {
+  scheme = option_map (λ t. t.now) texts.scheme;
+  authority = option_map (λ t. t.now) texts.authority;
+  path = texts.path.now;
+  query = option_map (λ t. t.now) texts.query;
+  fragment = option_map (λ t. t.now) texts.fragment;
+}

@@ -1,0 +1,81 @@
+//! What the words of a command line ask for.
+ghost use Rattle.std.specs.Prelude.{◌≡◌, ◌≢◌, MatchOption};
+ghost use Rattle.uri_commands.specs.Commands.{IsCommand, word_of_base, word_of_kind, words_of, texts};
+ghost use Rattle.uri_commands.specs.Asked.{asked};
+
+/// A kind, by its name on the command line.
+#[derive(Clone, Copy)]
+pub enum KindName {
+    /// `uri`
+    Uri,
+    /// `uri-ref`
+    UriRef,
+    /// `iri`
+    Iri,
+    /// `iri-ref`
+    IriRef,
+}
+
+/// A kind of base, by its name on the command line.
+#[derive(Clone, Copy)]
+pub enum BaseName {
+    /// `uri`, whose references are those of `uri-ref`
+    Uri,
+    /// `iri`, whose references are those of `iri-ref`
+    Iri,
+}
+
+/// What is asked for.
+#[derive(Clone, Copy)]
+pub enum Command<'a> {
+    /// `parse KIND TEXT`
+    Parse(KindName, &'a str),
+    /// `normalize KIND TEXT`
+    Normalize(KindName, &'a str),
+    /// `resolve uri|iri BASE REF`
+    Resolve(BaseName, &'a str, &'a str),
+}
+
+impl<'a> Command<'a> {
+    /// The command that the words ask for, if they ask for one that there is.
+    pub fn from_words(words: &'a [String]) -> Option<Command<'a>>
+        ensures { MatchOption result (¬ IsCommand (texts words.now))
+            (λ c. texts words.now ≡ words_of (asked c)) }
+    {
+        match words {
+            [command, kind, text] if command.as_str() == "parse" => {
+                Some(Command::Parse(kind_named(kind.as_str())?, text.as_str()))
+            }
+            [command, kind, text] if command.as_str() == "normalize" => {
+                Some(Command::Normalize(kind_named(kind.as_str())?, text.as_str()))
+            }
+            [command, kind, base, reference] if command.as_str() == "resolve" => {
+                let kind = base_named(kind.as_str())?;
+                Some(Command::Resolve(kind, base.as_str(), reference.as_str()))
+            }
+            _ => None,
+        }
+    }
+}
+
+fn kind_named(word: &str) -> Option<KindName>
+    ensures { MatchOption result ((k : _) → word.now ≢ word_of_kind k) (λ k. word.now ≡ word_of_kind k) }
+{
+    match word {
+        "uri" => Some(KindName::Uri),
+        "uri-ref" => Some(KindName::UriRef),
+        "iri" => Some(KindName::Iri),
+        "iri-ref" => Some(KindName::IriRef),
+        _ => None,
+    }
+}
+
+fn base_named(word: &str) -> Option<BaseName>
+    ensures { MatchOption result ((k : _) → word.now ≢ word_of_base k) (λ k. word.now ≡ word_of_base k) }
+{
+    match word {
+        "uri" => Some(BaseName::Uri),
+        "iri" => Some(BaseName::Iri),
+        _ => None,
+    }
+}

@@ -1,0 +1,9 @@
+//! What the program `uritool` does with the words that it is given, over any two writers.
+#![tactic(auto)]
+
+mod command;
+mod lines;
+mod normal;
+mod refusal;
+pub mod run;
+mod target;

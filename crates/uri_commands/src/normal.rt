@@ -1,0 +1,27 @@
+//! The normal form of a text of a kind (RFC 3986, section 6.2.2).
+ghost use Rattle.std.specs.Prelude.{◌≡◌, IfOk, string_bytes};
+ghost use Rattle.fluent_uri.specs.Grammar.{IsOfKind};
+ghost use Rattle.uri_commands.specs.Commands.{kind_of, normal_form_of};
+
+use crate::command::KindName;
+use crate::refusal::Refusal;
+use fluent_uri::{Iri, IriRef, Uri, UriRef};
+use std::alloc::Global;
+
+/// The normal form of the text, which is parsed as the kind.
+///
+/// # Errors
+///
+/// `Text` if it is not of the kind, `OutOfMemory` if memory is refused.
+#[tactic(auto, using(crate::proofs::NormalForms::normal_form_is))]
+pub fn normal_form(alloc: Global, kind: KindName, text: &str) -> Result<String, Refusal>
+    ensures of_kind { IfOk result (λ _. IsOfKind (kind_of kind) text.now) }
+    ensures normal { IfOk result (λ normal. string_bytes normal ≡ normal_form_of (kind_of kind) text.now) }
+{
+    Ok(match kind {
+        KindName::Uri => Uri::<&str>::parse(text)?.normalize(alloc)?.into_string(),
+        KindName::UriRef => UriRef::<&str>::parse(text)?.normalize(alloc)?.into_string(),
+        KindName::Iri => Iri::<&str>::parse(text)?.normalize(alloc)?.into_string(),
+        KindName::IriRef => IriRef::<&str>::parse(text)?.normalize(alloc)?.into_string(),
+    })
+}

@@ -1,0 +1,60 @@
+//! The target of a reference against a base (RFC 3986, section 5.2).
+ghost use Rattle.std.specs.Prelude.{◌≡◌, IfOk, Some, string_bytes};
+ghost use Rattle.fluent_uri.specs.Grammar.{IsOfKind};
+ghost use Rattle.fluent_uri.specs.IriRefs.{iri_ref_text};
+ghost use Rattle.fluent_uri.specs.Iris.{iri_text};
+ghost use Rattle.fluent_uri.specs.UriRefs.{uri_ref_text};
+ghost use Rattle.fluent_uri.specs.Uris.{uri_text};
+ghost use Rattle.uri_commands.specs.Commands.{kind_of_base, kind_of_references, target_text};
+
+use crate::command::BaseName;
+use crate::refusal::Refusal;
+use fluent_uri::resolve::ResolveError;
+use fluent_uri::{Iri, IriRef, Uri, UriRef};
+use std::alloc::Global;
+
+/// The target of the reference against the base, each parsed as its kind, where dot segments may
+/// underflow.
+///
+/// # Errors
+///
+/// `Base` if the base is not of its kind, else `Reference` if the reference is not of its; `Target`
+/// if there is no target, or memory is refused.
+pub fn target(alloc: Global, kind: BaseName, base: &str, reference: &str) -> Result<String, Refusal>
+    ensures base { IfOk result (λ _. IsOfKind (kind_of_base kind) base.now) }
+    ensures reference { IfOk result (λ _. IsOfKind (kind_of_references kind) reference.now) }
+    ensures target { IfOk result (λ target. target_text base.now reference.now ≡ Some (string_bytes target)) }
+{
+    Ok(match kind {
+        BaseName::Uri => {
+            let base = Uri::<&str>::parse(base).map_err(Refusal::Base)?;
+            let reference = UriRef::<&str>::parse(reference).map_err(Refusal::Reference)?;
+            uri_target(alloc, base, reference)?.into_string()
+        }
+        BaseName::Iri => {
+            let base = Iri::<&str>::parse(base).map_err(Refusal::Base)?;
+            let reference = IriRef::<&str>::parse(reference).map_err(Refusal::Reference)?;
+            iri_target(alloc, base, reference)?.into_string()
+        }
+    })
+}
+
+fn uri_target(
+    alloc: Global,
+    base: Uri<&str>,
+    reference: UriRef<&str>,
+) -> Result<Uri<String>, ResolveError>
+    ensures { IfOk result (λ target. target_text (uri_text base.entry) (uri_ref_text reference.entry) ≡ Some (uri_text target)) }
+{
+    reference.resolve_against(alloc, &base)
+}
+
+fn iri_target(
+    alloc: Global,
+    base: Iri<&str>,
+    reference: IriRef<&str>,
+) -> Result<Iri<String>, ResolveError>
+    ensures { IfOk result (λ target. target_text (iri_text base.entry) (iri_ref_text reference.entry) ≡ Some (iri_text target)) }
+{
+    reference.resolve_against(alloc, &base)
+}

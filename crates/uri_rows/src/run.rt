@@ -1,0 +1,46 @@
+//! The run of stored rows, over any writer.
+ghost use Rattle.std.specs.Prelude.{◌≡◌, ◌≤◌, length, Ok};
+ghost use Rattle.std.specs.Io.KnownBytes.{Appends, Keeps};
+ghost use Rattle.uri_rows.specs.Lines.{summary};
+
+use crate::ask::Row;
+use std::alloc::Global;
+use std::io::{self, Write};
+
+/// Runs each row, writes `fail ID` for each that differs and last `rows N failed M`, and answers
+/// the exit status.
+///
+/// 0: no row differs, and `out` got the last line alone. 1: a row differs, or `out` failed, which
+/// ends the run.
+pub fn run<O: Write>(alloc: Global, rows: &[Row], out: &mut O) -> u8
+    ensures passed { result ≡ 0 → Appends (O.contents out.old) (O.contents out.new) (summary (length rows.now) 0) }
+    ensures status { result ≤ 1 }
+{
+    match report(alloc, rows, out) {
+        Ok(0) => 0,
+        _ => 1,
+    }
+}
+
+/// Writes the lines, and answers how many rows differ.
+fn report<O: Write>(alloc: Global, rows: &[Row], out: &mut O) -> io::Result<usize>
+    ensures { result ≡ Ok 0 → Appends (O.contents out.old) (O.contents out.new) (summary (length rows.now) 0) }
+{
+    let failed = report_failures(alloc, rows, out)?;
+    writeln!(out, "rows {} failed {failed}", rows.len())?;
+    Ok(failed)
+}
+
+/// Writes a line for each row that differs, and answers how many these are.
+fn report_failures<O: Write>(alloc: Global, rows: &[Row], out: &mut O) -> io::Result<usize>
+    ensures { result ≡ Ok 0 → Keeps (O.contents out.old) (O.contents out.new) }
+{
+    let mut failed: usize = 0;
+    for row in rows {
+        if !row.holds(alloc) {
+            writeln!(out, "fail {}", row.id())?;
+            failed = failed.saturating_add(1);
+        }
+    }
+    Ok(failed)
+}

@@ -1,9 +1,0 @@
-use Rattle.uritool.specs.Commands.{Command, Parse, Normalize, Resolve}
-use Rattle.uritool.specs.declared.command.Command.{Command as Words}
-use Rattle.uritool.specs.declared.command.Command.TheVariants as words
-
--- a command of the program as one of the contracts
-abbrev pub asked : Words → Command
-asked (words.Parse name text) = Parse name text.now
-asked (words.Normalize name text) = Normalize name text.now
-asked (words.Resolve name base reference) = Resolve name base.now reference.now
