@@ -1,4 +1,3 @@
-
 use crate::owned_encoding::{Nothing, Octets, Private, valid};
 use checks::{equal, prints};
 use fluent_uri::UriRef;
