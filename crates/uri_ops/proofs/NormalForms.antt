@@ -43,6 +43,5 @@ module _ (kind wide : Kind) (reference : wide ≡ record kind { needs_scheme = f
     of_kind = normal_is_of_kind;
     text = record { text = is_normal };
     meaning = normal_meaning;
-    twice = record { text = is_normal ∙ ap normal_text (sym normal_meaning) };
     same = normal_same;
   }
