@@ -38,7 +38,6 @@ with_meaning kind ports text other normal e h = record {
   of_kind = h.of_kind;
   text = record { text = h.text.text ∙ ap normal_text (sym e) };
   meaning = h.meaning ∙ sym e;
-  twice = h.twice;
   same = λ u w. let both = h.same u w in (λ d. e ∙ both.0 d, λ d. both.1 (sym e ∙ d));
 }
 
