@@ -14,8 +14,8 @@ use Rattle.fluent_uri.specs.Target.{Refusal, resolution_of}
 one_target : (r : Result (List ℕ) Refusal) (t u : List ℕ) → r ≡ Ok t → r ≡ Ok u → t ≡ u
 one_target r t u e f = cc
 
-normal_means : (kind : Kind) (ports : PortFunction) (text normal : List ℕ) → IsNormalForm kind ports text normal → MeansTheSame kind ports text normal
-normal_means kind ports text normal h = record { of_kind = h.of_kind; meaning = h.meaning }
+normal_means : (kind : Kind) (ports : PortFunction) (text normal : List ℕ) → IsTextOf kind normal → IsNormalForm kind ports text normal → MeansTheSame kind ports text normal
+normal_means kind ports text normal w h = record { of_kind = w; meaning = h.meaning }
 
 -- a text that has the meaning of a target is normalised to what the target is
 same_normal : (kind : Kind) (ports : PortFunction) (base reference target text m n : List ℕ) → HasTargetMeaning kind ports base reference text → resolution_of (components base) (components reference) ≡ Ok target
@@ -24,21 +24,19 @@ same_normal kind ports base reference target text m n t e v w =
     let same = one_target (resolution_of (components base) (components reference)) t.0 target t.1.0 e in
     v.text.text ∙ ap normal_text (sym t.1.1 ∙ ap (meaning_of kind ports) same) ∙ sym w.text.text
 
-pub same_normal_form : (kind of_reference : Kind) (ports : PortFunction) (base reference given target b r held other n m : List ℕ) → given ≡ base → held ≡ b
+pub same_normal_form : (kind of_reference : Kind) (ports : PortFunction) (base reference given target b r held other n m : List ℕ) → IsTextOf kind b → IsTextOf of_reference r → given ≡ base → held ≡ b
     → IsTargetOfMeanings kind of_reference given reference target → IsNormalForm kind ports base b → IsNormalForm of_reference ports reference r
     → resolution_of (components held) (components r) ≡ Ok other → IsNormalForm kind ports target n → IsNormalForm kind ports other m → n ≡ m
-same_normal_form kind of_reference ports base reference given target b r held other n m d f alike v w e x y =
+same_normal_form kind of_reference ports base reference given target b r held other n m of_b of_r d f alike v w e x y =
     let a = subst (λ t. IsTargetOfMeanings kind of_reference t reference target) d alike in
-    let t = a.alike ports b r (normal_means kind ports base b v) (normal_means of_reference ports reference r w) in
+    let t = a.alike ports b r (normal_means kind ports base b of_b v) (normal_means of_reference ports reference r of_r w) in
     same_normal kind ports b r other target m n t (subst (λ t. resolution_of (components t) (components r) ≡ Ok other) f e) x y
 
 -- the normal form of a text is that of another one with its meaning
 with_meaning : (kind : Kind) (ports : PortFunction) (text other normal : List ℕ) → meaning_of kind ports other ≡ meaning_of kind ports text → IsNormalForm kind ports text normal → IsNormalForm kind ports other normal
 with_meaning kind ports text other normal e h = record {
-  of_kind = h.of_kind;
   text = record { text = h.text.text ∙ ap normal_text (sym e) };
   meaning = h.meaning ∙ sym e;
-  twice = h.twice;
   same = λ u w. let both = h.same u w in (λ d. e ∙ both.0 d, λ d. both.1 (sym e ∙ d));
 }
 

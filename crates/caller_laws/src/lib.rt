@@ -3,4 +3,8 @@
 #![tactic(auto)]
 
 pub mod converting;
+pub mod decoding;
+pub mod normalising;
+pub mod removing;
+pub mod spelling;
 pub mod swapping;

@@ -25,6 +25,7 @@ pub use Rattle.uri_parts.specs.Connecting
 pub use Rattle.uri_parts.specs.Errors
 pub use Rattle.uri_parts.specs.Fragments
 pub use Rattle.uri_parts.specs.Grammar
+pub use Rattle.uri_parts.specs.GrammarInWords
 pub use Rattle.uri_parts.specs.Hosts
 pub use Rattle.uri_parts.specs.HostTexts
 pub use Rattle.uri_parts.specs.PortNumbers

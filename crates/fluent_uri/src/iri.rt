@@ -206,7 +206,8 @@ impl<'a> Iri<&'a str> {
 
     /// The text as it stands.
     pub fn as_str(self) -> &'a str
-        ensures { result.now ≡ iri_text self.entry }
+        ensures text { result.now ≡ iri_text self.entry }
+        ensures of_kind { IsOfKind iri result.now }
     {
         self.parts().as_str()
     }
@@ -417,7 +418,8 @@ impl Iri<String> {
 
     /// The text as it stands.
     pub fn as_str(&self) -> &str
-        ensures { result.now ≡ iri_text self.now }
+        ensures text { result.now ≡ iri_text self.now }
+        ensures of_kind { IsOfKind iri result.now }
     {
         self.borrow().as_str()
     }

@@ -217,7 +217,8 @@ impl<'a> IriRef<&'a str> {
 
     /// The text as it stands.
     pub fn as_str(self) -> &'a str
-        ensures { result.now ≡ iri_ref_text self.entry }
+        ensures text { result.now ≡ iri_ref_text self.entry }
+        ensures of_kind { IsOfKind iri_ref result.now }
     {
         self.parts().as_str()
     }
@@ -485,7 +486,8 @@ impl IriRef<String> {
 
     /// The text as it stands.
     pub fn as_str(&self) -> &str
-        ensures { result.now ≡ iri_ref_text self.now }
+        ensures text { result.now ≡ iri_ref_text self.now }
+        ensures of_kind { IsOfKind iri_ref result.now }
     {
         self.borrow().as_str()
     }

@@ -31,12 +31,28 @@ pub mod component {
     pub type IHost<'a> = Host<'a, IRegName>;
 }
 
-/// Laws of the definitions that contracts cite: a call does nothing, and its contract is the law.
+/// Laws of the definitions that contracts cite. Each function does nothing, and its contract is the
+/// law: a caller whose proof needs one calls it.
 pub mod laws {
+    pub use uri_ops::across::{
+        encoded_texts_mean_the_same, encoded_texts_resolve_alike, texts_of_wider_kinds,
+    };
+    pub use uri_ops::canonical::{
+        four_kinds_have_component_sets, meaning_under_ports, normal_texts_are_canonical,
+    };
+    pub use uri_ops::laws::{
+        authorities_have_one_cut, before_merging, in_pieces, kinds_are_their_grammar,
+        nothing_is_left_to_read, nothing_to_remove, of_a_directory, of_a_read_path, removed_twice,
+        what_is_left,
+    };
+    pub use uri_ops::swap::{resolving_and_normalising_swap, targets_are_texts};
     pub use uri_parts::laws::{
         components_are_a_split, components_are_the_only_split, components_recompose,
+        ipv4_addresses_compare_alike, ipv4_addresses_compare_by_octets, ipv4_is_less_than_ipv6,
+        ipv4_text_is_read_back, ipv6_addresses_compare_alike, ipv6_addresses_compare_by_segments,
+        ipv6_text_is_read_back,
     };
-    pub use uri_pct::laws::{encoding, lossy, pieces, printing};
+    pub use uri_pct::laws::{encoding, lossy, octets_in_either_case, pieces, printing};
 }
 
 /// IP addresses (RFC 3986, section 3.2.2), and their canonical texts (RFC 5952).

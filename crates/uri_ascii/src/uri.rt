@@ -208,7 +208,8 @@ impl<'a> Uri<&'a str> {
 
     /// The text as it stands.
     pub fn as_str(self) -> &'a str
-        ensures { result.now ≡ uri_text self.entry }
+        ensures text { result.now ≡ uri_text self.entry }
+        ensures of_kind { IsOfKind uri result.now }
     {
         self.parts().as_str()
     }
@@ -419,7 +420,8 @@ impl Uri<String> {
 
     /// The text as it stands.
     pub fn as_str(&self) -> &str
-        ensures { result.now ≡ uri_text self.now }
+        ensures text { result.now ≡ uri_text self.now }
+        ensures of_kind { IsOfKind uri result.now }
     {
         self.borrow().as_str()
     }

@@ -220,7 +220,8 @@ impl<'a> UriRef<&'a str> {
 
     /// The text as it stands.
     pub fn as_str(self) -> &'a str
-        ensures { result.now ≡ uri_ref_text self.entry }
+        ensures text { result.now ≡ uri_ref_text self.entry }
+        ensures of_kind { IsOfKind uri_ref result.now }
     {
         self.parts().as_str()
     }
@@ -488,7 +489,8 @@ impl UriRef<String> {
 
     /// The text as it stands.
     pub fn as_str(&self) -> &str
-        ensures { result.now ≡ uri_ref_text self.now }
+        ensures text { result.now ≡ uri_ref_text self.now }
+        ensures of_kind { IsOfKind uri_ref result.now }
     {
         self.borrow().as_str()
     }

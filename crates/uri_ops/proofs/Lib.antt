@@ -8,6 +8,7 @@ pub mod Slashed
 pub mod LastSlashes
 pub mod KeptSegments
 pub mod DotLaws
+pub mod DotRuns
 pub mod DotStarts
 pub mod Parts
 pub mod DotBytes
@@ -59,3 +60,4 @@ pub mod BuilderDrafts
 pub mod BuilderPlaces
 pub mod BuilderKinds
 pub mod Built
+pub mod SpeltTexts

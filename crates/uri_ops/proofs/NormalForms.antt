@@ -39,10 +39,4 @@ module _ (kind wide : Kind) (reference : wide ≡ record kind { needs_scheme = f
       (λ h. both.0 (sym is_normal ∙ h), λ h. is_normal ∙ both.1 h)
 
   pub normal_form : IsNormalForm kind ports text normal
-  normal_form = record {
-    of_kind = normal_is_of_kind;
-    text = record { text = is_normal };
-    meaning = normal_meaning;
-    twice = record { text = is_normal ∙ ap normal_text (sym normal_meaning) };
-    same = normal_same;
-  }
+  normal_form = record { text = record { text = is_normal }; meaning = normal_meaning; same = normal_same }

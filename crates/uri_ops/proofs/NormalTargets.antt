@@ -60,10 +60,8 @@ module _ {A : Type 0} (f : List ℕ → A) where
 -- a text with the same meaning has the same normal form
 same_normal_form : (kind : Kind) (ports : PortFunction) (text other normal : List ℕ) → meaning_of kind ports other ≡ meaning_of kind ports text → IsNormalForm kind ports text normal → IsNormalForm kind ports other normal
 same_normal_form kind ports text other normal e h = record {
-  of_kind = h.of_kind;
   text = record { text = h.text.text ∙ ap normal_text (sym e) };
   meaning = h.meaning ∙ sym e;
-  twice = h.twice;
   same = λ u w. let both = h.same u w in (λ d. e ∙ both.0 d, λ d. both.1 (sym e ∙ d));
 }
 

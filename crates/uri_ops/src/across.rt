@@ -14,7 +14,6 @@ ghost use Rattle.uri_ops.specs.Texts.{IsTextOf};
 
 /// A text of a kind is of each kind with wider sets that needs no scheme where the one does not, as
 /// each URI is an IRI and a URI reference.
-#[doc(hidden)]
 pub fn texts_of_wider_kinds()
     ensures wider { (kind wide : Kind) (text : List ℕ) → HasComponentSets wide → IsWithin kind wide → IsTextOf kind text → IsTextOf wide text }
     ensures uri { (kind : Kind) → IsWithin (ascii_kind kind) kind }
@@ -23,7 +22,6 @@ pub fn texts_of_wider_kinds()
 
 /// A text of a kind of IRIs with its characters past ASCII as octets is of the kind of URIs that
 /// goes with it (RFC 3987, section 3.1), and read as an IRI it means what the text means.
-#[doc(hidden)]
 pub fn encoded_texts_mean_the_same()
     ensures uri { ascii_kind iri ≡ uri }
     ensures uri_ref { ascii_kind iri_ref ≡ uri_ref }
@@ -34,7 +32,6 @@ pub fn encoded_texts_mean_the_same()
 
 /// What a base and a reference resolve to, with the characters past ASCII of both as octets, is the
 /// same refusal, or the target with its characters past ASCII as octets, and underflows alike.
-#[doc(hidden)]
 pub fn encoded_texts_resolve_alike()
     ensures resolution { (base reference : List ℕ) → IsUtf8 base → IsUtf8 reference → resolution_of (components (encoded_text base)) (components (encoded_text reference)) ≡ result_map_both encoded_text (λ refusal. refusal) (resolution_of (components base) (components reference)) }
     ensures underflow { (base reference target : List ℕ) → IsUtf8 base → IsUtf8 reference → resolution_of (components base) (components reference) ≡ Ok target → target_underflows (components (encoded_text base)) (components (encoded_text reference)) ≡ target_underflows (components base) (components reference) }

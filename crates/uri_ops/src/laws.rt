@@ -1,15 +1,24 @@
 //! Laws of the definitions that contracts cite, each the contract of a function that does nothing.
-ghost use Rattle.std.specs.Prelude.{◌≡◌, ◌≤◌, ◌++◌, ◌||◌, ℕ, List, true, false, length, is_some};
+ghost use Rattle.std.specs.Prelude.{◌≡◌, ◌↔◌, ◌≤◌, ◌++◌, ◌||◌, ℕ, List, [], true, false, length, is_some};
 ghost use Rattle.std.specs.Str.{IsUtf8};
 ghost use Rattle.uri_pct.specs.Sets.{TableSet, LacksPercent, IsSubset, unreserved_set};
 ghost use Rattle.uri_pct.specs.Tokens.{print, IsValidFor};
 ghost use Rattle.uri_pct.specs.Reading.{read};
+ghost use Rattle.uri_parts.specs.Authority.{AuthorityParts, IsAuthorityFor, authority_parts};
 ghost use Rattle.uri_parts.specs.Components.{IsRooted, IsSplitOf, starts, components, recompose};
-ghost use Rattle.uri_ops.specs.Dots.{is_empty, remove_dot_segments, underflows, directory, lacks_dot_segments, IsAbsolute, EndsInSlash};
+ghost use Rattle.uri_parts.specs.Grammar.{IsOfKind, iri, iri_ref, uri, uri_ref};
+ghost use Rattle.uri_parts.specs.GrammarInWords.{IsInGrammar};
+ghost use Rattle.uri_parts.specs.Hosts.{HostKind, IsHost, host_kind};
+ghost use Rattle.uri_ops.specs.Dots.{is_empty, remove_dot_segments, underflows, directory, lacks_dot_segments, run_whole, IsAbsolute, EndsInSlash};
 ghost use Rattle.uri_ops.specs.Target.{is_fragment_only, target_of};
 
+/// The loop that removes dot segments ends with nothing left to read (RFC 3986, section 5.2.4).
+#[tactic(auto, using(crate::proofs::DotRuns::dot_runs))]
+pub fn nothing_is_left_to_read()
+    ensures { (path : List ℕ) → (run_whole path).input ≡ [] }
+{}
+
 /// What is left has no dot segment, begins with `/` and is no longer than the path (RFC 3986, section 5.2.4).
-#[doc(hidden)]
 #[tactic(auto, using(crate::proofs::DotLaws::removed_lacks, crate::proofs::DotLaws::removed_absolute, crate::proofs::DotLaws::length_removed))]
 pub fn what_is_left()
     ensures plain { (path : List ℕ) → IsAbsolute path → lacks_dot_segments (remove_dot_segments path) ≡ true }
@@ -18,7 +27,6 @@ pub fn what_is_left()
 {}
 
 /// A path without dot segments is left as it is, and does not underflow.
-#[doc(hidden)]
 #[tactic(auto, using(crate::proofs::DotLaws::removed_of_plain, crate::proofs::DotLaws::underflows_of_plain))]
 pub fn nothing_to_remove()
     ensures removed { (path : List ℕ) → IsAbsolute path → lacks_dot_segments path ≡ true → remove_dot_segments path ≡ path }
@@ -26,14 +34,12 @@ pub fn nothing_to_remove()
 {}
 
 /// To remove dot segments twice is to remove them once.
-#[doc(hidden)]
 #[tactic(auto, using(crate::proofs::DotLaws::removed_twice))]
 pub fn removed_twice()
     ensures { (path : List ℕ) → IsAbsolute path → remove_dot_segments (remove_dot_segments path) ≡ remove_dot_segments path }
 {}
 
 /// A directory begins with and ends in `/`, and its dot segments may be removed before it is taken or after.
-#[doc(hidden)]
 #[tactic(auto, using(crate::proofs::DotLaws::directory_absolute, crate::proofs::DotLaws::directory_ends, crate::proofs::DotLaws::removed_directory, crate::proofs::DotLaws::underflows_directory))]
 pub fn of_a_directory()
     ensures absolute { (path : List ℕ) → IsRooted path → IsAbsolute (directory path) }
@@ -44,7 +50,6 @@ pub fn of_a_directory()
 
 /// Of a path in two pieces, the first of which ends in `/`, the first piece's dot segments may be removed before the path's.
 /// The path underflows where the first piece does, or what is left of it with the second.
-#[doc(hidden)]
 #[tactic(auto, using(crate::proofs::DotLaws::removed_in_pieces, crate::proofs::DotLaws::underflows_in_pieces))]
 pub fn in_pieces()
     ensures removed { (front back : List ℕ) → IsAbsolute front → EndsInSlash front → remove_dot_segments (front ++ back) ≡ remove_dot_segments (remove_dot_segments front ++ back) }
@@ -52,7 +57,6 @@ pub fn in_pieces()
 {}
 
 /// The same of a path that is merged with a base's (RFC 3986, section 5.2.3): the base's dot segments may be removed first.
-#[doc(hidden)]
 #[tactic(auto, using(crate::proofs::DotLaws::removed_before_merging, crate::proofs::DotLaws::underflows_merged))]
 pub fn before_merging()
     ensures removed { (base reference : List ℕ) → IsRooted base → remove_dot_segments (directory base ++ reference) ≡ remove_dot_segments (directory (remove_dot_segments base) ++ reference) }
@@ -60,7 +64,6 @@ pub fn before_merging()
 {}
 
 /// Dot segments may be removed before a path is read or after, and reading changes no underflow.
-#[doc(hidden)]
 pub fn of_a_read_path()
     ensures removed { (set : TableSet) (path : List ℕ) → LacksPercent set → IsSubset unreserved_set set → IsAbsolute path → IsUtf8 path → IsValidFor set path → remove_dot_segments (print (read set path)) ≡ print (read set (remove_dot_segments path)) }
     ensures underflow { (set : TableSet) (path : List ℕ) → LacksPercent set → IsSubset unreserved_set set → IsAbsolute path → IsUtf8 path → IsValidFor set path → underflows (print (read set path)) ≡ underflows path }
@@ -79,4 +82,29 @@ pub fn of_a_target()
 #[tactic(auto, using(crate::proofs::Targets::fragment_only))]
 pub fn fragment_only()
     ensures { (reference : List ℕ) → is_fragment_only (components reference) ≡ (is_empty reference || starts 35 reference) }
+{}
+
+/// The texts of the four kinds are those that the RFCs' words spell: a split into components, each
+/// with its rule, of which the authority has one cut (RFC 3986, sections 3, 3.2 and 4.2, and appendix
+/// B; RFC 3987, section 2.2).
+#[tactic(auto, using(crate::proofs::SpeltTexts::uri_in_grammar, crate::proofs::SpeltTexts::uri_ref_in_grammar, crate::proofs::SpeltTexts::iri_in_grammar, crate::proofs::SpeltTexts::iri_ref_in_grammar))]
+pub fn kinds_are_their_grammar()
+    ensures uri { (text : List ℕ) → IsUtf8 text → (IsOfKind uri text ↔ IsInGrammar uri text) }
+    ensures uri_ref { (text : List ℕ) → IsUtf8 text → (IsOfKind uri_ref text ↔ IsInGrammar uri_ref text) }
+    ensures iri { (text : List ℕ) → IsUtf8 text → (IsOfKind iri text ↔ IsInGrammar iri text) }
+    ensures iri_ref { (text : List ℕ) → IsUtf8 text → (IsOfKind iri_ref text ↔ IsInGrammar iri_ref text) }
+{}
+
+/// An authority has one cut into userinfo, host and port, and a host is of one kind (RFC 3986,
+/// sections 3.2 and 3.2.2; RFC 3987, section 2.2).
+#[tactic(auto, using(crate::proofs::SpeltTexts::uri_cut, crate::proofs::SpeltTexts::iri_cut, crate::proofs::SpeltTexts::uri_host, crate::proofs::SpeltTexts::iri_host))]
+pub fn authorities_have_one_cut()
+    ensures uri { (text : List ℕ) (p : AuthorityParts) → IsUtf8 text
+        → IsAuthorityFor uri.userinfo uri.reg_name text p → authority_parts text ≡ p }
+    ensures iri { (text : List ℕ) (p : AuthorityParts) → IsUtf8 text
+        → IsAuthorityFor iri.userinfo iri.reg_name text p → authority_parts text ≡ p }
+    ensures uri_host { (text : List ℕ) (host : HostKind) → IsUtf8 text
+        → IsHost uri.reg_name text host → host_kind text ≡ host }
+    ensures iri_host { (text : List ℕ) (host : HostKind) → IsUtf8 text
+        → IsHost iri.reg_name text host → host_kind text ≡ host }
 {}

@@ -9,6 +9,7 @@ pub mod CoreTexts
 pub mod Errors
 pub mod Fragments
 pub mod Grammar
+pub mod GrammarInWords
 pub mod Grammars
 pub mod Hosts
 pub mod HostTexts

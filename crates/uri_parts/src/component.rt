@@ -1,5 +1,5 @@
 //! The components of a reference that are more than percent-encoded texts.
-ghost use Rattle.std.specs.Prelude.{◌≡◌, is_some, option_map, true};
+ghost use Rattle.std.specs.Prelude.{◌≡◌, [], is_some, option_map, true};
 ghost use Rattle.uri_parts.specs.Authority.{authority_parts, is_authority_for};
 ghost use Rattle.uri_parts.specs.Hosts.{host_kind};
 ghost use Rattle.uri_parts.specs.Positions.{host_start_of, host_end_of};
@@ -61,12 +61,20 @@ impl<'a, U: Encoder, R: Encoder> Authority<'a, U, R> {
     }
 
     /// The empty authority: an empty host alone.
-    pub const EMPTY: Authority<'static, U, R> = Authority {
-        text: "",
-        host_start: 0,
-        host_end: 0,
-        encoders: PhantomData,
-    };
+    pub const EMPTY: Authority<'static, U, R> = Self::new_empty();
+
+    /// The same, of which a caller knows the text: a constant has no contract.
+    pub const fn new_empty() -> Authority<'static, U, R>
+        ensures text { authority_text result ≡ [] }
+        ensures host { (authority_parts (authority_text result)).host ≡ [] }
+    {
+        Authority {
+            text: "",
+            host_start: 0,
+            host_end: 0,
+            encoders: PhantomData,
+        }
+    }
 
     /// The text, without the `//` before it, for as long as it was borrowed.
     pub fn as_str(self) -> &'a str

@@ -15,25 +15,21 @@ use crate::net::{IpAddr, Ipv4Addr, Ipv6Addr};
 use std::cmp::Ordering;
 
 /// The components of a text are a split of it by RFC 3986, appendix B.
-#[doc(hidden)]
 pub fn components_are_a_split()
     ensures { (text : List ℕ) → IsSplitOf text (components text) }
 {}
 
 /// A text has no other split.
-#[doc(hidden)]
 pub fn components_are_the_only_split()
     ensures { (text : List ℕ) (p : Components) → IsSplitOf text p → components text ≡ p }
 {}
 
 /// The components of a text are together the text, by RFC 3986, section 5.3.
-#[doc(hidden)]
 pub fn components_recompose()
     ensures { (text : List ℕ) → recompose (components text) ≡ text }
 {}
 
 /// The grammar reads the text of an IPv4 address back as the same four octets.
-#[doc(hidden)]
 pub fn ipv4_text_is_read_back(address: &Ipv4Addr)
     ensures { IsIpv4Text (ipv4_text (ipv4_octets address.now)) (ipv4_octets address.now) }
 {
@@ -41,7 +37,6 @@ pub fn ipv4_text_is_read_back(address: &Ipv4Addr)
 }
 
 /// The grammar reads the text of an IPv6 address back as the same eight segments.
-#[doc(hidden)]
 pub fn ipv6_text_is_read_back(address: &Ipv6Addr)
     ensures { IsIpv6Text (ipv6_text (ipv6_segments address.now)) (ipv6_segments address.now) }
 {
@@ -63,7 +58,6 @@ pub fn ipv6_constants_are_their_addresses()
 {}
 
 /// IPv4 addresses are compared by their octets, first to last.
-#[doc(hidden)]
 pub fn ipv4_addresses_compare_by_octets(a: &Ipv4Addr, b: &Ipv4Addr) -> Ordering
     ensures { result ≡ slice_cmp nat_cmp (ipv4_octets a.now) (ipv4_octets b.now) }
 {
@@ -71,7 +65,6 @@ pub fn ipv4_addresses_compare_by_octets(a: &Ipv4Addr, b: &Ipv4Addr) -> Ordering
 }
 
 /// IPv6 addresses are compared by their segments, first to last.
-#[doc(hidden)]
 pub fn ipv6_addresses_compare_by_segments(a: &Ipv6Addr, b: &Ipv6Addr) -> Ordering
     ensures { result ≡ slice_cmp nat_cmp (ipv6_segments a.now) (ipv6_segments b.now) }
 {
@@ -79,11 +72,24 @@ pub fn ipv6_addresses_compare_by_segments(a: &Ipv6Addr, b: &Ipv6Addr) -> Orderin
 }
 
 /// An IPv4 address is less than an IPv6 address.
-#[doc(hidden)]
 pub fn ipv4_is_less_than_ipv6(a: Ipv4Addr, b: Ipv6Addr) -> Ordering
     ensures { result ≡ Less }
 {
     IpAddr::V4(a).cmp(&IpAddr::V6(b))
+}
+
+/// IPv4 addresses are compared by their octets as IP addresses, too.
+pub fn ipv4_addresses_compare_alike(a: Ipv4Addr, b: Ipv4Addr) -> Ordering
+    ensures { result ≡ slice_cmp nat_cmp (ipv4_octets a) (ipv4_octets b) }
+{
+    IpAddr::V4(a).cmp(&IpAddr::V4(b))
+}
+
+/// IPv6 addresses are compared by their segments as IP addresses, too.
+pub fn ipv6_addresses_compare_alike(a: Ipv6Addr, b: Ipv6Addr) -> Ordering
+    ensures { result ≡ slice_cmp nat_cmp (ipv6_segments a) (ipv6_segments b) }
+{
+    IpAddr::V6(a).cmp(&IpAddr::V6(b))
 }
 
 /// The characters of userinfo and of registered names keep the parts of an authority apart.

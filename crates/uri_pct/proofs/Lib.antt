@@ -18,6 +18,7 @@ pub mod OctetTexts
 pub mod Pieces
 pub mod CharacterPieces
 pub mod Printing
+pub mod OctetDigits
 pub mod Allowed
 pub mod Readable
 pub mod Reading

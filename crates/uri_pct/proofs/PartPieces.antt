@@ -8,6 +8,8 @@ use Rattle.std.proofs.lemmas.List.{append-nil}
 use Rattle.std.proofs.lemmas.List.Concat.{flat_map-append}
 use Rattle.std.proofs.lemmas.Str.{IsUtf8-encode, encodes-chars}
 use Rattle.uri_pct.specs.Chunks.{Chunk, Text, Byte, onto_chunks, chunks_of, chunk_bytes, widest_set}
+use Rattle.uri_pct.specs.Decodes.{undecoded, decoded, bytes_left}
+use Rattle.uri_pct.specs.declared.decode.Decode.{Decode}
 use Rattle.uri_pct.specs.Parts.{Plain, Read, parts_from, parts, part_pieces, pieces_of}
 use Rattle.uri_pct.specs.Pieces.{Piece, WellFormed, utf8_pieces}
 use Rattle.uri_pct.specs.Texts.{is_unencoded}
@@ -30,6 +32,9 @@ unfolding chunks_of
 chunk_bytes-chunks_of [] = refl
 chunk_bytes-chunks_of (Char c ∷ ts) = onto_bytes (encode_utf8 c) (chunks_of ts) ∙ ap (λ x. encode_utf8 c ++ x) (chunk_bytes-chunks_of ts)
 chunk_bytes-chunks_of (Octet value ∷ ts) = ap (λ x. value ∷ x) (chunk_bytes-chunks_of ts)
+
+pub left_decoded : (d : Decode) → bytes_left d ≡ decoded d
+left_decoded d = chunk_bytes-chunks_of (tokens (undecoded d))
 
 -- a text without `%` decodes to itself
 chars_bytes : (cs : List ℕ) → token_bytes (map Char cs) ≡ encode_utf8_all cs

@@ -12,15 +12,16 @@ use Rattle.uri_pct.specs.Sets.{TableSet}
 use Rattle.uri_pct.specs.Tokens.{Token, Char, Octet, tokens, tokens_of, print, text_of_token, is_pct_encoded, allows_token, is_valid_for}
 use Rattle.uri_pct.specs.Reading.{is_printable}
 
--- the digits of a byte are two hexadecimal digits of its value
-abbrev are_digits : ℕ → Bool
-are_digits v =
-    let high = digit_glyph true (v / 16) in
-    let low = digit_glyph true (v % 16) in
+-- the digits of a byte, in either case, are two hexadecimal digits of its value
+abbrev pub are_digits : Bool → ℕ → Bool
+are_digits upper v =
+    let high = digit_glyph upper (v / 16) in
+    let low = digit_glyph upper (v % 16) in
     (ltb high 128 && ltb low 128) && ((is_ascii_hexdigit high && is_ascii_hexdigit low) && eqb (16 * digit_value high + digit_value low) v)
 
-digits_of : (v : ℕ) → v < 256 → are_digits v ≡ true
-digits_of v h = agree_below_at are_digits (λ _. true) 256 v refl h
+pub digits_of : (upper : Bool) (v : ℕ) → v < 256 → are_digits upper v ≡ true
+digits_of true v h = agree_below_at (are_digits true) (λ _. true) 256 v refl h
+digits_of false v h = agree_below_at (are_digits false) (λ _. true) 256 v refl h
 
 abbrev chars_of_token : Token → List ℕ
 chars_of_token (Char c) = c ∷ []
@@ -29,7 +30,7 @@ chars_of_token (Octet v) = 37 ∷ digit_glyph true (v / 16) ∷ digit_glyph true
 token_encodes : (t : Token) → is_printable t ≡ true → encode_utf8_all (chars_of_token t) ≡ text_of_token t
 token_encodes (Char c) e = append-nil (encode_utf8 c)
 token_encodes (Octet v) e =
-    let p = and_parts _ _ (and_parts _ _ (digits_of v (ltb-true v 256 e))).0 in
+    let p = and_parts _ _ (and_parts _ _ (digits_of true v (ltb-true v 256 e))).0 in
     let high = encode_ascii (digit_glyph true (v / 16)) (ltb-true _ 128 p.0) in
     let low = encode_ascii (digit_glyph true (v % 16)) (ltb-true _ 128 p.1) in
     let percent : encode_utf8 37 ≡ 37 ∷ [] = encode_ascii 37 (lit< tt) in
@@ -38,7 +39,7 @@ token_encodes (Octet v) e =
 token_scalars : (t : Token) → is_printable t ≡ true → all_scalars (chars_of_token t) ≡ true
 token_scalars (Char c) e = (and_parts _ _ e).0
 token_scalars (Octet v) e =
-    let p = and_parts _ _ (and_parts _ _ (digits_of v (ltb-true v 256 e))).0 in
+    let p = and_parts _ _ (and_parts _ _ (digits_of true v (ltb-true v 256 e))).0 in
     let high : digit_glyph true (v / 16) < 128 = ltb-true _ 128 p.0 in
     let low : digit_glyph true (v % 16) < 128 = ltb-true _ 128 p.1 in
     and_from _ _ (low_scalar (digit_glyph true (v / 16)) (omega arith)) (and_from _ _ (low_scalar (digit_glyph true (v % 16)) (omega arith)) refl)
@@ -53,7 +54,7 @@ token_first : (t : Token) (cs : List ℕ) → is_printable t ≡ true → tokens
 unfolding tokens_of is_pct_encoded
 token_first (Char c) cs e = char_first c cs (not-true _ (and_parts (all_scalars (c ∷ [])) _ e).1)
 token_first (Octet v) cs e =
-    let p = and_parts _ _ (and_parts _ _ (digits_of v (ltb-true v 256 e))).1 in
+    let p = and_parts _ _ (and_parts _ _ (digits_of true v (ltb-true v 256 e))).1 in
     cond-true _ _ _ p.0 ∙ ap (λ n. Octet n ∷ tokens_of cs) (eqb-true _ v p.1)
 
 tokens_of_chars : (ts : List Token) → list_all is_printable ts ≡ true → tokens_of (flat_map chars_of_token ts) ≡ ts

@@ -1,5 +1,6 @@
 use Rattle.std.specs.Prelude.{ℕ, List}
-use Rattle.uri_pct.specs.Chunks.{Chunk, chunks}
+use Rattle.std.specs.List.{flat_map}
+use Rattle.uri_pct.specs.Chunks.{Chunk, chunk_bytes, chunks}
 use Rattle.uri_pct.specs.Tokens.{tokens, token_bytes}
 use Rattle.uri_pct.specs.declared.decode.Decode.{Decode}
 
@@ -12,3 +13,7 @@ chunks_left d = chunks (undecoded d)
 
 abbrev pub decoded : Decode → List ℕ
 decoded d = token_bytes (tokens (undecoded d))
+
+-- the bytes of the items that are left
+abbrev pub bytes_left : Decode → List ℕ
+bytes_left d = flat_map chunk_bytes (chunks_left d)

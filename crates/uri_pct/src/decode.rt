@@ -40,7 +40,7 @@ fn unencoded_len(bytes: &[u8]) -> usize
 
 impl<'a> Decode<'a> {
     ghost use Rattle.uri_pct.specs.Cows.{cow_items, AreBorrowedItems};
-    ghost use Rattle.uri_pct.specs.Decodes.{undecoded, decoded};
+    ghost use Rattle.uri_pct.specs.Decodes.{undecoded, decoded, bytes_left};
 
     /// The text, of which nothing is decoded yet.
     #[doc(hidden)]
@@ -68,9 +68,10 @@ impl<'a> Decode<'a> {
     }
 
     /// The bytes that the text which is left decodes to: its own, borrowed, where no `%` is left.
-    /// `+` is not read as a space.
+    /// They are the bytes of the items that are left. `+` is not read as a space.
     pub fn to_bytes(self, alloc: Global) -> Result<CowSlice<'a, u8>, AllocError>
         ensures bytes { IfOk result (λ b. cow_items b ≡ decoded self.entry) }
+        ensures left { IfOk result (λ b. cow_items b ≡ bytes_left self.entry) }
         ensures borrows { IsTrue (is_unencoded (undecoded self.entry)) → IsOkAnd result AreBorrowedItems }
     {
         if self.is_unencoded() {

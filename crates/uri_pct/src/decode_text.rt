@@ -70,16 +70,18 @@ impl TakeParts for LossyText {
 }
 
 impl<'a> Decode<'a> {
-    ghost use Rattle.uri_pct.specs.Decodes.{undecoded, decoded};
+    ghost use Rattle.uri_pct.specs.Decodes.{undecoded, decoded, bytes_left};
 
-    /// The text that what is left decodes to: itself, borrowed, where no `%` is left. `+` is not
-    /// read as a space.
+    /// The text that what is left decodes to: itself, borrowed, where no `%` is left. Its bytes are
+    /// those of the items that are left. `+` is not read as a space.
     ///
     /// The error is `NotUtf8` with the bytes, exactly if they are not UTF-8, or `OutOfMemory`.
     pub fn to_string(self, alloc: Global) -> Result<CowStr<'a>, DecodeError>
         ensures text { IfOk result (λ text. cow_text text ≡ decoded self.entry) }
         ensures utf8 { IsOk result → IsUtf8 (decoded self.entry) }
         ensures refused { IfErr result (IsRefusalOf (decoded self.entry)) }
+        ensures left { IfOk result (λ text. cow_text text ≡ bytes_left self.entry) }
+        ensures left_refused { IfErr result (IsRefusalOf (bytes_left self.entry)) }
         ensures borrows { IsTrue (is_unencoded (undecoded self.entry)) → IsOkAnd result IsBorrowedText }
     {
         if self.is_unencoded() {
@@ -103,6 +105,7 @@ impl<'a> Decode<'a> {
     /// space.
     pub fn to_string_lossy(self, alloc: Global) -> Result<CowStr<'a>, AllocError>
         ensures text { IfOk result (λ text. cow_text text ≡ lossy_text (decoded self.entry)) }
+        ensures left { IfOk result (λ text. cow_text text ≡ lossy_text (bytes_left self.entry)) }
         ensures borrows { IsTrue (is_unencoded (undecoded self.entry)) → IsOkAnd result IsBorrowedText }
     {
         if self.is_unencoded() {

@@ -1,8 +1,9 @@
 //! Laws of the definitions: each is the contract of a function that does nothing.
 #![tactic(auto, using(crate::proofs::ReadingLaws::reading_laws))]
 
-ghost use Rattle.std.specs.Prelude.{◌≡◌, ◌↔◌, ℕ, true, false, List, ◌∷◌, ◌++◌, map, All};
+ghost use Rattle.std.specs.Prelude.{◌≡◌, ◌↔◌, ◌<◌, ◌/◌, ◌%◌, ℕ, Bool, true, false, List, ◌∷◌, ◌++◌, map, All};
 ghost use Rattle.std.specs.Char.{IsScalar, encode_utf8};
+ghost use Rattle.std.specs.Fmt.{digit_glyph};
 ghost use Rattle.std.specs.List.{list_all};
 ghost use Rattle.std.specs.Str.{IsUtf8};
 ghost use Rattle.std.specs.Str.Lossy.{utf8_lossy};
@@ -14,16 +15,23 @@ ghost use Rattle.uri_pct.specs.Reading.{LacksPastAscii, is_printable, is_readabl
 
 /// What is printed is read back as the tokens that were printed, and the tokens of a text that is
 /// valid for a set may be printed (RFC 3986, sections 2.1 and 6.2.2.1).
-#[doc(hidden)]
 pub fn printing()
     ensures tokens { (ts : List Token) → list_all is_printable ts ≡ true → tokens (print ts) ≡ ts }
     ensures valid { (set : TableSet) (ts : List Token) → list_all is_printable ts ≡ true → list_all (allows_token set) ts ≡ true → IsValidFor set (print ts) }
     ensures printable { (set : TableSet) (text : List ℕ) → LacksPercent set → IsValidFor set text → list_all is_printable (tokens text) ≡ true }
 {}
 
+/// An octet is read as its value, whether its digits are in upper or in lower case (RFC 3986, section
+/// 2.1).
+#[tactic(auto, using(crate::proofs::OctetDigits::tokens_of_octet))]
+pub fn octets_in_either_case()
+    ensures { (upper : Bool) (value : ℕ) (rest : List ℕ) → value < 256
+        → tokens (37 ∷ digit_glyph upper (value / 16) ∷ digit_glyph upper (value % 16) ∷ rest)
+        ≡ Octet value ∷ tokens rest }
+{}
+
 /// What is encoded is read back as the same tokens, these decode to the text or the bytes that were
 /// given, also behind others, and a text is encoded as its bytes are (RFC 3986, section 2.1).
-#[doc(hidden)]
 #[tactic(auto, using(crate::proofs::EncodingLaws::encoding_laws))]
 pub fn encoding()
     ensures text { (set : TableSet) (text : List ℕ) → IsUtf8 text → token_bytes (encode_text set text) ≡ text }

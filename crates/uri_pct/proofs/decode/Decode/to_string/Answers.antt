@@ -3,7 +3,7 @@ use Rattle.std.specs.Str.{IsUtf8}
 use Rattle.std.proofs.lemmas.Bool.{both_ways}
 use Rattle.uri_pct.specs.Decodes.{decoded}
 use Rattle.uri_pct.proofs.Lossy.{well_formed-IsUtf8, IsUtf8-well_formed}
-use Rattle.uri_pct.proofs.PartPieces.{token_bytes-unencoded}
+use Rattle.uri_pct.proofs.PartPieces.{token_bytes-unencoded, left_decoded}
 use Rattle.uri_pct.proofs.Taking.{taken_bytes, taken_is_text}
 use Rattle.uri_pct.proofs.decode.Decode.to_string.Goals as goal
 
@@ -39,3 +39,14 @@ returns-else-is_text-clause-refused c =
     let bytes = taken_bytes text _ c.take_parts.new.taker c.args.self.whole c.in_ok-with_capacity.ensures.items c.in_ok-take_parts.ensures in
     let flawed = sym (taken_is_text text _ c.take_parts.new.taker c.args.self.whole refl c.in_ok-take_parts.ensures) ∙ c.if-is_text.false in
     (bytes, λ u. both_ways _ flawed (well_formed-IsUtf8 (decoded c.args.self) u))
+
+pub returns-then-is_unencoded-clause-left : goal.returns-then-is_unencoded-clause-left
+returns-then-is_unencoded-clause-left c = returns-then-is_unencoded-clause-text c ∙ sym (left_decoded c.args.self)
+
+pub returns-then-is_text-clause-left : goal.returns-then-is_text-clause-left
+returns-then-is_text-clause-left c = returns-then-is_text-clause-text c ∙ sym (left_decoded c.args.self)
+
+pub returns-else-is_text-clause-left_refused : goal.returns-else-is_text-clause-left_refused
+returns-else-is_text-clause-left_refused c =
+    let refused = returns-else-is_text-clause-refused c in
+    (refused.0 ∙ sym (left_decoded c.args.self), λ u. refused.1 (subst IsUtf8 (left_decoded c.args.self) u))

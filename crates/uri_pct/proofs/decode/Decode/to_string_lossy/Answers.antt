@@ -2,7 +2,7 @@ use Rattle.std.proofs.Common.{sym, ap, ◌∙◌, subst}
 use Rattle.std.specs.Str.{IsUtf8}
 use Rattle.uri_pct.specs.Pieces.{lossy_text}
 use Rattle.uri_pct.proofs.Lossy.{lossy_of_text}
-use Rattle.uri_pct.proofs.PartPieces.{token_bytes-unencoded}
+use Rattle.uri_pct.proofs.PartPieces.{token_bytes-unencoded, left_decoded}
 use Rattle.uri_pct.proofs.Taking.{taken_text}
 use Rattle.uri_pct.proofs.decode.Decode.to_string_lossy.Goals as goal
 
@@ -13,3 +13,9 @@ returns-then-is_unencoded-clause-text c =
 
 pub returns-clause-text : goal.returns-clause-text
 returns-clause-text c = taken_text c.args.self.rest.now _ c.take_parts.new.taker c.args.self.whole c.in_ok-with_capacity.ensures.bytes c.in_ok-take_parts.ensures
+
+pub returns-then-is_unencoded-clause-left : goal.returns-then-is_unencoded-clause-left
+returns-then-is_unencoded-clause-left c = returns-then-is_unencoded-clause-text c ∙ ap lossy_text (sym (left_decoded c.args.self))
+
+pub returns-clause-left : goal.returns-clause-left
+returns-clause-left c = returns-clause-text c ∙ ap lossy_text (sym (left_decoded c.args.self))

@@ -1,0 +1,27 @@
+//! Percent-encoded texts of which some items are taken (RFC 3986, section 2.1).
+ghost use Rattle.std.specs.Prelude.{◌≡◌, IfOk, drop};
+ghost use Rattle.std.specs.List.{flat_map};
+ghost use Rattle.fluent_uri.specs.Chunks.{chunk_bytes, chunks};
+ghost use Rattle.fluent_uri.specs.Cows.{cow_items};
+ghost use Rattle.fluent_uri.specs.EStrs.{text_of};
+
+use fluent_uri::pct_enc::encoder::Path;
+use fluent_uri::pct_enc::{CowSlice, EStr};
+use std::alloc::{AllocError, Global};
+
+/// The bytes behind the first item: those of the items that are left.
+///
+/// # Errors
+///
+/// Only if memory is refused.
+pub fn bytes_behind_first<'a>(
+    alloc: Global,
+    text: EStr<'a, Path>,
+) -> Result<CowSlice<'a, u8>, AllocError>
+    ensures { IfOk result (λ bytes.
+        cow_items bytes ≡ flat_map chunk_bytes (drop 1 (chunks (text_of text.entry)))) }
+{
+    let mut decode = text.decode();
+    let _first = decode.next();
+    decode.to_bytes(alloc)
+}

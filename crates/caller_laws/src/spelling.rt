@@ -1,0 +1,27 @@
+//! The texts of the kinds, in the words of the RFCs (RFC 3986, section 3; RFC 3987, section 2.2).
+ghost use Rattle.std.specs.Prelude.{◌≡◌, IfOk, []};
+ghost use Rattle.fluent_uri.specs.Grammar.{iri};
+ghost use Rattle.fluent_uri.specs.GrammarInWords.{IsInGrammar};
+
+use fluent_uri::component::Authority;
+use fluent_uri::pct_enc::encoder::{RegName, Userinfo};
+use fluent_uri::{Iri, ParseError, laws};
+
+/// The text, where it is an IRI: the grammar spells it.
+///
+/// # Errors
+///
+/// Those of `Iri::parse`.
+pub fn spelt(text: &str) -> Result<&str, ParseError>
+    ensures { IfOk result (λ same. IsInGrammar iri same.now) }
+{
+    laws::kinds_are_their_grammar();
+    Ok(Iri::<&str>::parse(text)?.as_str())
+}
+
+/// The text of the empty authority: it is empty.
+pub fn empty_authority() -> &'static str
+    ensures { result.now ≡ [] }
+{
+    Authority::<'static, Userinfo, RegName>::new_empty().as_str()
+}
