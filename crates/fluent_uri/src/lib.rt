@@ -44,6 +44,7 @@ pub mod normalize {
 
 /// Texts that are percent-encoded over an encoder's set.
 pub mod pct_enc {
+    pub use uri_pct::encoder::Encoder;
     pub use uri_pct::pct_enc::{
         CowSlice, CowStr, Decode, DecodeError, DecodedChunk, EStr, EString, Split,
     };
