@@ -21,6 +21,8 @@ mod original;
 #[cfg(test)]
 mod owned_encoding;
 #[cfg(test)]
+mod padding;
+#[cfg(test)]
 mod parsing;
 #[cfg(test)]
 mod resolving;

@@ -498,12 +498,16 @@ impl From<Iri<String>> for String {
 }
 
 impl<T: AsStr> fmt::Display for Iri<T> {
+    ghost use Rattle.std.specs.Fmt.{styled_text};
     ghost use Rattle.fluent_uri.specs.Iris.{iri_text};
 
     ghost output = { λ value. Some (iri_text value) };
 
+    ghost styled_output = { λ value spec. Some (styled_text spec (iri_text value)) };
+
+    /// Prints the text as it stands, padded and cut as the format asks.
     fn fmt<W: fmt::Write>(&self, f: &mut fmt::Formatter<W>) -> fmt::Result {
-        f.write_str(self.text.as_str())
+        f.pad(self.text.as_str())
     }
 }
 

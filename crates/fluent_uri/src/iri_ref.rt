@@ -570,12 +570,16 @@ impl<'a> Default for IriRef<&'a str> {
 }
 
 impl<T: AsStr> fmt::Display for IriRef<T> {
+    ghost use Rattle.std.specs.Fmt.{styled_text};
     ghost use Rattle.fluent_uri.specs.IriRefs.{iri_ref_text};
 
     ghost output = { λ value. Some (iri_ref_text value) };
 
+    ghost styled_output = { λ value spec. Some (styled_text spec (iri_ref_text value)) };
+
+    /// Prints the text as it stands, padded and cut as the format asks.
     fn fmt<W: fmt::Write>(&self, f: &mut fmt::Formatter<W>) -> fmt::Result {
-        f.write_str(self.text.as_str())
+        f.pad(self.text.as_str())
     }
 }
 

@@ -573,12 +573,16 @@ impl<'a> Default for UriRef<&'a str> {
 }
 
 impl<T: AsStr> fmt::Display for UriRef<T> {
+    ghost use Rattle.std.specs.Fmt.{styled_text};
     ghost use Rattle.uri_ascii.specs.UriRefs.{uri_ref_text};
 
     ghost output = { λ value. Some (uri_ref_text value) };
 
+    ghost styled_output = { λ value spec. Some (styled_text spec (uri_ref_text value)) };
+
+    /// Prints the text as it stands, padded and cut as the format asks.
     fn fmt<W: fmt::Write>(&self, f: &mut fmt::Formatter<W>) -> fmt::Result {
-        f.write_str(self.text.as_str())
+        f.pad(self.text.as_str())
     }
 }
 
