@@ -15,6 +15,8 @@ mod encoding;
 #[cfg(test)]
 mod fragments;
 #[cfg(test)]
+mod generic;
+#[cfg(test)]
 mod normalising;
 #[cfg(test)]
 mod original;

@@ -21,7 +21,7 @@ use uri_ops::build::Builder;
 use uri_ops::build::state::{Start, State};
 use uri_ops::normalize;
 use uri_ops::resolve::{self, ResolveError};
-use uri_ops::traits::{self, RefOf, RiMaybeRef};
+use uri_ops::traits::{self, RefOf, RiMaybeRef, WithOwned};
 use uri_parts::component::Scheme;
 use uri_parts::core_text::CoreText;
 use uri_parts::error::ParseError;
@@ -124,6 +124,14 @@ impl<T: AsStr> RiMaybeRef for IriRef<T> {
     ghost query_set = { refl };
 
     ghost fragment_set = { refl };
+}
+
+impl<T: AsStr> WithOwned for IriRef<T> {
+    ghost use Rattle.std.specs.Prelude.{refl};
+
+    ghost owned_kind = { refl };
+
+    ghost owned_text_is_text = { λ _. refl };
 }
 
 impl<T: AsStr, B: AsStr> RefOf<Iri<B>> for IriRef<T> {

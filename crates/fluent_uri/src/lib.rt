@@ -10,7 +10,7 @@ pub use iri_ref::IriRef;
 pub use uri_ascii::uri::Uri;
 pub use uri_ascii::uri_ref::UriRef;
 pub use uri_ops::convert::ConvertError;
-pub use uri_ops::traits::{RefOf, Ri, RiMaybeRef};
+pub use uri_ops::traits::{RefOf, Ri, RiMaybeRef, WithOwned};
 pub use uri_parts::error::{ParseError, ParseErrorKind};
 
 /// Building references (RFC 3986, section 5.3).

@@ -21,7 +21,7 @@ use uri_ops::build::Builder;
 use uri_ops::build::state::{Start, State};
 use uri_ops::normalize;
 use uri_ops::resolve::{self, ResolveError};
-use uri_ops::traits::{self, RefOf, RiMaybeRef};
+use uri_ops::traits::{self, RefOf, RiMaybeRef, WithOwned};
 use uri_parts::component::{Authority, Scheme};
 use uri_parts::core_text::CoreText;
 use uri_parts::error::ParseError;
@@ -125,6 +125,14 @@ impl<T: AsStr> RiMaybeRef for UriRef<T> {
     ghost query_set = { refl };
 
     ghost fragment_set = { refl };
+}
+
+impl<T: AsStr> WithOwned for UriRef<T> {
+    ghost use Rattle.std.specs.Prelude.{refl};
+
+    ghost owned_kind = { refl };
+
+    ghost owned_text_is_text = { λ _. refl };
 }
 
 impl<T: AsStr, B: AsStr> RefOf<Uri<B>> for UriRef<T> {
