@@ -9,3 +9,7 @@ mod connecting;
 mod converting;
 #[cfg(test)]
 mod fragments;
+#[cfg(test)]
+mod generic;
+#[cfg(test)]
+mod padding;

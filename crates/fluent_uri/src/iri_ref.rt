@@ -23,7 +23,7 @@ use uri_ops::build::Builder;
 use uri_ops::build::state::{Start, State};
 use uri_ops::normalize;
 use uri_ops::resolve::{self, ResolveError};
-use uri_ops::traits::{self, RefOf, RiMaybeRef};
+use uri_ops::traits::{self, RefOf, RiMaybeRef, WithOwned};
 use uri_parts::component::Scheme;
 use uri_parts::core_text::CoreText;
 use uri_parts::error::ParseError;
@@ -126,6 +126,14 @@ impl<T: AsStr> RiMaybeRef for IriRef<T> {
     ghost query_set = { refl };
 
     ghost fragment_set = { refl };
+}
+
+impl<T: AsStr> WithOwned for IriRef<T> {
+    ghost use Rattle.std.specs.Prelude.{refl};
+
+    ghost owned_kind = { refl };
+
+    ghost owned_text_is_text = { λ _. refl };
 }
 
 impl<T: AsStr, B: AsStr> RefOf<Iri<B>> for IriRef<T> {
@@ -590,12 +598,16 @@ impl<'a> Default for IriRef<&'a str> {
 }
 
 impl<T: AsStr> fmt::Display for IriRef<T> {
+    ghost use Rattle.std.specs.Fmt.{styled_text};
     ghost use Rattle.fluent_uri.specs.IriRefs.{iri_ref_text};
 
     ghost output = { λ value. Some (iri_ref_text value) };
 
+    ghost styled_output = { λ value spec. Some (styled_text spec (iri_ref_text value)) };
+
+    /// Prints the text as it stands, padded and cut as the format asks.
     fn fmt<W: fmt::Write>(&self, f: &mut fmt::Formatter<W>) -> fmt::Result {
-        f.write_str(self.text.as_str())
+        f.pad(self.text.as_str())
     }
 }
 

@@ -10,7 +10,7 @@ pub use iri_ref::IriRef;
 pub use uri_ascii::uri::Uri;
 pub use uri_ascii::uri_ref::UriRef;
 pub use uri_ops::convert::ConvertError;
-pub use uri_ops::traits::{RefOf, Ri, RiMaybeRef};
+pub use uri_ops::traits::{RefOf, Ri, RiMaybeRef, WithOwned};
 pub use uri_parts::error::{ParseError, ParseErrorKind};
 
 /// Building references (RFC 3986, section 5.3).
@@ -68,6 +68,7 @@ pub mod normalize {
 
 /// Texts that are percent-encoded over an encoder's set.
 pub mod pct_enc {
+    pub use uri_pct::encoder::Encoder;
     pub use uri_pct::pct_enc::{
         CowSlice, CowStr, Decode, DecodeError, DecodedChunk, EStr, EString, Split,
     };

@@ -17,7 +17,7 @@ use std::hash::{Hash, Hasher};
 use uri_ops::build::Builder;
 use uri_ops::build::state::{NonRefStart, State};
 use uri_ops::normalize;
-use uri_ops::traits::{self, Ri, RiMaybeRef};
+use uri_ops::traits::{self, Ri, RiMaybeRef, WithOwned};
 use uri_parts::component::{Authority, Scheme};
 use uri_parts::core_text::CoreText;
 use uri_parts::error::ParseError;
@@ -122,6 +122,14 @@ impl<T: AsStr> RiMaybeRef for Uri<T> {
     ghost query_set = { refl };
 
     ghost fragment_set = { refl };
+}
+
+impl<T: AsStr> WithOwned for Uri<T> {
+    ghost use Rattle.std.specs.Prelude.{refl};
+
+    ghost owned_kind = { refl };
+
+    ghost owned_text_is_text = { λ _. refl };
 }
 
 impl<T: AsStr> Ri for Uri<T> {
@@ -502,12 +510,16 @@ impl From<Uri<String>> for String {
 }
 
 impl<T: AsStr> fmt::Display for Uri<T> {
+    ghost use Rattle.std.specs.Fmt.{styled_text};
     ghost use Rattle.uri_ascii.specs.Uris.{uri_text};
 
     ghost output = { λ value. Some (uri_text value) };
 
+    ghost styled_output = { λ value spec. Some (styled_text spec (uri_text value)) };
+
+    /// Prints the text as it stands, padded and cut as the format asks.
     fn fmt<W: fmt::Write>(&self, f: &mut fmt::Formatter<W>) -> fmt::Result {
-        f.write_str(self.text.as_str())
+        f.pad(self.text.as_str())
     }
 }
 

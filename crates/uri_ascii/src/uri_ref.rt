@@ -23,7 +23,7 @@ use uri_ops::build::Builder;
 use uri_ops::build::state::{Start, State};
 use uri_ops::normalize;
 use uri_ops::resolve::{self, ResolveError};
-use uri_ops::traits::{self, RefOf, RiMaybeRef};
+use uri_ops::traits::{self, RefOf, RiMaybeRef, WithOwned};
 use uri_parts::component::{Authority, Scheme};
 use uri_parts::core_text::CoreText;
 use uri_parts::error::ParseError;
@@ -127,6 +127,14 @@ impl<T: AsStr> RiMaybeRef for UriRef<T> {
     ghost query_set = { refl };
 
     ghost fragment_set = { refl };
+}
+
+impl<T: AsStr> WithOwned for UriRef<T> {
+    ghost use Rattle.std.specs.Prelude.{refl};
+
+    ghost owned_kind = { refl };
+
+    ghost owned_text_is_text = { λ _. refl };
 }
 
 impl<T: AsStr, B: AsStr> RefOf<Uri<B>> for UriRef<T> {
@@ -593,12 +601,16 @@ impl<'a> Default for UriRef<&'a str> {
 }
 
 impl<T: AsStr> fmt::Display for UriRef<T> {
+    ghost use Rattle.std.specs.Fmt.{styled_text};
     ghost use Rattle.uri_ascii.specs.UriRefs.{uri_ref_text};
 
     ghost output = { λ value. Some (uri_ref_text value) };
 
+    ghost styled_output = { λ value spec. Some (styled_text spec (uri_ref_text value)) };
+
+    /// Prints the text as it stands, padded and cut as the format asks.
     fn fmt<W: fmt::Write>(&self, f: &mut fmt::Formatter<W>) -> fmt::Result {
-        f.write_str(self.text.as_str())
+        f.pad(self.text.as_str())
     }
 }
 

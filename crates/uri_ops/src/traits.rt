@@ -8,6 +8,7 @@ ghost use Rattle.uri_pct.specs.EStrs.{text_of};
 ghost use Rattle.uri_ops.specs.Texts.{IsTextOf};
 
 use std::alloc::{AllocError, Global};
+use uri_parts::component::{Authority, Scheme};
 use uri_parts::core_text::CoreText;
 use uri_parts::fragment;
 use uri_parts::positions::Positions;
@@ -24,6 +25,10 @@ pub trait RiMaybeRef {
     ghost use Rattle.uri_parts.specs.Grammar.{Kind};
     ghost use Rattle.uri_ops.specs.BuilderParts.{known_kind};
     ghost use Rattle.uri_ops.specs.ComponentSets.{HasComponentSets};
+    ghost use Rattle.uri_pct.specs.EStrs.{text_of};
+    ghost use Rattle.uri_parts.specs.AuthorityTexts.{authority_text};
+    ghost use Rattle.uri_parts.specs.Components.{components};
+    ghost use Rattle.uri_parts.specs.Schemes.{scheme_text};
 
     /// The kind over a text of its own.
     type Owned: Drop;
@@ -80,6 +85,50 @@ pub trait RiMaybeRef {
     fn has_needed_scheme() -> bool
         ensures { result ≡ kind.needs_scheme };
 
+    /// The scheme without its `:`, if there is one (RFC 3986, section 3.1).
+    final fn scheme_opt(&self) -> Option<Scheme<'_>>
+        ensures { option_map scheme_text result ≡ (components (text self.now)).scheme }
+    {
+        self.core().scheme()
+    }
+
+    /// The authority without its `//`, if there is one (RFC 3986, section 3.2).
+    final fn authority(&self) -> Option<Authority<'_, Self::UserinfoE, Self::RegNameE>>
+        ensures { option_map authority_text result ≡ (components (text self.now)).authority }
+    {
+        match self.core().authority() {
+            Some(authority) => Some(authority.over_same_sets()),
+            None => None,
+        }
+    }
+
+    /// The path, which may be empty (RFC 3986, section 3.3).
+    final fn path(&self) -> EStr<'_, Self::PathE>
+        ensures { text_of result ≡ (components (text self.now)).path }
+    {
+        EStr::new_unchecked(self.core().path().as_str())
+    }
+
+    /// The query without its `?`, if there is one (RFC 3986, section 3.4).
+    final fn query(&self) -> Option<EStr<'_, Self::QueryE>>
+        ensures { option_map text_of result ≡ (components (text self.now)).query }
+    {
+        match self.core().query() {
+            Some(query) => Some(EStr::new_unchecked(query.as_str())),
+            None => None,
+        }
+    }
+
+    /// The fragment without its `#`, if there is one (RFC 3986, section 3.5).
+    final fn fragment(&self) -> Option<EStr<'_, Self::FragmentE>>
+        ensures { option_map text_of result ≡ (components (text self.now)).fragment }
+    {
+        match self.core().fragment() {
+            Some(fragment) => Some(EStr::new_unchecked(fragment.as_str())),
+            None => None,
+        }
+    }
+
     ghost known: { kind ≡ known_kind kind.path.ucschar kind.needs_scheme };
 
     ghost rules_of_kind: { Self.Rules.kind ≡ record kind { needs_scheme = false } };
@@ -95,6 +144,19 @@ pub trait RiMaybeRef {
     ghost query_set: { Self.QueryE.set ≡ kind.query };
 
     ghost fragment_set: { Self.FragmentE.set ≡ kind.fragment };
+}
+
+/// A kind whose `Owned` is of the kind as well.
+///
+/// It is implemented for the four kinds alone. Generic code that goes on with what a call answers,
+/// as a normal form, asks for `R: WithOwned` and `R::Owned: RiMaybeRef`.
+pub trait WithOwned: RiMaybeRef
+where
+    Self::Owned: RiMaybeRef,
+{
+    ghost owned_kind: { Self.Owned.kind ≡ Self.kind };
+
+    ghost owned_text_is_text: { (value : Self.Owned) → Self.Owned.text value ≡ Self.owned_text value };
 }
 
 /// A kind whose texts have a scheme: a URI or an IRI.
