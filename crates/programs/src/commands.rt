@@ -31,9 +31,9 @@ fn run_words<O: Write, E: Write>(
 fn ends_with<R: Abort>(rt: &R, alloc: Global, words: &[&str], status: u8, out: &str, err: &str) {
     let (mut got_out, mut got_err) = (Vec::new(alloc), Vec::new(alloc));
     let got = run_words(alloc, words, &mut got_out, &mut got_err).expect(rt, "memory");
+    equal((words, got), (words, status)).expect(rt, "status");
     equal(got_out.as_slice(), out.as_bytes()).expect(rt, out);
     equal(got_err.as_slice(), err.as_bytes()).expect(rt, err);
-    equal(got, status).expect(rt, "status");
 }
 
 /// Words, and what they have printed.
@@ -213,7 +213,7 @@ fn shows_usage(rt: HostRuntime) {
 fn output_fails<R: Abort>(rt: &R, alloc: Global, words: &[&str], writes: usize) {
     let mut err = Vec::new(alloc);
     let status = run_words(alloc, words, &mut Takes(writes), &mut err).expect(rt, "memory");
-    equal((writes, status), (writes, 1)).expect(rt, "status");
+    equal((words, writes, status), (words, writes, 1)).expect(rt, "status");
     equal(err.as_slice(), b"error: output failed\n".as_slice()).expect(rt, "error output");
 }
 
@@ -243,7 +243,8 @@ fn ends_alike_without_errors_shown(rt: HostRuntime) {
     let alloc = rt.alloc();
     for &(words, wanted) in WITHOUT_ERRORS {
         let status = run_words(alloc, words, &mut Vec::new(alloc), &mut Takes(0));
-        equal(status.expect(&rt, "memory"), wanted).expect(&rt, "status");
+        let status = status.expect(&rt, "memory");
+        equal((words, status), (words, wanted)).expect(&rt, "status");
     }
     let status = run_words(alloc, WHOLE, &mut Takes(0), &mut Takes(0));
     equal(status.expect(&rt, "memory"), 1).expect(&rt, "status");
