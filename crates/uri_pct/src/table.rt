@@ -428,26 +428,3 @@ pub const IFRAGMENT: Table = Table {
     ucschar: true,
     iprivate: false,
 };
-
-#[cfg(test)]
-mod tests {
-    use super::{ALPHA, DIGIT, UNRESERVED};
-
-    #[test]
-    fn digits_are_in_the_low_mask(rt: HostRuntime) {
-        assert_eq!(rt; DIGIT.low, 0x03FF_0000_0000_0000);
-        assert_eq!(rt; DIGIT.high, 0);
-    }
-
-    #[test]
-    fn letters_are_in_the_high_mask(rt: HostRuntime) {
-        assert_eq!(rt; ALPHA.low, 0);
-        assert_eq!(rt; ALPHA.high, 0x07FF_FFFE_07FF_FFFE);
-    }
-
-    #[test]
-    fn unreserved_characters_are_in_both_masks(rt: HostRuntime) {
-        assert_eq!(rt; UNRESERVED.low, 0x03FF_6000_0000_0000);
-        assert_eq!(rt; UNRESERVED.high, 0x47FF_FFFE_87FF_FFFE);
-    }
-}
