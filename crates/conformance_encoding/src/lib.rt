@@ -5,3 +5,5 @@
 mod encoding;
 #[cfg(test)]
 mod owned_encoding;
+#[cfg(test)]
+mod tables;
