@@ -611,6 +611,20 @@ impl<T: AsStr> fmt::Display for IriRef<T> {
     }
 }
 
+impl<T: AsStr> fmt::Debug for IriRef<T> {
+    /// Prints the components by name.
+    fn fmt<W: fmt::Write>(&self, f: &mut fmt::Formatter<W>) -> fmt::Result {
+        let core = self.core();
+        f.debug_struct("IriRef")
+            .field("scheme", &core.scheme())
+            .field("authority", &core.authority())
+            .field("path", &core.path())
+            .field("query", &core.query())
+            .field("fragment", &core.fragment())
+            .finish()
+    }
+}
+
 impl<T: AsStr> PartialEq for IriRef<T> {
     ghost use Rattle.std.proofs.Common.{rules};
     ghost use Rattle.std.specs.Prelude.{◌==◌};

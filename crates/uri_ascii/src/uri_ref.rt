@@ -614,6 +614,20 @@ impl<T: AsStr> fmt::Display for UriRef<T> {
     }
 }
 
+impl<T: AsStr> fmt::Debug for UriRef<T> {
+    /// Prints the components by name.
+    fn fmt<W: fmt::Write>(&self, f: &mut fmt::Formatter<W>) -> fmt::Result {
+        let core = self.core();
+        f.debug_struct("UriRef")
+            .field("scheme", &core.scheme())
+            .field("authority", &core.authority())
+            .field("path", &core.path())
+            .field("query", &core.query())
+            .field("fragment", &core.fragment())
+            .finish()
+    }
+}
+
 impl<T: AsStr> PartialEq for UriRef<T> {
     ghost use Rattle.std.proofs.Common.{rules};
     ghost use Rattle.std.specs.Prelude.{◌==◌};

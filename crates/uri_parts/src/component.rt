@@ -176,8 +176,20 @@ impl<'a, U: Encoder, R: Encoder> fmt::Display for Authority<'a, U, R> {
     }
 }
 
+impl<'a, U: Encoder, R: Encoder> fmt::Debug for Authority<'a, U, R> {
+    /// Prints the parts by name.
+    fn fmt<W: fmt::Write>(&self, f: &mut fmt::Formatter<W>) -> fmt::Result {
+        f.debug_struct("Authority")
+            .field("userinfo", &self.userinfo())
+            .field("host", &self.host())
+            .field("host_parsed", &self.host_parsed())
+            .field("port", &self.port())
+            .finish()
+    }
+}
+
 /// A host (RFC 3986, section 3.2.2), whose registered name is an `N`.
-#[derive(Clone, Copy)]
+#[derive(Clone, Copy, Debug)]
 pub enum HostOf<N> {
     /// An IPv4 address.
     Ipv4(Ipv4Addr),

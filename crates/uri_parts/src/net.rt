@@ -9,7 +9,7 @@ use std::{fmt, net};
 ///
 /// Addresses are compared by their octets, first to last. One is printed as four decimal numbers
 /// joined by `.`.
-#[derive(Clone, Copy, Debug, PartialEq, Eq, PartialOrd, Ord, Hash)]
+#[derive(Clone, Copy, PartialEq, Eq, PartialOrd, Ord, Hash)]
 pub struct Ipv4Addr(net::Ipv4Addr);
 
 impl Ipv4Addr {
@@ -58,6 +58,17 @@ impl fmt::Display for Ipv4Addr {
     }
 }
 
+impl fmt::Debug for Ipv4Addr {
+    ghost use Rattle.uri_parts.specs.Addresses.{ipv4_octets};
+
+    ghost debug_output = { λ a. Some (ipv4_text (ipv4_octets a)) };
+
+    /// Prints what `Display` prints.
+    fn fmt<W: fmt::Write>(&self, f: &mut fmt::Formatter<W>) -> fmt::Result {
+        fmt::Display::fmt(self, f)
+    }
+}
+
 impl From<net::Ipv4Addr> for Ipv4Addr {
     ghost use Rattle.std.specs.Net.Addr as std_addresses;
     ghost use Rattle.uri_parts.specs.Addresses.{ipv4_octets};
@@ -88,7 +99,7 @@ impl From<Ipv4Addr> for net::Ipv4Addr {
 /// lower-case hexadecimal digits with no leading zeros, with `::` in place of the first longest
 /// run of two or more zero segments, and with the last two segments as an IPv4 address exactly
 /// where the address is `::ffff:a.b.c.d`.
-#[derive(Clone, Copy, Debug, PartialEq, Eq, PartialOrd, Ord, Hash)]
+#[derive(Clone, Copy, PartialEq, Eq, PartialOrd, Ord, Hash)]
 pub struct Ipv6Addr(net::Ipv6Addr);
 
 impl Ipv6Addr {
@@ -138,6 +149,17 @@ impl fmt::Display for Ipv6Addr {
     }
 }
 
+impl fmt::Debug for Ipv6Addr {
+    ghost use Rattle.uri_parts.specs.Addresses.{ipv6_segments};
+
+    ghost debug_output = { λ a. Some (ipv6_text (ipv6_segments a)) };
+
+    /// Prints what `Display` prints.
+    fn fmt<W: fmt::Write>(&self, f: &mut fmt::Formatter<W>) -> fmt::Result {
+        fmt::Display::fmt(self, f)
+    }
+}
+
 impl From<net::Ipv6Addr> for Ipv6Addr {
     ghost use Rattle.std.specs.Net.Addr as std_addresses;
     ghost use Rattle.uri_parts.specs.Addresses.{ipv6_segments};
@@ -163,7 +185,7 @@ impl From<Ipv6Addr> for net::Ipv6Addr {
 }
 
 /// An IP address of either version. Each IPv4 address is less than each IPv6 address.
-#[derive(Clone, Copy, Debug, PartialEq, Eq, PartialOrd, Ord, Hash)]
+#[derive(Clone, Copy, PartialEq, Eq, PartialOrd, Ord, Hash)]
 pub enum IpAddr {
     /// An IPv4 address.
     V4(Ipv4Addr),
@@ -181,6 +203,17 @@ impl fmt::Display for IpAddr {
             IpAddr::V4(address) => fmt::Display::fmt(address, f),
             IpAddr::V6(address) => fmt::Display::fmt(address, f),
         }
+    }
+}
+
+impl fmt::Debug for IpAddr {
+    ghost use Rattle.uri_parts.specs.Addresses.{ip_text};
+
+    ghost debug_output = { λ a. Some (ip_text a) };
+
+    /// Prints what `Display` prints.
+    fn fmt<W: fmt::Write>(&self, f: &mut fmt::Formatter<W>) -> fmt::Result {
+        fmt::Display::fmt(self, f)
     }
 }
 

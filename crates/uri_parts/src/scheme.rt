@@ -86,6 +86,18 @@ impl<'a> fmt::Display for Scheme<'a> {
     }
 }
 
+impl<'a> fmt::Debug for Scheme<'a> {
+    ghost use Rattle.std.specs.Fmt.{debug_str};
+    ghost use Rattle.uri_parts.specs.Schemes.{scheme_text};
+
+    ghost debug_output = { λ s. debug_str (scheme_text s) };
+
+    /// Prints the text in quotes, as `Debug` of a `str` does.
+    fn fmt<W: fmt::Write>(&self, f: &mut fmt::Formatter<W>) -> fmt::Result {
+        fmt::Debug::fmt(&self.text, f)
+    }
+}
+
 impl<'a> PartialEq for Scheme<'a> {
     ghost use Rattle.std.proofs.Common.{rules};
     ghost use Rattle.std.specs.Cmp.Rules.{comparing};

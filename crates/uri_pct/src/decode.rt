@@ -10,6 +10,7 @@ use crate::encoder::Encoder;
 use crate::octet::octet_value;
 use crate::pct_enc::EStr;
 use std::alloc::{AllocError, Global};
+use std::iter::FusedIterator;
 
 /// A part of a text that is decoded.
 #[derive(Clone, Copy, Debug, PartialEq, Eq)]
@@ -88,6 +89,19 @@ impl<'a> Decode<'a> {
     }
 }
 
+impl<'a> Clone for Decode<'a> {
+    ghost use Rattle.std.specs.Prelude.{⊤};
+    ghost use Rattle.uri_pct.specs.Decodes.{undecoded};
+
+    ghost is_clone = { λ value copy. undecoded copy ≡ undecoded value };
+
+    ghost is_infallible = { λ _. ⊤ };
+
+    fn clone(&self) -> Result<Self, AllocError> {
+        Ok(Decode::of_text(self.rest))
+    }
+}
+
 impl<'a> Iterator for Decode<'a> {
     ghost use Rattle.std.specs.Iterator.{YieldsFirstBy, item_count};
     ghost use Rattle.uri_pct.specs.DecodedChunks.{chunk_of};
@@ -115,6 +129,8 @@ impl<'a> Iterator for Decode<'a> {
         Some(DecodedChunk::Unencoded(text))
     }
 }
+
+impl<'a> FusedIterator for Decode<'a> {}
 
 impl<'a, E: Encoder> EStr<'a, E> {
     ghost use Rattle.uri_pct.specs.Decodes.{undecoded, chunks_left};

@@ -198,6 +198,18 @@ impl<E: Encoder> fmt::Display for EString<E> {
     }
 }
 
+impl<E: Encoder> fmt::Debug for EString<E> {
+    ghost use Rattle.std.specs.Fmt.{debug_str};
+    ghost use Rattle.uri_pct.specs.EStrings.{owned_text};
+
+    ghost debug_output = { λ e. debug_str (owned_text e) };
+
+    /// Prints the text in quotes, as `Debug` of a `str` does.
+    fn fmt<W: fmt::Write>(&self, f: &mut fmt::Formatter<W>) -> fmt::Result {
+        fmt::Debug::fmt(&self.as_str(), f)
+    }
+}
+
 impl<E: Encoder> PartialEq for EString<E> {
     ghost use Rattle.std.proofs.Common.{rules};
     ghost use Rattle.std.specs.Prelude.{◌==◌};

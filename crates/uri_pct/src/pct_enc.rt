@@ -181,6 +181,18 @@ impl<'a, E: Encoder> fmt::Display for EStr<'a, E> {
     }
 }
 
+impl<'a, E: Encoder> fmt::Debug for EStr<'a, E> {
+    ghost use Rattle.std.specs.Fmt.{debug_str};
+    ghost use Rattle.uri_pct.specs.EStrs.{text_of};
+
+    ghost debug_output = { λ e. debug_str (text_of e) };
+
+    /// Prints the text in quotes, as `Debug` of a `str` does.
+    fn fmt<W: fmt::Write>(&self, f: &mut fmt::Formatter<W>) -> fmt::Result {
+        fmt::Debug::fmt(&self.text, f)
+    }
+}
+
 impl<'a, E: Encoder> PartialEq for EStr<'a, E> {
     ghost use Rattle.std.proofs.Common.{rules};
     ghost use Rattle.std.specs.Cmp.Rules.{comparing};

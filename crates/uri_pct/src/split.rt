@@ -6,6 +6,8 @@ ghost use Rattle.uri_pct.specs.Texts.{lacks, is_absolute, IsFirstCut, IsLastCut}
 
 use crate::encoder::{Encoder, PathEncoder};
 use crate::pct_enc::EStr;
+use std::alloc::AllocError;
+use std::iter::FusedIterator;
 
 /// The pieces of a text between the places of a delimiter, from both ends: each comes once, from
 /// whichever end it is asked for, and after the last both ends answer `None`.
@@ -14,6 +16,22 @@ pub struct Split<'a, E: Encoder> {
     rest: Option<EStr<'a, E>>,
     delimiter: char,
     pub ghost reserved: { is_reserved delimiter ≡ true },
+}
+
+impl<'a, E: Encoder> Clone for Split<'a, E> {
+    ghost use Rattle.std.specs.Prelude.{⊤};
+    ghost use Rattle.uri_pct.specs.Splits.{pieces_left};
+
+    ghost is_clone = { λ value copy. pieces_left copy ≡ pieces_left value };
+
+    ghost is_infallible = { λ _. ⊤ };
+
+    fn clone(&self) -> Result<Self, AllocError> {
+        Ok(Split {
+            rest: self.rest,
+            delimiter: self.delimiter,
+        })
+    }
 }
 
 impl<'a, E: Encoder> Iterator for Split<'a, E> {
@@ -63,6 +81,8 @@ impl<'a, E: Encoder> DoubleEndedIterator for Split<'a, E> {
         }
     }
 }
+
+impl<'a, E: Encoder> FusedIterator for Split<'a, E> {}
 
 impl<'a, E: Encoder> EStr<'a, E> {
     ghost use Rattle.uri_pct.specs.EStrs.{text_of};
