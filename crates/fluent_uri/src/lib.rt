@@ -31,8 +31,8 @@ pub mod component {
     pub type IHost<'a> = Host<'a, IRegName>;
 }
 
-/// Laws of the definitions that contracts cite. Each function does nothing, and its contract is the
-/// law: a caller whose proof needs one calls it.
+/// Laws of the definitions that contracts cite: a call does nothing, and its contract is the law. A
+/// caller whose proof needs one calls it.
 pub mod laws {
     pub use uri_ops::across::{
         encoded_texts_mean_the_same, encoded_texts_resolve_alike, texts_of_wider_kinds,
