@@ -11,6 +11,10 @@ mod connecting;
 #[cfg(test)]
 mod converting;
 #[cfg(test)]
+mod debugging;
+#[cfg(test)]
+mod decoded;
+#[cfg(test)]
 mod encoding;
 #[cfg(test)]
 mod fragments;
@@ -28,3 +32,5 @@ mod padding;
 mod parsing;
 #[cfg(test)]
 mod resolving;
+#[cfg(test)]
+mod std_addresses;
