@@ -1,4 +1,5 @@
-//! Schemes, ports, where to connect, conversions between the kinds, fragments and builders.
+//! Schemes, ports, where to connect, conversions between the kinds, fragments and builders; what is
+//! printed under a width and for programmers, and what generic code gets from the traits.
 #![tactic(auto)]
 
 #[cfg(test)]
@@ -7,6 +8,8 @@ mod building;
 mod connecting;
 #[cfg(test)]
 mod converting;
+#[cfg(test)]
+mod debugging;
 #[cfg(test)]
 mod fragments;
 #[cfg(test)]

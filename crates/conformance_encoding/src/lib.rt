@@ -2,6 +2,8 @@
 #![tactic(auto)]
 
 #[cfg(test)]
+mod decoded;
+#[cfg(test)]
 mod encoding;
 #[cfg(test)]
 mod owned_encoding;

@@ -8,3 +8,5 @@ mod addresses;
 mod original;
 #[cfg(test)]
 mod parsing;
+#[cfg(test)]
+mod std_addresses;

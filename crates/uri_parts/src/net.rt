@@ -13,6 +13,7 @@ use std::{fmt, net};
 pub struct Ipv4Addr(net::Ipv4Addr);
 
 impl Ipv4Addr {
+    ghost use Rattle.std.specs.Net.Addr as std_addresses;
     ghost use Rattle.uri_parts.specs.Addresses.{ipv4_octets};
 
     /// The loopback address, `127.0.0.1` (RFC 1122, section 3.2.1.3).
@@ -33,6 +34,13 @@ impl Ipv4Addr {
         ensures { result ≡ ipv4_octets self.now }
     {
         self.0.octets()
+    }
+
+    /// The same address, as std has it.
+    pub const fn to_std(self) -> net::Ipv4Addr
+        ensures { std_addresses.ipv4_octets result ≡ ipv4_octets self }
+    {
+        self.0
     }
 
     /// The address that the whole text writes, or `None` if it writes none.
@@ -81,18 +89,6 @@ impl From<net::Ipv4Addr> for Ipv4Addr {
     }
 }
 
-impl From<Ipv4Addr> for net::Ipv4Addr {
-    ghost use Rattle.std.specs.Net.Addr as std_addresses;
-    ghost use Rattle.uri_parts.specs.Addresses.{ipv4_octets};
-
-    ghost from_gives = { λ given made. std_addresses.ipv4_octets made ≡ ipv4_octets given };
-
-    /// The same address.
-    fn from(address: Ipv4Addr) -> Self {
-        address.0
-    }
-}
-
 /// An IPv6 address: eight segments of 16 bits.
 ///
 /// Addresses are compared by their segments, first to last. One is printed by RFC 5952: in
@@ -103,6 +99,7 @@ impl From<Ipv4Addr> for net::Ipv4Addr {
 pub struct Ipv6Addr(net::Ipv6Addr);
 
 impl Ipv6Addr {
+    ghost use Rattle.std.specs.Net.Addr as std_addresses;
     ghost use Rattle.uri_parts.specs.Addresses.{ipv6_segments};
 
     /// The loopback address, `::1` (RFC 4291, section 2.5.3).
@@ -123,6 +120,13 @@ impl Ipv6Addr {
         ensures { result ≡ ipv6_segments self.now }
     {
         self.0.segments()
+    }
+
+    /// The same address, as std has it.
+    pub const fn to_std(self) -> net::Ipv6Addr
+        ensures { std_addresses.ipv6_segments result ≡ ipv6_segments self }
+    {
+        self.0
     }
 
     /// The address that the whole text writes, or `None` if it writes none.
@@ -172,18 +176,6 @@ impl From<net::Ipv6Addr> for Ipv6Addr {
     }
 }
 
-impl From<Ipv6Addr> for net::Ipv6Addr {
-    ghost use Rattle.std.specs.Net.Addr as std_addresses;
-    ghost use Rattle.uri_parts.specs.Addresses.{ipv6_segments};
-
-    ghost from_gives = { λ given made. std_addresses.ipv6_segments made ≡ ipv6_segments given };
-
-    /// The same address.
-    fn from(address: Ipv6Addr) -> Self {
-        address.0
-    }
-}
-
 /// An IP address of either version. Each IPv4 address is less than each IPv6 address.
 #[derive(Clone, Copy, PartialEq, Eq, PartialOrd, Ord, Hash)]
 pub enum IpAddr {
@@ -191,6 +183,20 @@ pub enum IpAddr {
     V4(Ipv4Addr),
     /// An IPv6 address.
     V6(Ipv6Addr),
+}
+
+impl IpAddr {
+    ghost use Rattle.uri_parts.specs.Addresses.{IsSameAddress};
+
+    /// The same address, of the same version, as std has it.
+    pub const fn to_std(self) -> net::IpAddr
+        ensures { IsSameAddress self result }
+    {
+        match self {
+            IpAddr::V4(address) => net::IpAddr::V4(address.to_std()),
+            IpAddr::V6(address) => net::IpAddr::V6(address.to_std()),
+        }
+    }
 }
 
 impl fmt::Display for IpAddr {
@@ -227,20 +233,6 @@ impl From<net::IpAddr> for IpAddr {
         match address {
             net::IpAddr::V4(address) => IpAddr::V4(address.into()),
             net::IpAddr::V6(address) => IpAddr::V6(address.into()),
-        }
-    }
-}
-
-impl From<IpAddr> for net::IpAddr {
-    ghost use Rattle.uri_parts.specs.Addresses.{IsSameAddress};
-
-    ghost from_gives = { λ given made. IsSameAddress given made };
-
-    /// The same address, of the same version.
-    fn from(address: IpAddr) -> Self {
-        match address {
-            IpAddr::V4(address) => net::IpAddr::V4(address.into()),
-            IpAddr::V6(address) => net::IpAddr::V6(address.into()),
         }
     }
 }
