@@ -24,6 +24,19 @@ pub fn same_normal_form(alloc: Global, iri: &Iri<String>) -> Result<bool, AllocE
     Ok(converted.normalize(alloc)? == iri.normalize(alloc)?)
 }
 
+/// Whether the URI reference of an IRI reference, read as an IRI reference again, has the normal
+/// form of the IRI reference: it has.
+///
+/// # Errors
+///
+/// Only if memory is refused.
+pub fn same_normal_reference(alloc: Global, reference: &IriRef<String>) -> Result<bool, AllocError>
+    ensures { IfOk result (λ same. same ≡ true) }
+{
+    let converted = IriRef::<String>::from(reference.to_uri_ref(alloc)?);
+    Ok(converted.normalize(alloc)? == reference.normalize(alloc)?)
+}
+
 /// The target of a reference against a base, converted: it is the target of the two converted.
 ///
 /// # Errors

@@ -31,8 +31,8 @@ pub mod component {
     pub type IHost<'a> = Host<'a, IRegName>;
 }
 
-/// Laws of the definitions that contracts cite. Each function does nothing, and its contract is the
-/// law: a caller whose proof needs one calls it.
+/// Laws of the definitions that contracts cite: a call does nothing, and its contract is the law. A
+/// caller whose proof needs one calls it.
 pub mod laws {
     pub use uri_ops::across::{
         encoded_texts_mean_the_same, encoded_texts_resolve_alike, texts_of_wider_kinds,
@@ -52,7 +52,7 @@ pub mod laws {
         ipv4_text_is_read_back, ipv6_addresses_compare_alike, ipv6_addresses_compare_by_segments,
         ipv6_text_is_read_back,
     };
-    pub use uri_pct::laws::{encoding, octets_in_either_case, printing};
+    pub use uri_pct::laws::{encoding, lossy, octets_in_either_case, pieces, printing};
 }
 
 /// IP addresses (RFC 3986, section 3.2.2), and their canonical texts (RFC 5952).

@@ -43,7 +43,6 @@ pub fn encoding()
 
 /// The pieces of bytes are together these bytes, those that are well-formed are characters, and they
 /// are cut wherever a character stands and before every byte but 80 to BF (Unicode, section 3.9).
-#[doc(hidden)]
 pub fn pieces()
     ensures bytes { (bytes : List ℕ) → bytes_of_pieces (utf8_pieces bytes) ≡ bytes }
     ensures characters { (bytes : List ℕ) → All IsOfCharacter (utf8_pieces bytes) }
@@ -53,7 +52,6 @@ pub fn pieces()
 
 /// Bytes are UTF-8 exactly where no piece is ill-formed, and the lossy text is that of std's
 /// `String::from_utf8_lossy`.
-#[doc(hidden)]
 pub fn lossy()
     ensures whole { (bytes : List ℕ) → (list_all is_well_formed (utf8_pieces bytes) ≡ true) ↔ IsUtf8 bytes }
     ensures text { (bytes : List ℕ) → lossy_text bytes ≡ utf8_lossy bytes }
