@@ -30,10 +30,7 @@ pub fn same_normal_form(alloc: Global, iri: &Iri<String>) -> Result<bool, AllocE
 /// # Errors
 ///
 /// Only if memory is refused.
-pub fn same_normal_reference(
-    alloc: Global,
-    reference: &IriRef<String>,
-) -> Result<bool, AllocError>
+pub fn same_normal_reference(alloc: Global, reference: &IriRef<String>) -> Result<bool, AllocError>
     ensures { IfOk result (λ same. same ≡ true) }
 {
     let converted = IriRef::<String>::from(reference.to_uri_ref(alloc)?);

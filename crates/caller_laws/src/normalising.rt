@@ -26,7 +26,8 @@ pub fn same_when_normalised_twice(alloc: Global, given: Iri<&str>) -> Result<boo
 ///
 /// Only if memory is refused.
 pub fn parsed_once_more(alloc: Global, given: Iri<&str>) -> Result<Iri<String>, AllocError>
-    ensures { IfOk result (λ normal. IsNormalForm iri default_port (iri_text given.entry) (iri_text normal)) }
+    ensures { IfOk result (λ normal.
+        IsNormalForm iri default_port (iri_text given.entry) (iri_text normal)) }
 {
     match Iri::<String>::parse(given.normalize(alloc)?.into_string()) {
         Ok(normal) => Ok(normal),

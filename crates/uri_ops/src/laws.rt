@@ -85,14 +85,16 @@ pub fn fragment_only()
 {}
 
 /// The texts of the four kinds are those that the RFCs' words spell: a split into components, each
-/// with its rule, of which the authority has one cut (RFC 3986, sections 3, 3.2 and 4.2, and appendix
-/// B; RFC 3987, section 2.2).
+/// with its rule, of which the authority has a cut (RFC 3986, sections 3, 3.2 and 4.2, and
+/// appendix B; RFC 3987, section 2.2).
 #[tactic(auto, using(crate::proofs::SpeltTexts::uri_in_grammar, crate::proofs::SpeltTexts::uri_ref_in_grammar, crate::proofs::SpeltTexts::iri_in_grammar, crate::proofs::SpeltTexts::iri_ref_in_grammar))]
 pub fn kinds_are_their_grammar()
     ensures uri { (text : List ℕ) → IsUtf8 text → (IsOfKind uri text ↔ IsInGrammar uri text) }
-    ensures uri_ref { (text : List ℕ) → IsUtf8 text → (IsOfKind uri_ref text ↔ IsInGrammar uri_ref text) }
+    ensures uri_ref { (text : List ℕ) → IsUtf8 text
+        → (IsOfKind uri_ref text ↔ IsInGrammar uri_ref text) }
     ensures iri { (text : List ℕ) → IsUtf8 text → (IsOfKind iri text ↔ IsInGrammar iri text) }
-    ensures iri_ref { (text : List ℕ) → IsUtf8 text → (IsOfKind iri_ref text ↔ IsInGrammar iri_ref text) }
+    ensures iri_ref { (text : List ℕ) → IsUtf8 text
+        → (IsOfKind iri_ref text ↔ IsInGrammar iri_ref text) }
 {}
 
 /// An authority has one cut into userinfo, host and port, and a host is of one kind (RFC 3986,

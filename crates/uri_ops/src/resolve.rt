@@ -426,10 +426,11 @@ impl<R: Ri> Resolver<R> {
     ///   with `/`.
     /// - A reference with a scheme keeps a path that doesn't begin with `/` as it stands.
     ///
-    /// Nothing else of the two texts changes: the target is not normalised. Of a base and a reference
-    /// that mean the same, such as their normal forms, the target means the same; and of both with
-    /// each character past ASCII as the octets of its UTF-8 (RFC 3987, section 3.1), it is this target
-    /// changed so. Where there is no target, there is none of those, for the same reason.
+    /// Nothing else of the two texts changes: the target is not normalised. Of a base and a
+    /// reference that mean the same, such as their normal forms, the target means the same; and of
+    /// both with each character past ASCII as the octets of its UTF-8 (RFC 3987, section 3.1), it
+    /// is this target changed so. Where there is no target, there is none of those, for the same
+    /// reason.
     ///
     /// # Errors
     ///

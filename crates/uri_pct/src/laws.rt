@@ -21,8 +21,8 @@ pub fn printing()
     ensures printable { (set : TableSet) (text : List ℕ) → LacksPercent set → IsValidFor set text → list_all is_printable (tokens text) ≡ true }
 {}
 
-/// An octet is read as its value, whether its digits are in upper or in lower case (RFC 3986, section
-/// 2.1).
+/// An octet is read as its value, whether its digits are in upper or in lower case (RFC 3986,
+/// section 2.1).
 #[tactic(auto, using(crate::proofs::OctetDigits::tokens_of_octet))]
 pub fn octets_in_either_case()
     ensures { (upper : Bool) (value : ℕ) (rest : List ℕ) → value < 256
