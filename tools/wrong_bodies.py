@@ -1,0 +1,200 @@
+"""A wrong body as it is written in a file, and the check that has to refuse it."""
+import collections
+import contextlib
+import os
+import pathlib
+import re
+import shutil
+import subprocess
+import tempfile
+
+
+class Edit:
+    def __init__(self, crate, path):
+        self.crate, self.name = crate, f"{crate.name}/{path.name}"
+        self.text = path.read_text(encoding="utf-8")
+        head = self.text.split("\n")
+        self.function = next((it[10:].strip() for it in head if it.startswith("function: ")), None)
+        self.is_told = bool(head[0].startswith("# ") and head[0][2:].strip())
+        self.file = next((it[6:].strip() for it in head if it.startswith("file: ")), "")
+        # Whether it has to be tried alone, how often it was tried, and whether it was refused.
+        self.is_alone, self.tries, self.verdict, self.why = False, 0, None, ""
+        # The functions that the edited one calls in the end, as far as their names tell.
+        self.calls = set()
+
+    def end(self, is_refused, why):
+        self.verdict, self.why = is_refused, why
+
+    def bare_name(self):
+        return self.function.rpartition("::")[2]
+
+    def meets(self, other):
+        """Whether the two cannot be told apart in one check: the same function, or one that calls the other."""
+        if self.function == other.function:
+            return True
+        return self.bare_name() in other.calls or other.bare_name() in self.calls
+
+    def again(self, is_alone):
+        """Has it tried once more, with other edits at most twice."""
+        self.tries += 1
+        self.is_alone = is_alone or self.tries > 1
+
+    def line(self, folder):
+        """The line that its first pair changes. No edit moves a line."""
+        old = next(it[5:] for it in self.text.split("\n") if it.startswith("old: "))
+        return pathlib.Path(folder, self.file).read_text(encoding="utf-8").partition(old)[0].count("\n") + 1
+
+
+class Room:
+    """A copy of a crate in a folder, and the work that its checks keep there."""
+
+    def __init__(self, rt, crate, folder, kept=None):
+        self.rt, self.crate, self.checks, self.seconds = rt, crate, 0, 0.0
+        self.sources, self.kept = pathlib.Path(folder, "crate"), pathlib.Path(folder, "kept")
+        for part in rt.rtlib.PARTS:
+            if os.path.isdir(f"{crate.folder}/{part}"):
+                shutil.copytree(f"{crate.folder}/{part}", self.sources / part)
+        if kept:
+            shutil.copytree(kept, self.kept)
+
+    @contextlib.contextmanager
+    def written(self, texts):
+        """Writes these texts in place of the crate's own, for as long as they are needed."""
+        for path, text in texts.items():
+            (self.sources / path).write_text(text, encoding="utf-8")
+        try:
+            yield
+        finally:
+            for path in texts:
+                shutil.copyfile(f"{self.crate.folder}/{path}", self.sources / path)
+
+    def check(self, functions, texts):
+        """The lines that a check of these functions prints; the last begins `only=` where it read them all."""
+        only = [word for it in sorted(functions) for word in ("--only", it)]
+        words = ["check", *self.crate.words(["--jobs", "1", *only], keeps=False), "--incremental", str(self.kept)]
+        command = ["nice", *self.rt.rtlib.guarded(), self.rt.rtlib.RATTLE, *words]
+        with self.written(texts), tempfile.TemporaryFile("w+", errors="replace") as said:
+            how = {"cwd": self.sources, "stdin": subprocess.DEVNULL, "stdout": said}
+            began = subprocess.Popen(command, stderr=subprocess.STDOUT, **how)
+            _, status, used = os.wait4(began.pid, 0)
+            began.returncode = os.waitstatus_to_exitcode(status)
+            said.seek(0)
+            lines = said.read().rstrip("\n").split("\n")
+        self.checks += 1
+        self.seconds += used.ru_utime + used.ru_stime
+        return lines
+
+    def unproved(self, functions):
+        """The first of these functions that is not proved as it stands, and what is said of it."""
+        lines = self.check(functions, {})
+        for it in sorted(functions):
+            head = f"fn {self.crate.name}::{it}: "
+            said = next((line[len(head) :] for line in lines if line.startswith(head)), lines[-1])
+            if said != "proved":
+                return f"{it} is not proved as it stands: {said}"
+        return None
+
+
+class Lane:
+    """Tries a share of a crate's edits in a room."""
+
+    def __init__(self, room, edits, batch):
+        self.room, self.edits, self.batch = room, edits, batch
+        self.rt, self.crate = room.rt, room.crate
+
+    def run(self):
+        first = {it.function for it in self.edits[: self.batch]}
+        while left := [it for it in self.edits if it.verdict is None]:
+            self.judge(*self.next_batch(sorted(left, key=lambda it: it.tries)))
+        why = self.room.unproved(first)
+        for it in self.edits:
+            if why and it.verdict:
+                it.end(False, f"BAD EDIT: {why}")
+
+    def next_batch(self, left):
+        """The next edits to try in one check, of different functions, and the texts that they make."""
+        batch, texts = [], {}
+        for it in left:
+            if len(batch) == self.batch or it.is_alone and batch or any(map(it.meets, batch)):
+                continue
+            changed, why = self.applied(it, texts)
+            if not why:
+                texts.update(changed)
+                batch.append(it)
+            elif not texts:
+                it.end(False, f"BAD EDIT: {why}")
+            if it.is_alone:
+                break
+        return batch, texts
+
+    def applied(self, edit, texts):
+        """The texts of the files that the edit changes, over those that the batch has changed."""
+        with self.room.written(texts):
+            return self.rt.edited(edit.text, str(self.room.sources))
+
+    def judge(self, batch, texts):
+        if not batch:
+            return
+        lines = self.room.check({it.function for it in batch}, texts)
+        unread = [it for it in lines if self.rt.unread(it, texts)]
+        if lines[-1].startswith("only=") and not unread:
+            for it in batch:
+                self.read_verdict(it, lines, len(batch) == 1)
+        elif len(batch) == 1:
+            wrong = next((it for it in [*unread, *lines] if re.search(r"error|rattle:", it)), lines[-1])
+            batch[0].end(False, f"BAD EDIT: the prover did not read it: {wrong}")
+        else:
+            self.set_apart(batch, lines)
+
+    def set_apart(self, batch, lines):
+        """Has each edit that lies nearest to a line that could not be read tried alone."""
+        found = False
+        for line in lines:
+            at = re.match(r"(?:\./)?(\S+?):(\d+):\d+: error", line)
+            near = [it for it in batch if at and it.file == at[1]]
+            if near:
+                min(near, key=lambda it: abs(it.line(self.crate.folder) - int(at[2]))).again(True)
+                found = True
+        for it in batch * (not found):
+            it.again(True)
+
+    def read_verdict(self, edit, lines, is_alone):
+        head = f"fn {self.crate.name}::{edit.function}: "
+        said = next((it[len(head) :] for it in lines if it.startswith(head)), "the check names no such function")
+        is_refused = re.match(r"not proved|no proof", said)
+        is_through = re.search(r"(it calls|it passes|a call of)\b.*not proved", said)
+        if is_refused and not is_through:
+            edit.end(True, self.reason(edit, said, lines))
+        elif not is_alone:
+            edit.again(not is_refused)
+        elif is_refused:
+            edit.end(False, f"BAD EDIT: refused only through another function: {said}")
+        else:
+            edit.end(False, f"NOT REFUSED: {said}")
+
+    def reason(self, edit, said, lines):
+        """The goal or the line of a proof file at which the function is refused."""
+        folder = f"./proofs/{edit.function.replace('::', '/')}/"
+        errors = [it[len(folder) :] for it in lines if it.startswith(folder) and ": error: " in it]
+        names = r"has no field|is not in scope|has no `|was not admitted|was rejected"
+        goals = [it for it in errors if not re.search(names, it)]
+        if errors and not goals:
+            return f"(only since its proof file names what the edit took away) {errors[0]}"
+        return goals[0] if goals else re.sub(r"^no proof: expected answers in \S+; ", "", said)
+
+
+def callees(folder):
+    """What each function of a crate calls in the end, of those whose name stands once in the crate."""
+    bodies = collections.defaultdict(list)
+    for path in pathlib.Path(folder, "src").rglob("*.rt"):
+        for text in re.split(r"\bfn (?=\w)", path.read_text(encoding="utf-8"))[1:]:
+            name, body = re.match(r"(\w+)(.*)", text, re.DOTALL).groups()
+            bodies[name].append(set(re.findall(r"(\w+)(?:::<[^()]*>)?\(", body)))
+    calls = {name: found[0] for name, found in bodies.items() if len(found) == 1}
+    for name in calls:
+        found, left = set(), [name]
+        while left:
+            new = calls.get(left.pop(), set()) & calls.keys() - found
+            found |= new
+            left += new
+        yield name, found
