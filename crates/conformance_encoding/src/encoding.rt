@@ -159,7 +159,7 @@ fn bytes_that_are_not_utf8(rt: HostRuntime) {
     }
 }
 
-/// The expected texts are this project's profile.
+/// The expected texts are those of `docs/REFUSALS.md`.
 #[test]
 fn messages(rt: HostRuntime) {
     let alloc = rt.alloc();

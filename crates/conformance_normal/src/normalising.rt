@@ -198,7 +198,7 @@ fn underflow(rt: HostRuntime) {
     equal(is_underflow, true).expect(&rt, beyond);
 }
 
-/// The expected texts are this project's profile.
+/// The expected texts are those of `docs/REFUSALS.md`.
 const MESSAGES: &[(NormalizeError, &str)] = &[
     (
         NormalizeError::PathUnderflow,

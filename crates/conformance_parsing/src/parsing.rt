@@ -1,8 +1,8 @@
 use checks::{equal, prints};
-use fluent_uri::ParseErrorKind::{InvalidPctEncodedOctet, UnexpectedChar};
+use fluent_uri::ParseErrorKind::{InvalidIpv6Addr, InvalidPctEncodedOctet, UnexpectedChar};
 use fluent_uri::component::{Authority, Scheme};
 use fluent_uri::pct_enc::EStr;
-use fluent_uri::{ParseErrorKind, Uri, UriRef};
+use fluent_uri::{ParseError, ParseErrorKind, Uri, UriRef};
 use std::process::Abort;
 
 #[derive(Clone, Copy)]
@@ -179,6 +179,7 @@ fn components_of_accepted_texts(rt: HostRuntime) {
     }
 }
 
+/// `docs/REFUSALS.md`.
 const REFUSED: &[(&str, ParseErrorKind, usize)] = &[
     // Octets without two digits.
     ("text%a", InvalidPctEncodedOctet, 4),
@@ -186,6 +187,7 @@ const REFUSED: &[(&str, ParseErrorKind, usize)] = &[
     ("foo%xxd", InvalidPctEncodedOctet, 3),
     ("?%4g", InvalidPctEncodedOctet, 1),
     ("#a%%41", InvalidPctEncodedOctet, 2),
+    ("//a%4/", InvalidPctEncodedOctet, 3),
     // A colon behind no scheme.
     (":hello", UnexpectedChar, 0),
     ("3ttp://a.com", UnexpectedChar, 0),
@@ -202,17 +204,51 @@ const REFUSED: &[(&str, ParseErrorKind, usize)] = &[
     ("?[", UnexpectedChar, 1),
     ("//a\\", UnexpectedChar, 3),
     ("a\n", UnexpectedChar, 1),
+    ("//a[::1]", UnexpectedChar, 3),
+    // Ports and userinfo.
+    ("//a:1%41", UnexpectedChar, 5),
+    ("//a:1:2", UnexpectedChar, 5),
+    ("//::", UnexpectedChar, 3),
+    ("//u@v@w", UnexpectedChar, 5),
+    ("//u@a:1:2", UnexpectedChar, 7),
+    // Addresses in brackets.
+    ("//[1.2.3.4]", UnexpectedChar, 3),
+    ("//[1::2::3]", InvalidIpv6Addr, 3),
+    ("//[1:2:3:4:5:6:7:8", InvalidIpv6Addr, 3),
+    ("//[1:2:3:4:5:6:7:8888", UnexpectedChar, 21),
+    ("//[:::1", UnexpectedChar, 7),
+    ("//[v1.a", UnexpectedChar, 7),
+    // Two things that are wrong.
+    ("//[::1]a%zz", InvalidPctEncodedOctet, 8),
+    ("//a:b%zz", InvalidPctEncodedOctet, 5),
+    ("//a:b/%zz", UnexpectedChar, 4),
 ];
+
+/// `docs/REFUSALS.md`.
+const REFUSED_URIS: &[(&str, ParseErrorKind, usize)] = &[
+    ("abc", UnexpectedChar, 3),
+    ("a%zz", UnexpectedChar, 1),
+    ("%zz", UnexpectedChar, 0),
+];
+
+fn is_at<R: Abort>(rt: &R, text: &str, error: ParseError, kind: ParseErrorKind, index: usize) {
+    equal(error.kind(), kind).expect(rt, text);
+    equal(error.index(), index).expect(rt, text);
+}
 
 #[test]
 fn refusals_and_their_places(rt: HostRuntime) {
     for &(text, kind, index) in REFUSED {
         let error = UriRef::<&str>::parse(text).err().expect(&rt, text);
-        equal(error.kind(), kind).expect(&rt, text);
-        equal(error.index(), index).expect(&rt, text);
+        is_at(&rt, text, error, kind, index);
+    }
+    for &(text, kind, index) in REFUSED_URIS {
+        let error = Uri::<&str>::parse(text).err().expect(&rt, text);
+        is_at(&rt, text, error, kind, index);
     }
 }
 
+/// The expected texts are those of `docs/REFUSALS.md`.
 const MESSAGES: &[(&str, &str)] = &[
     ("text%a", "invalid percent-encoded octet at index 4"),
     ("exam=ple:foo", "unexpected character at index 8"),

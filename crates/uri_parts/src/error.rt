@@ -20,7 +20,8 @@ pub enum ParseErrorKind {
     InvalidIpv6Addr,
 }
 
-/// Why a text is no URI or IRI, and where.
+/// Why a text is no URI or IRI, and where. `docs/REFUSALS.md` says which of the three is told of a
+/// text, and at which index.
 #[derive(Clone, Copy, Debug, PartialEq, Eq, Error)]
 #[error("{} at index {index}", kind_text(.kind))]
 pub struct ParseError {
