@@ -1,5 +1,6 @@
 //! Texts whose characters past ASCII are replaced by their octets (RFC 3987, section 3.1).
-ghost use Rattle.std.specs.Prelude.{◌≡◌, ◌≤◌, ◌<◌, ◌++◌, IfOk, OnOk, length, take, slice_index, string_bytes};
+ghost use Rattle.std.specs.Prelude.{◌≡◌, ◌≤◌, ◌<◌, ◌++◌, IfOk, OnOk, length, take, slice_index};
+ghost use Rattle.std.specs.Prelude.{string_bytes};
 ghost use Rattle.uri_ops.specs.Encoded.{encoded_text};
 
 use std::alloc::{AllocError, Global};
