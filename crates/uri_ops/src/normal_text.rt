@@ -22,6 +22,7 @@ use crate::default_port::DefaultPort;
 use crate::dot_segments::{may_have_dot_segments, push_without_dot_segments};
 use crate::normal_authority::push_authority;
 use crate::reading::{push_component, push_lower, push_read};
+use crate::slashes::begins_with_two_slashes;
 use std::alloc::{AllocError, Global};
 use uri_parts::component::{Authority, Scheme};
 use uri_parts::core_text::CoreText;
@@ -90,20 +91,13 @@ fn push_marked<E: Encoder>(
     push_component(alloc, part, out)
 }
 
-/// Whether a path would be read as an authority, where none stands before it.
-fn begins_with_two_slashes(path: &str) -> bool
-    ensures { result ≡ has_authority path.now }
-{
-    matches!(path.as_bytes(), [b'/', b'/', ..])
-}
-
 /// What stands before a path under a scheme: `/.` if it would be read as an authority.
 fn guard_before(follows_authority: bool, path: &str) -> &'static str
     ensures { (authority : Option (List ℕ)) → is_some authority ≡ follows_authority
         → (text : List ℕ) → has_authority text ≡ has_authority path.now
         → result.now ++ text ≡ guarded authority text }
 {
-    if !follows_authority && begins_with_two_slashes(path) {
+    if !follows_authority && begins_with_two_slashes(path.as_bytes()) {
         "/."
     } else {
         ""

@@ -4,7 +4,7 @@ ghost use Rattle.std.specs.Prelude.{option_map, string_bytes, take, Ok};
 ghost use Rattle.uri_parts.specs.Appending.{Pushes};
 ghost use Rattle.uri_parts.specs.Grammar.{IsOfKind};
 ghost use Rattle.std.specs.Str.{IsCharBoundary, IsUtf8};
-ghost use Rattle.uri_parts.specs.Components.{IsRooted, components, has_authority, marked};
+ghost use Rattle.uri_parts.specs.Components.{IsRooted, components, marked};
 ghost use Rattle.uri_parts.specs.Components.{recompose, starts};
 ghost use Rattle.uri_ops.specs.Dots.{directory, underflows};
 ghost use Rattle.uri_ops.specs.Normalizers.{ports_of};
@@ -21,6 +21,7 @@ ghost use Rattle.uri_ops.specs.Texts.{IsTextOf};
 use crate::default_port::DefaultPort;
 use crate::dot_segments::{is_double_dot, last_slash, push_without_dot_segments};
 use crate::normalize::{Normalizer, normal_form};
+use crate::slashes::begins_with_two_slashes;
 use crate::traits::{RefOf, Ri, RiMaybeRef, core_of, positions_in};
 use std::alloc::{AllocError, Global};
 use thiserror::Error;
@@ -242,14 +243,6 @@ fn push_cleaned(path: &str, out: &mut String) -> Result<bool, AllocError>
         out.push_str(path)?;
         Ok(false)
     }
-}
-
-/// Whether a path would be read as an authority, where none stands before it.
-#[doc(hidden)]
-pub fn begins_with_two_slashes(path: &[u8]) -> bool
-    ensures { result ≡ has_authority path.now }
-{
-    matches!(path, [b'/', b'/', ..])
 }
 
 /// Appends a path like `push_cleaned`, with `/.` before it where it would be read as an authority.

@@ -11,7 +11,7 @@ ghost use Rattle.uri_ops.specs.Built.{refusal_of};
 ghost use Rattle.uri_ops.specs.Drafts.{IsDraft, behind_part};
 
 use crate::build::BuildError;
-use crate::resolve::begins_with_two_slashes;
+use crate::slashes::begins_with_two_slashes;
 use std::alloc::Global;
 
 /// How long each part is, where it is there, in bytes.
