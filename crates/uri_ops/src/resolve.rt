@@ -5,7 +5,7 @@ ghost use Rattle.uri_parts.specs.Appending.{Pushes};
 ghost use Rattle.uri_parts.specs.Grammar.{IsOfKind};
 ghost use Rattle.std.specs.Str.{IsCharBoundary, IsUtf8};
 ghost use Rattle.uri_parts.specs.Components.{IsRooted, components, marked};
-ghost use Rattle.uri_parts.specs.Components.{recompose, starts};
+ghost use Rattle.uri_parts.specs.Components.{recompose};
 ghost use Rattle.uri_ops.specs.Dots.{directory, underflows};
 ghost use Rattle.uri_ops.specs.Normalizers.{ports_of};
 ghost use Rattle.uri_ops.specs.EncodedTargets.{IsErrorForEncoded, IsTargetOfEncoded};
@@ -21,7 +21,7 @@ ghost use Rattle.uri_ops.specs.Texts.{IsTextOf};
 use crate::default_port::DefaultPort;
 use crate::dot_segments::{is_double_dot, last_slash, push_without_dot_segments};
 use crate::normalize::{Normalizer, normal_form};
-use crate::slashes::begins_with_two_slashes;
+use crate::slashes::{begins_with_slash, begins_with_two_slashes};
 use crate::traits::{RefOf, Ri, RiMaybeRef, core_of, positions_in};
 use std::alloc::{AllocError, Global};
 use thiserror::Error;
@@ -91,20 +91,13 @@ fn parts_of<R: RiMaybeRef>(value: &R) -> Parts<'_>
     }
 }
 
-/// Whether a path begins with `/`.
-fn is_absolute(path: &str) -> bool
-    ensures { result ≡ starts 47 path.now }
-{
-    path.as_bytes().first() == Some(&b'/')
-}
-
 /// Whether a base takes no such reference: it has no authority, and its path doesn't begin with
 /// `/`, and the reference has no scheme, is not empty and doesn't begin with `#`.
 fn is_refused(base: Parts<'_>, reference: Parts<'_>) -> bool
     ensures { result
         ≡ is_refused_as_opaque (components_of base.entry) (components_of reference.entry) }
 {
-    let is_opaque = base.authority.is_none() && !is_absolute(base.path);
+    let is_opaque = base.authority.is_none() && !begins_with_slash(base.path.as_bytes());
     let is_fragment_only = reference.scheme.is_none()
         && reference.authority.is_none()
         && reference.path.is_empty()
@@ -119,7 +112,7 @@ fn is_merged(reference: Parts<'_>) -> bool
     !(reference.scheme.is_some()
         || reference.authority.is_some()
         || reference.path.is_empty()
-        || is_absolute(reference.path))
+        || begins_with_slash(reference.path.as_bytes()))
 }
 
 /// Where the `/` stands, or is missing, up to which a base's path stands before a merged path
@@ -193,7 +186,7 @@ fn joined<'a>(base: Parts<'a>, reference: Parts<'a>, merged_path: &'a str) -> Pa
             ..base
         };
     }
-    let path = if is_absolute(reference.path) {
+    let path = if begins_with_slash(reference.path.as_bytes()) {
         reference.path
     } else {
         merged_path
@@ -237,7 +230,7 @@ fn push_cleaned(path: &str, out: &mut String) -> Result<bool, AllocError>
     ensures text { OnOk result (Pushes out.old out.new (cleaned_path path.now)) }
     ensures underflow { IfOk result (λ underflowed. underflowed ≡ cleaning_underflows path.now) }
 {
-    if is_absolute(path) {
+    if begins_with_slash(path.as_bytes()) {
         push_without_dot_segments(path, out)
     } else {
         out.push_str(path)?;

@@ -3,7 +3,6 @@ ghost use Rattle.std.specs.Prelude.{◌≡◌, ◌==◌, ◌&&◌, ◌+◌, ◌�
 ghost use Rattle.std.specs.Prelude.{unwrap_or, true, string_bytes};
 ghost use Rattle.uri_pct.specs.Tokens.{is_valid_for};
 ghost use Rattle.uri_parts.specs.Appending.{Pushes};
-ghost use Rattle.uri_parts.specs.Components.{starts};
 ghost use Rattle.uri_parts.specs.Grammar.{has_colon_first, is_authority, is_scheme};
 ghost use Rattle.uri_ops.specs.BuilderParts.{Adds, known_kind, no_parts, with_authority};
 ghost use Rattle.uri_ops.specs.BuilderParts.{with_fragment, with_path, with_query, with_scheme};
@@ -11,7 +10,7 @@ ghost use Rattle.uri_ops.specs.Built.{refusal_of};
 ghost use Rattle.uri_ops.specs.Drafts.{IsDraft, behind_part};
 
 use crate::build::BuildError;
-use crate::slashes::begins_with_two_slashes;
+use crate::slashes::{begins_with_slash, begins_with_two_slashes};
 use std::alloc::Global;
 
 /// How long each part is, where it is there, in bytes.
@@ -290,13 +289,6 @@ fn has_colon_first(path: &[u8]) -> bool
     path.iter()
         .take_while(|byte| **byte != b'/')
         .any(|byte| *byte == b':')
-}
-
-/// Whether a path begins with `/`.
-fn begins_with_slash(path: &[u8]) -> bool
-    ensures { result ≡ starts 47 path.now }
-{
-    path.first() == Some(&b'/')
 }
 
 /// Why a path is refused behind what stands before it.
