@@ -1,8 +1,6 @@
 //! Authorities in normal form (RFC 3986, sections 6.2.2 and 6.2.3; RFC 3987, section 5.3.2).
 ghost use Rattle.std.specs.Prelude.{◌≡◌, ◌==◌, [], OnOk, codes, false, option_map};
 ghost use Rattle.std.specs.Option.{option_map_or};
-ghost use Rattle.uri_pct.specs.Reading.{read};
-ghost use Rattle.uri_pct.specs.Tokens.{print};
 ghost use Rattle.uri_parts.specs.Appending.{Pushes};
 ghost use Rattle.uri_parts.specs.Authority.{authority_parts};
 ghost use Rattle.uri_parts.specs.AuthorityTexts.{authority_text};

@@ -1,12 +1,11 @@
 //! Resolving references against a base (RFC 3986, section 5).
-ghost use Rattle.std.specs.Prelude.{◌≡◌, ◌++◌, ◌&&◌, codes, IfOk, IfErr, OnOk, IfSome, [], true};
+ghost use Rattle.std.specs.Prelude.{◌≡◌, ◌++◌, codes, IfOk, IfErr, OnOk, IfSome, [], true};
 ghost use Rattle.std.specs.Prelude.{option_map, string_bytes, take, Ok};
 ghost use Rattle.uri_parts.specs.Appending.{Pushes};
 ghost use Rattle.uri_parts.specs.Grammar.{IsOfKind};
 ghost use Rattle.std.specs.Str.{IsCharBoundary, IsUtf8};
-ghost use Rattle.uri_parts.specs.Components.{IsRooted, components, marked};
-ghost use Rattle.uri_parts.specs.Components.{recompose};
-ghost use Rattle.uri_ops.specs.Dots.{directory, underflows};
+ghost use Rattle.uri_parts.specs.Components.{IsRooted, components, marked, recompose};
+ghost use Rattle.uri_ops.specs.Dots.{directory};
 ghost use Rattle.uri_ops.specs.Normalizers.{ports_of};
 ghost use Rattle.uri_ops.specs.EncodedTargets.{IsErrorForEncoded, IsTargetOfEncoded};
 ghost use Rattle.uri_ops.specs.NormalTargets.{IsErrorOfMeanings, IsTargetOfMeanings};
