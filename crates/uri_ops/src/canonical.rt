@@ -9,7 +9,7 @@ ghost use Rattle.uri_ops.specs.Texts.{IsTextOf};
 
 /// The sets of the four kinds have what the laws below ask of a kind's (RFC 3986, sections 2.2, 2.3
 /// and 3, and RFC 3987, section 2.2).
-#[tactic(auto, using(crate::proofs::FourKinds::uri_sets, crate::proofs::FourKinds::uri_ref_sets, crate::proofs::FourKinds::iri_sets, crate::proofs::FourKinds::iri_ref_sets))]
+#[tactic(auto, using(crate::proofs::FourKinds::four_sets))]
 pub fn four_kinds_have_component_sets()
     ensures uri { HasComponentSets uri }
     ensures uri_ref { HasComponentSets uri_ref }

@@ -22,7 +22,7 @@ pub fn nothing_is_left_to_read()
 
 /// What is left has no dot segment, begins with `/` and is no longer than the path (RFC 3986,
 /// section 5.2.4).
-#[tactic(auto, using(crate::proofs::DotLaws::removed_lacks, crate::proofs::DotLaws::removed_absolute, crate::proofs::DotLaws::length_removed))]
+#[tactic(auto, using(crate::proofs::DotLaws::removed_laws))]
 pub fn what_is_left()
     ensures plain { (path : List ℕ) → IsAbsolute path
         → lacks_dot_segments (remove_dot_segments path) ≡ true }
@@ -32,7 +32,7 @@ pub fn what_is_left()
 {}
 
 /// A path without dot segments is left as it is, and does not underflow.
-#[tactic(auto, using(crate::proofs::DotLaws::removed_of_plain, crate::proofs::DotLaws::underflows_of_plain))]
+#[tactic(auto, using(crate::proofs::DotLaws::plain_laws))]
 pub fn nothing_to_remove()
     ensures removed { (path : List ℕ) → IsAbsolute path → lacks_dot_segments path ≡ true
         → remove_dot_segments path ≡ path }
@@ -49,7 +49,7 @@ pub fn removed_twice()
 
 /// A directory begins with and ends in `/`, and its dot segments may be removed before it is taken
 /// or after.
-#[tactic(auto, using(crate::proofs::DotLaws::directory_absolute, crate::proofs::DotLaws::directory_ends, crate::proofs::DotLaws::removed_directory, crate::proofs::DotLaws::underflows_directory))]
+#[tactic(auto, using(crate::proofs::DotLaws::directory_laws))]
 pub fn of_a_directory()
     ensures absolute { (path : List ℕ) → IsRooted path → IsAbsolute (directory path) }
     ensures closed { (path : List ℕ) → IsRooted path → EndsInSlash (directory path) }
@@ -62,7 +62,7 @@ pub fn of_a_directory()
 /// Of a path in two pieces, the first of which ends in `/`, the first piece's dot segments may be
 /// removed before the path's. The path underflows where the first piece does, or what is left of it
 /// with the second.
-#[tactic(auto, using(crate::proofs::DotLaws::removed_in_pieces, crate::proofs::DotLaws::underflows_in_pieces))]
+#[tactic(auto, using(crate::proofs::DotLaws::piece_laws))]
 pub fn in_pieces()
     ensures removed { (front back : List ℕ) → IsAbsolute front → EndsInSlash front
         → remove_dot_segments (front ++ back)
@@ -74,7 +74,7 @@ pub fn in_pieces()
 
 /// The same of a path that is merged with a base's (RFC 3986, section 5.2.3): the base's dot
 /// segments may be removed first.
-#[tactic(auto, using(crate::proofs::DotLaws::removed_before_merging, crate::proofs::DotLaws::underflows_merged))]
+#[tactic(auto, using(crate::proofs::DotLaws::merging_laws))]
 pub fn before_merging()
     ensures removed { (base reference : List ℕ) → IsRooted base
         → remove_dot_segments (directory base ++ reference)
@@ -98,7 +98,7 @@ pub fn of_a_read_path()
 /// The text of a target has the components that were put into it, where the base has a scheme
 /// (RFC 3986, sections 5.2.2 and 5.3).
 #[doc(hidden)]
-#[tactic(auto, using(crate::proofs::Targets::target_is_split, crate::proofs::Targets::target_components))]
+#[tactic(auto, using(crate::proofs::Targets::target_laws))]
 pub fn of_a_target()
     ensures split { (base reference : List ℕ) → is_some (components base).scheme ≡ true
         → IsSplitOf (recompose (target_of (components base) (components reference)))
@@ -120,7 +120,7 @@ pub fn fragment_only()
 /// The texts of the four kinds are those that the RFCs' words spell: a split into components, each
 /// with its rule, of which the authority has a cut (RFC 3986, sections 3, 3.2 and 4.2, and
 /// appendix B; RFC 3987, section 2.2).
-#[tactic(auto, using(crate::proofs::SpeltTexts::uri_in_grammar, crate::proofs::SpeltTexts::uri_ref_in_grammar, crate::proofs::SpeltTexts::iri_in_grammar, crate::proofs::SpeltTexts::iri_ref_in_grammar))]
+#[tactic(auto, using(crate::proofs::SpeltTexts::grammar_laws))]
 pub fn kinds_are_their_grammar()
     ensures uri { (text : List ℕ) → IsUtf8 text → (IsOfKind uri text ↔ IsInGrammar uri text) }
     ensures uri_ref { (text : List ℕ) → IsUtf8 text
@@ -132,7 +132,7 @@ pub fn kinds_are_their_grammar()
 
 /// An authority has one cut into userinfo, host and port, and a host is of one kind (RFC 3986,
 /// sections 3.2 and 3.2.2; RFC 3987, section 2.2).
-#[tactic(auto, using(crate::proofs::SpeltTexts::uri_cut, crate::proofs::SpeltTexts::iri_cut, crate::proofs::SpeltTexts::uri_host, crate::proofs::SpeltTexts::iri_host))]
+#[tactic(auto, using(crate::proofs::SpeltTexts::cut_laws))]
 pub fn authorities_have_one_cut()
     ensures uri { (text : List ℕ) (p : AuthorityParts) → IsUtf8 text
         → IsAuthorityFor uri.userinfo uri.reg_name text p → authority_parts text ≡ p }

@@ -50,7 +50,7 @@ fn is_lettered(text: &str) -> bool
 }
 
 /// Whether the version and the address are spelt as those of an IPvFuture address.
-#[tactic(auto, using(uri_pct::proofs::Constants::hexdig_table, uri_pct::proofs::Constants::ipv_future_table))]
+#[tactic(auto, using(uri_pct::proofs::Constants::constant_tables))]
 fn is_versioned(version: &str, address: &str) -> bool
     ensures { result
         ≡ ((nat_lt 0 (length version.now) && is_valid_for hexdig_set version.now)

@@ -332,7 +332,7 @@ fn read_text(grammar: &Grammar, text: &str) -> Result<Positions, ParseError>
 }
 
 /// Where the components of a URI lie (RFC 3986, section 3), or why the text is none.
-#[tactic(auto, using(crate::proofs::Texts::reads_of_kind, crate::proofs::ReadPositions::positions_read, crate::proofs::KindLemmas::uri_separates))]
+#[tactic(auto, using(crate::proofs::WholeTexts::whole_texts))]
 pub fn parse_uri(text: &str) -> Result<Positions, ParseError>
     ensures accepts { IsOk result ↔ IsOfKind uri text.now }
     ensures positions { IfOk result (AreAt text.now) }
@@ -342,7 +342,7 @@ pub fn parse_uri(text: &str) -> Result<Positions, ParseError>
 }
 
 /// Where the components of a URI reference lie (RFC 3986, section 4.1), or why the text is none.
-#[tactic(auto, using(crate::proofs::Texts::reads_of_kind, crate::proofs::ReadPositions::positions_read, crate::proofs::KindLemmas::uri_ref_separates))]
+#[tactic(auto, using(crate::proofs::WholeTexts::whole_texts))]
 pub fn parse_uri_ref(text: &str) -> Result<Positions, ParseError>
     ensures accepts { IsOk result ↔ IsOfKind uri_ref text.now }
     ensures positions { IfOk result (AreAt text.now) }
@@ -352,7 +352,7 @@ pub fn parse_uri_ref(text: &str) -> Result<Positions, ParseError>
 }
 
 /// Where the components of an IRI lie (RFC 3987, section 2.2), or why the text is none.
-#[tactic(auto, using(crate::proofs::Texts::reads_of_kind, crate::proofs::ReadPositions::positions_read, crate::proofs::KindLemmas::iri_separates))]
+#[tactic(auto, using(crate::proofs::WholeTexts::whole_texts))]
 pub fn parse_iri(text: &str) -> Result<Positions, ParseError>
     ensures accepts { IsOk result ↔ IsOfKind iri text.now }
     ensures positions { IfOk result (AreAt text.now) }
@@ -362,7 +362,7 @@ pub fn parse_iri(text: &str) -> Result<Positions, ParseError>
 }
 
 /// Where the components of an IRI reference lie (RFC 3987, section 2.2), or why the text is none.
-#[tactic(auto, using(crate::proofs::Texts::reads_of_kind, crate::proofs::ReadPositions::positions_read, crate::proofs::KindLemmas::iri_ref_separates))]
+#[tactic(auto, using(crate::proofs::WholeTexts::whole_texts))]
 pub fn parse_iri_ref(text: &str) -> Result<Positions, ParseError>
     ensures accepts { IsOk result ↔ IsOfKind iri_ref text.now }
     ensures positions { IfOk result (AreAt text.now) }
