@@ -32,7 +32,7 @@ impl<T: AsStr> From<Uri<T>> for Iri<T> {
     }
 }
 
-#[tactic(auto, using(uri_parts::proofs::KindLemmas::uri_is_uri_ref, uri_ops::proofs::Conversions::uri_ref_is_iri_ref))]
+#[tactic(auto, using(uri_ops::proofs::Conversions::uri_widening))]
 impl<T: AsStr> From<Uri<T>> for IriRef<T> {
     ghost from_gives = { λ value wider. iri_ref_text wider ≡ uri_text value };
 
@@ -234,7 +234,7 @@ impl TryFrom<IriRef<String>> for Uri<String> {
     }
 }
 
-#[tactic(auto, using(uri_ops::proofs::Conversions::iri_encoded, uri_ops::proofs::Conversions::iri_means, uri_ops::proofs::Conversions::iri_means_under))]
+#[tactic(auto, using(uri_ops::proofs::Conversions::iri_encoding))]
 impl<T: AsStr> Iri<T> {
     /// The IRI as a URI: each character past ASCII becomes the octets of its UTF-8, with
     /// upper-case digits, and all else stays (RFC 3987, section 3.1). No name of a host is written
@@ -265,7 +265,7 @@ impl<T: AsStr> Iri<T> {
     }
 }
 
-#[tactic(auto, using(uri_ops::proofs::Conversions::iri_ref_encoded, uri_ops::proofs::Conversions::iri_ref_means, uri_ops::proofs::Conversions::iri_ref_means_under))]
+#[tactic(auto, using(uri_ops::proofs::Conversions::iri_ref_encoding))]
 impl<T: AsStr> IriRef<T> {
     /// The IRI reference as a URI reference: each character past ASCII becomes the octets of its
     /// UTF-8, with upper-case digits, and all else stays (RFC 3987, section 3.1). No name of a host

@@ -184,7 +184,7 @@ impl<T: AsStr> Iri<T> {
     }
 }
 
-#[tactic(auto, using(uri_parts::proofs::KindLemmas::iri_is_iri_ref, uri_parts::proofs::KindLemmas::iri_has_scheme))]
+#[tactic(auto, using(uri_parts::proofs::KindLemmas::iri_laws))]
 impl<'a> Iri<&'a str> {
     ghost use Rattle.uri_pct.specs.EStrs.{text_of};
     ghost use Rattle.uri_parts.specs.AuthorityTexts.{authority_text};

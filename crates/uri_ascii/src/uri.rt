@@ -186,7 +186,7 @@ impl<T: AsStr> Uri<T> {
     }
 }
 
-#[tactic(auto, using(uri_parts::proofs::KindLemmas::uri_is_uri_ref, uri_parts::proofs::KindLemmas::uri_has_scheme))]
+#[tactic(auto, using(uri_parts::proofs::KindLemmas::uri_laws))]
 impl<'a> Uri<&'a str> {
     ghost use Rattle.uri_pct.specs.EStrs.{text_of};
     ghost use Rattle.uri_parts.specs.AuthorityTexts.{authority_text};
