@@ -1,7 +1,8 @@
 //! IRIs and their references from URIs and theirs, and the other way round (RFC 3987, section 3.1).
 ghost use Rattle.std.specs.Prelude.{◌≡◌, IfOk};
 ghost use Rattle.uri_parts.specs.Grammar.{iri, iri_ref, uri, uri_ref};
-ghost use Rattle.uri_ops.specs.Conversions.{Converts, ConvertsOwned, scheme_refusal, ascii_refusal, uri_refusal};
+ghost use Rattle.uri_ops.specs.Conversions.{Converts, ConvertsOwned, scheme_refusal, ascii_refusal};
+ghost use Rattle.uri_ops.specs.Conversions.{uri_refusal};
 ghost use Rattle.uri_ops.specs.Encoded.{encoded_text, MeanTheSame};
 ghost use Rattle.uri_ops.specs.Meaning.{meaning_of};
 ghost use Rattle.uri_ops.specs.Ports.{PortFunction};
@@ -31,7 +32,7 @@ impl<T: AsStr> From<Uri<T>> for Iri<T> {
     }
 }
 
-#[tactic(auto, using(uri_parts::proofs::KindLemmas::uri_is_uri_ref, uri_ops::proofs::Conversions::uri_ref_is_iri_ref))]
+#[tactic(auto, using(uri_ops::proofs::Conversions::uri_widening))]
 impl<T: AsStr> From<Uri<T>> for IriRef<T> {
     ghost from_gives = { λ value wider. iri_ref_text wider ≡ uri_text value };
 
@@ -68,7 +69,8 @@ impl<T: AsStr> From<Iri<T>> for IriRef<T> {
 impl<'a> TryFrom<IriRef<&'a str>> for Iri<&'a str> {
     type Error = ConvertError;
 
-    ghost try_from_gives = { λ value result. Converts iri iri_text (iri_ref_text value) (scheme_refusal (iri_ref_text value)) result };
+    ghost try_from_gives = { λ value result.
+        Converts iri iri_text (iri_ref_text value) (scheme_refusal (iri_ref_text value)) result };
 
     /// The same text, as an IRI.
     ///
@@ -86,7 +88,9 @@ impl<'a> TryFrom<IriRef<&'a str>> for Iri<&'a str> {
 impl TryFrom<IriRef<String>> for Iri<String> {
     type Error = (ConvertError, IriRef<String>);
 
-    ghost try_from_gives = { λ value result. ConvertsOwned iri iri_text (iri_ref_text value) (scheme_refusal (iri_ref_text value)) value result };
+    ghost try_from_gives = { λ value result.
+        ConvertsOwned iri iri_text (iri_ref_text value)
+        (scheme_refusal (iri_ref_text value)) value result };
 
     /// The same text, as an IRI.
     ///
@@ -107,7 +111,8 @@ impl TryFrom<IriRef<String>> for Iri<String> {
 impl<'a> TryFrom<Iri<&'a str>> for Uri<&'a str> {
     type Error = ConvertError;
 
-    ghost try_from_gives = { λ value result. Converts uri uri_text (iri_text value) (ascii_refusal (iri_text value)) result };
+    ghost try_from_gives = { λ value result.
+        Converts uri uri_text (iri_text value) (ascii_refusal (iri_text value)) result };
 
     /// The same text, as a URI.
     ///
@@ -125,7 +130,8 @@ impl<'a> TryFrom<Iri<&'a str>> for Uri<&'a str> {
 impl TryFrom<Iri<String>> for Uri<String> {
     type Error = (ConvertError, Iri<String>);
 
-    ghost try_from_gives = { λ value result. ConvertsOwned uri uri_text (iri_text value) (ascii_refusal (iri_text value)) value result };
+    ghost try_from_gives = { λ value result.
+        ConvertsOwned uri uri_text (iri_text value) (ascii_refusal (iri_text value)) value result };
 
     /// The same text, as a URI.
     ///
@@ -146,7 +152,9 @@ impl TryFrom<Iri<String>> for Uri<String> {
 impl<'a> TryFrom<IriRef<&'a str>> for UriRef<&'a str> {
     type Error = ConvertError;
 
-    ghost try_from_gives = { λ value result. Converts uri_ref uri_ref_text (iri_ref_text value) (ascii_refusal (iri_ref_text value)) result };
+    ghost try_from_gives = { λ value result.
+        Converts uri_ref uri_ref_text (iri_ref_text value)
+        (ascii_refusal (iri_ref_text value)) result };
 
     /// The same text, as a URI reference.
     ///
@@ -164,7 +172,9 @@ impl<'a> TryFrom<IriRef<&'a str>> for UriRef<&'a str> {
 impl TryFrom<IriRef<String>> for UriRef<String> {
     type Error = (ConvertError, IriRef<String>);
 
-    ghost try_from_gives = { λ value result. ConvertsOwned uri_ref uri_ref_text (iri_ref_text value) (ascii_refusal (iri_ref_text value)) value result };
+    ghost try_from_gives = { λ value result.
+        ConvertsOwned uri_ref uri_ref_text (iri_ref_text value)
+        (ascii_refusal (iri_ref_text value)) value result };
 
     /// The same text, as a URI reference.
     ///
@@ -185,7 +195,8 @@ impl TryFrom<IriRef<String>> for UriRef<String> {
 impl<'a> TryFrom<IriRef<&'a str>> for Uri<&'a str> {
     type Error = ConvertError;
 
-    ghost try_from_gives = { λ value result. Converts uri uri_text (iri_ref_text value) (uri_refusal (iri_ref_text value)) result };
+    ghost try_from_gives = { λ value result.
+        Converts uri uri_text (iri_ref_text value) (uri_refusal (iri_ref_text value)) result };
 
     /// The same text, as a URI.
     ///
@@ -204,7 +215,9 @@ impl<'a> TryFrom<IriRef<&'a str>> for Uri<&'a str> {
 impl TryFrom<IriRef<String>> for Uri<String> {
     type Error = (ConvertError, IriRef<String>);
 
-    ghost try_from_gives = { λ value result. ConvertsOwned uri uri_text (iri_ref_text value) (uri_refusal (iri_ref_text value)) value result };
+    ghost try_from_gives = { λ value result.
+        ConvertsOwned uri uri_text (iri_ref_text value)
+        (uri_refusal (iri_ref_text value)) value result };
 
     /// The same text, as a URI.
     ///
@@ -221,11 +234,11 @@ impl TryFrom<IriRef<String>> for Uri<String> {
     }
 }
 
-#[tactic(auto, using(uri_ops::proofs::Conversions::iri_encoded, uri_ops::proofs::Conversions::iri_means, uri_ops::proofs::Conversions::iri_means_under))]
+#[tactic(auto, using(uri_ops::proofs::Conversions::iri_encoding))]
 impl<T: AsStr> Iri<T> {
     /// The IRI as a URI: each character past ASCII becomes the octets of its UTF-8, with
-    /// upper-case digits, and all else stays (RFC 3987, section 3.1). No name of a host is written in
-    /// Punycode.
+    /// upper-case digits, and all else stays (RFC 3987, section 3.1). No name of a host is written
+    /// in Punycode.
     ///
     /// Read as an IRI it means what the IRI means, whichever default ports there are.
     ///
@@ -237,8 +250,10 @@ impl<T: AsStr> Iri<T> {
     ///
     /// `http://example.com/é` becomes `http://example.com/%C3%A9`.
     pub fn to_uri(&self, alloc: Global) -> Result<Uri<String>, AllocError>
-        ensures text { IfOk result (λ encoded. uri_text encoded ≡ encoded_text (iri_text self.now)) }
-        ensures meaning { IfOk result (λ encoded. MeanTheSame iri (uri_text encoded) (iri_text self.now)) }
+        ensures text { IfOk result (λ encoded.
+            uri_text encoded ≡ encoded_text (iri_text self.now)) }
+        ensures meaning { IfOk result (λ encoded.
+            MeanTheSame iri (uri_text encoded) (iri_text self.now)) }
         ensures under { (ports : PortFunction) → IfOk result (λ encoded.
             meaning_of iri ports (uri_text encoded) ≡ meaning_of iri ports (iri_text self.now)) }
     {
@@ -250,11 +265,11 @@ impl<T: AsStr> Iri<T> {
     }
 }
 
-#[tactic(auto, using(uri_ops::proofs::Conversions::iri_ref_encoded, uri_ops::proofs::Conversions::iri_ref_means, uri_ops::proofs::Conversions::iri_ref_means_under))]
+#[tactic(auto, using(uri_ops::proofs::Conversions::iri_ref_encoding))]
 impl<T: AsStr> IriRef<T> {
-    /// The IRI reference as a URI reference: each character past ASCII becomes the octets of its UTF-8, with
-    /// upper-case digits, and all else stays (RFC 3987, section 3.1). No name of a host is written in
-    /// Punycode.
+    /// The IRI reference as a URI reference: each character past ASCII becomes the octets of its
+    /// UTF-8, with upper-case digits, and all else stays (RFC 3987, section 3.1). No name of a host
+    /// is written in Punycode.
     ///
     /// Read as an IRI reference it means what the IRI reference means, whichever default ports
     /// there are.
@@ -267,8 +282,10 @@ impl<T: AsStr> IriRef<T> {
     ///
     /// `é?q` becomes `%C3%A9?q`.
     pub fn to_uri_ref(&self, alloc: Global) -> Result<UriRef<String>, AllocError>
-        ensures text { IfOk result (λ encoded. uri_ref_text encoded ≡ encoded_text (iri_ref_text self.now)) }
-        ensures meaning { IfOk result (λ encoded. MeanTheSame iri_ref (uri_ref_text encoded) (iri_ref_text self.now)) }
+        ensures text { IfOk result (λ encoded.
+            uri_ref_text encoded ≡ encoded_text (iri_ref_text self.now)) }
+        ensures meaning { IfOk result (λ encoded.
+            MeanTheSame iri_ref (uri_ref_text encoded) (iri_ref_text self.now)) }
         ensures under { (ports : PortFunction) → IfOk result (λ encoded.
             meaning_of iri_ref ports (uri_ref_text encoded)
             ≡ meaning_of iri_ref ports (iri_ref_text self.now)) }

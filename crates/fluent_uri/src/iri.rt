@@ -1,5 +1,6 @@
 //! IRIs (RFC 3987, section 2.2).
-ghost use Rattle.std.specs.Prelude.{◌≡◌, ◌↔◌, IsOk, IfOk, IfErr, OnOk, OnErr, None, Some, is_some, option_map, string_bytes};
+ghost use Rattle.std.specs.Prelude.{◌≡◌, ◌↔◌, IsOk, IfOk, IfErr, OnOk, OnErr, None, Some, is_some};
+ghost use Rattle.std.specs.Prelude.{option_map, string_bytes};
 ghost use Rattle.uri_parts.specs.Components.{components};
 ghost use Rattle.uri_parts.specs.Errors.{IsErrorIn};
 ghost use Rattle.uri_parts.specs.Fragments.{IsWithFragment};
@@ -183,7 +184,7 @@ impl<T: AsStr> Iri<T> {
     }
 }
 
-#[tactic(auto, using(uri_parts::proofs::KindLemmas::iri_is_iri_ref, uri_parts::proofs::KindLemmas::iri_has_scheme))]
+#[tactic(auto, using(uri_parts::proofs::KindLemmas::iri_laws))]
 impl<'a> Iri<&'a str> {
     ghost use Rattle.uri_pct.specs.EStrs.{text_of};
     ghost use Rattle.uri_parts.specs.AuthorityTexts.{authority_text};
@@ -284,7 +285,9 @@ impl<'a> Iri<&'a str> {
         alloc: Global,
         fragment: Option<EStr<'_, IFragment>>,
     ) -> Result<Iri<String>, AllocError>
-        ensures { IfOk result (λ made. IsWithFragment (iri_text self.entry) (option_map text_of fragment.entry) (iri_text made)) }
+        ensures { IfOk result (λ made.
+            IsWithFragment (iri_text self.entry) (option_map text_of fragment.entry)
+            (iri_text made)) }
     {
         traits::with_fragment(alloc, &self, fragment)
     }
@@ -306,7 +309,8 @@ impl<'a> Iri<&'a str> {
     ///
     /// Only if memory is refused.
     pub fn normalize(self, alloc: Global) -> Result<Iri<String>, AllocError>
-        ensures { IfOk result (λ normal. IsNormalForm iri default_port (iri_text self.entry) (iri_text normal)) }
+        ensures { IfOk result (λ normal.
+            IsNormalForm iri default_port (iri_text self.entry) (iri_text normal)) }
     {
         normalize::normal(alloc, &self)
     }
@@ -382,7 +386,9 @@ impl Iri<String> {
         alloc: Global,
         fragment: Option<EStr<'_, IFragment>>,
     ) -> Result<Iri<String>, AllocError>
-        ensures { IfOk result (λ made. IsWithFragment (iri_text self.now) (option_map text_of fragment.entry) (iri_text made)) }
+        ensures { IfOk result (λ made.
+            IsWithFragment (iri_text self.now) (option_map text_of fragment.entry)
+            (iri_text made)) }
     {
         traits::with_fragment(alloc, self, fragment)
     }
@@ -399,7 +405,9 @@ impl Iri<String> {
     /// With the fragment `fragment`, `http://example.com/` becomes `http://example.com/#fragment`,
     /// and with `None` it is `http://example.com/` again.
     pub fn set_fragment(&mut self, fragment: Option<EStr<'_, IFragment>>) -> Result<(), AllocError>
-        ensures set { OnOk result (IsWithFragment (iri_text self.old) (option_map text_of fragment.entry) (iri_text self.new)) }
+        ensures set { OnOk result
+            (IsWithFragment (iri_text self.old) (option_map text_of fragment.entry)
+            (iri_text self.new)) }
         ensures kept { OnErr result (iri_text self.new ≡ iri_text self.old) }
         ensures none { fragment.entry ≡ None → IsOk result }
     {
@@ -419,7 +427,8 @@ impl Iri<String> {
     ///
     /// Only if memory is refused.
     pub fn normalize(&self, alloc: Global) -> Result<Iri<String>, AllocError>
-        ensures { IfOk result (λ normal. IsNormalForm iri default_port (iri_text self.now) (iri_text normal)) }
+        ensures { IfOk result (λ normal.
+            IsNormalForm iri default_port (iri_text self.now) (iri_text normal)) }
     {
         normalize::normal(alloc, self)
     }
@@ -589,7 +598,8 @@ impl<T: AsStr> PartialOrd for Iri<T> {
 
     ghost partial_cmp = { as_partial_cmp (on iri_text (slice_cmp nat_cmp)) };
 
-    ghost laws = { partial_order_from_own_ties (Prim.search (comparing, rules)) (Prim.search (comparing, rules)) };
+    ghost laws = { partial_order_from_own_ties (Prim.search (comparing, rules))
+        (Prim.search (comparing, rules)) };
 
     fn partial_cmp(&self, other: &Self) -> Option<Ordering> {
         Some(self.cmp(other))

@@ -1,5 +1,6 @@
 //! IRI references (RFC 3987, section 2.2).
-ghost use Rattle.std.specs.Prelude.{◌≡◌, ◌↔◌, IsOk, IfOk, IfErr, OnOk, OnErr, None, Some, is_some, option_map, string_bytes, Ok, true};
+ghost use Rattle.std.specs.Prelude.{◌≡◌, ◌↔◌, IsOk, IfOk, IfErr, OnOk, OnErr, None, Some, is_some};
+ghost use Rattle.std.specs.Prelude.{option_map, string_bytes, Ok, true};
 ghost use Rattle.uri_parts.specs.Components.{components};
 ghost use Rattle.uri_parts.specs.Errors.{IsErrorIn};
 ghost use Rattle.uri_parts.specs.Fragments.{IsWithFragment};
@@ -10,7 +11,7 @@ ghost use Rattle.uri_ops.specs.Normalizers.{IsNormalForm};
 ghost use Rattle.uri_ops.specs.EncodedTargets.{IsErrorForEncoded, IsTargetOfEncoded};
 ghost use Rattle.uri_ops.specs.NormalTargets.{IsErrorOfMeanings, IsTargetOfMeanings};
 ghost use Rattle.uri_ops.specs.Resolving.{IsRefusalFor};
-ghost use Rattle.uri_ops.specs.Target.{resolution_of};
+ghost use Rattle.uri_ops.specs.Target.{resolution_of_texts};
 
 use crate::component::IAuthority;
 use crate::iri::Iri;
@@ -240,7 +241,8 @@ impl<'a> IriRef<&'a str> {
 
     /// The authority without its `//`, if there is one (RFC 3987, section 2.2).
     pub fn authority(self) -> Option<IAuthority<'a>>
-        ensures { option_map authority_text result ≡ (components (iri_ref_text self.entry)).authority }
+        ensures { option_map authority_text result
+            ≡ (components (iri_ref_text self.entry)).authority }
     {
         self.parts().authority()
     }
@@ -295,7 +297,9 @@ impl<'a> IriRef<&'a str> {
         alloc: Global,
         fragment: Option<EStr<'_, IFragment>>,
     ) -> Result<IriRef<String>, AllocError>
-        ensures { IfOk result (λ made. IsWithFragment (iri_ref_text self.entry) (option_map text_of fragment.entry) (iri_ref_text made)) }
+        ensures { IfOk result (λ made.
+            IsWithFragment (iri_ref_text self.entry) (option_map text_of fragment.entry)
+            (iri_ref_text made)) }
     {
         traits::with_fragment(alloc, &self, fragment)
     }
@@ -317,7 +321,8 @@ impl<'a> IriRef<&'a str> {
     ///
     /// Only if memory is refused.
     pub fn normalize(self, alloc: Global) -> Result<IriRef<String>, AllocError>
-        ensures { IfOk result (λ normal. IsNormalForm iri_ref default_port (iri_ref_text self.entry) (iri_ref_text normal)) }
+        ensures { IfOk result (λ normal.
+            IsNormalForm iri_ref default_port (iri_ref_text self.entry) (iri_ref_text normal)) }
     {
         normalize::normal(alloc, &self)
     }
@@ -327,8 +332,8 @@ impl<'a> IriRef<&'a str> {
     ///
     /// # Errors
     ///
-    /// `BaseWithFragment` if the base has a fragment, and else `InvalidReferenceAgainstOpaqueBase` if
-    /// the base has no authority and its path doesn't begin with `/`, and this reference has no
+    /// `BaseWithFragment` if the base has a fragment, and else `InvalidReferenceAgainstOpaqueBase`
+    /// if the base has no authority and its path doesn't begin with `/`, and this reference has no
     /// scheme, is not empty and doesn't begin with `#`, both before memory is asked for;
     /// `OutOfMemory` if memory is refused. Never `PathUnderflow`.
     pub fn resolve_against<B: AsStr>(
@@ -336,8 +341,11 @@ impl<'a> IriRef<&'a str> {
         alloc: Global,
         base: &Iri<B>,
     ) -> Result<Iri<String>, ResolveError>
-        ensures target { IfOk result (λ target. resolution_of (components (iri_text base.now)) (components (iri_ref_text self.entry)) ≡ Ok (iri_text target)) }
-        ensures refusal { IfErr result (IsRefusalFor (components (iri_text base.now)) (components (iri_ref_text self.entry))) }
+        ensures target { IfOk result (λ target.
+            resolution_of_texts (iri_text base.now) (iri_ref_text self.entry)
+            ≡ Ok (iri_text target)) }
+        ensures refusal { IfErr result
+            (IsRefusalFor (components (iri_text base.now)) (components (iri_ref_text self.entry))) }
         ensures encoded { IfOk result (λ target. IsTargetOfEncoded true
             (iri_text base.now) (iri_ref_text self.entry) (iri_text target)) }
         ensures encoded_error { IfErr result
@@ -361,7 +369,8 @@ impl IriRef<String> {
     ghost use Rattle.fluent_uri.specs.IriRefs.{iri_ref_text};
     ghost use Rattle.fluent_uri.specs.Iris.{iri_text};
 
-    /// A builder of an IRI reference, which holds nothing yet and takes its memory from the allocator.
+    /// A builder of an IRI reference, which holds nothing yet and takes its memory from the
+    /// allocator.
     pub fn builder(alloc: Global) -> Builder<IriRef<String>, Start>
         ensures { builder_parts iri_ref (⟦<Start as State>⟧.held (state_of result)) ≡ no_parts }
     {
@@ -422,7 +431,9 @@ impl IriRef<String> {
         alloc: Global,
         fragment: Option<EStr<'_, IFragment>>,
     ) -> Result<IriRef<String>, AllocError>
-        ensures { IfOk result (λ made. IsWithFragment (iri_ref_text self.now) (option_map text_of fragment.entry) (iri_ref_text made)) }
+        ensures { IfOk result (λ made.
+            IsWithFragment (iri_ref_text self.now) (option_map text_of fragment.entry)
+            (iri_ref_text made)) }
     {
         traits::with_fragment(alloc, self, fragment)
     }
@@ -439,7 +450,9 @@ impl IriRef<String> {
     /// With the fragment `fragment`, `http://example.com/` becomes `http://example.com/#fragment`,
     /// and with `None` it is `http://example.com/` again.
     pub fn set_fragment(&mut self, fragment: Option<EStr<'_, IFragment>>) -> Result<(), AllocError>
-        ensures set { OnOk result (IsWithFragment (iri_ref_text self.old) (option_map text_of fragment.entry) (iri_ref_text self.new)) }
+        ensures set { OnOk result
+            (IsWithFragment (iri_ref_text self.old) (option_map text_of fragment.entry)
+            (iri_ref_text self.new)) }
         ensures kept { OnErr result (iri_ref_text self.new ≡ iri_ref_text self.old) }
         ensures none { fragment.entry ≡ None → IsOk result }
     {
@@ -459,7 +472,8 @@ impl IriRef<String> {
     ///
     /// Only if memory is refused.
     pub fn normalize(&self, alloc: Global) -> Result<IriRef<String>, AllocError>
-        ensures { IfOk result (λ normal. IsNormalForm iri_ref default_port (iri_ref_text self.now) (iri_ref_text normal)) }
+        ensures { IfOk result (λ normal.
+            IsNormalForm iri_ref default_port (iri_ref_text self.now) (iri_ref_text normal)) }
     {
         normalize::normal(alloc, self)
     }
@@ -469,8 +483,8 @@ impl IriRef<String> {
     ///
     /// # Errors
     ///
-    /// `BaseWithFragment` if the base has a fragment, and else `InvalidReferenceAgainstOpaqueBase` if
-    /// the base has no authority and its path doesn't begin with `/`, and this reference has no
+    /// `BaseWithFragment` if the base has a fragment, and else `InvalidReferenceAgainstOpaqueBase`
+    /// if the base has no authority and its path doesn't begin with `/`, and this reference has no
     /// scheme, is not empty and doesn't begin with `#`, both before memory is asked for;
     /// `OutOfMemory` if memory is refused. Never `PathUnderflow`.
     pub fn resolve_against<B: AsStr>(
@@ -478,8 +492,11 @@ impl IriRef<String> {
         alloc: Global,
         base: &Iri<B>,
     ) -> Result<Iri<String>, ResolveError>
-        ensures target { IfOk result (λ target. resolution_of (components (iri_text base.now)) (components (iri_ref_text self.now)) ≡ Ok (iri_text target)) }
-        ensures refusal { IfErr result (IsRefusalFor (components (iri_text base.now)) (components (iri_ref_text self.now))) }
+        ensures target { IfOk result (λ target.
+            resolution_of_texts (iri_text base.now) (iri_ref_text self.now)
+            ≡ Ok (iri_text target)) }
+        ensures refusal { IfErr result
+            (IsRefusalFor (components (iri_text base.now)) (components (iri_ref_text self.now))) }
         ensures encoded { IfOk result (λ target. IsTargetOfEncoded true
             (iri_text base.now) (iri_ref_text self.now) (iri_text target)) }
         ensures encoded_error { IfErr result
@@ -509,7 +526,8 @@ impl IriRef<String> {
 
     /// The authority without its `//`, if there is one (RFC 3987, section 2.2).
     pub fn authority(&self) -> Option<IAuthority<'_>>
-        ensures { option_map authority_text result ≡ (components (iri_ref_text self.now)).authority }
+        ensures { option_map authority_text result
+            ≡ (components (iri_ref_text self.now)).authority }
     {
         self.borrow().authority()
     }
@@ -556,7 +574,8 @@ impl TryFrom<String> for IriRef<String> {
     ghost use Rattle.uri_ascii.specs.Parses.{ParsesOwned};
     ghost use Rattle.fluent_uri.specs.IriRefs.{iri_ref_text};
 
-    ghost try_from_gives = { λ text result. ParsesOwned iri_ref iri_ref_text (string_bytes text) result };
+    ghost try_from_gives = { λ text result.
+        ParsesOwned iri_ref iri_ref_text (string_bytes text) result };
 
     /// The same as `parse`.
     fn try_from(text: String) -> Result<Self, (ParseError, String)> {
@@ -679,7 +698,8 @@ impl<T: AsStr> PartialOrd for IriRef<T> {
 
     ghost partial_cmp = { as_partial_cmp (on iri_ref_text (slice_cmp nat_cmp)) };
 
-    ghost laws = { partial_order_from_own_ties (Prim.search (comparing, rules)) (Prim.search (comparing, rules)) };
+    ghost laws = { partial_order_from_own_ties (Prim.search (comparing, rules))
+        (Prim.search (comparing, rules)) };
 
     fn partial_cmp(&self, other: &Self) -> Option<Ordering> {
         Some(self.cmp(other))

@@ -6,13 +6,15 @@ use Rattle.uri_parts.specs.Errors.{IsErrorIn}
 use Rattle.uri_parts.specs.Grammar.{Kind, IsOfKind}
 
 -- a text is taken exactly if it is of the kind, as it stands, and else refused at a place in it
-pub record Parses {A : Type 0} (kind : Kind) (text_of : A → List ℕ) (text : List ℕ) (result : Result A ParseError) : Type 0 where
+pub record Parses {A : Type 0} (kind : Kind) (text_of : A → List ℕ) (text : List ℕ)
+    (result : Result A ParseError) : Type 0 where
   pub accepts : IsOk result ↔ IsOfKind kind text
   pub same : IfOk result (λ value. text_of value ≡ text)
   pub err : IfErr result (IsErrorIn text)
 
 -- the same of an owned text, which comes back where it is refused
-pub record ParsesOwned {A Z : Type 0} (kind : Kind) (text_of : A → List ℕ) (text : List ℕ) (result : Result A (ParseError × String Z)) : Type 0 where
+pub record ParsesOwned {A Z : Type 0} (kind : Kind) (text_of : A → List ℕ) (text : List ℕ)
+    (result : Result A (ParseError × String Z)) : Type 0 where
   pub accepts : IsOk result ↔ IsOfKind kind text
   pub same : IfOk result (λ value. text_of value ≡ text)
   pub err : IfErr result (λ e. IsErrorIn text e.0)

@@ -26,7 +26,8 @@ impl<T: AsStr> From<Uri<T>> for UriRef<T> {
 impl<'a> TryFrom<UriRef<&'a str>> for Uri<&'a str> {
     type Error = ConvertError;
 
-    ghost try_from_gives = { λ value result. Converts uri uri_text (uri_ref_text value) (scheme_refusal (uri_ref_text value)) result };
+    ghost try_from_gives = { λ value result.
+        Converts uri uri_text (uri_ref_text value) (scheme_refusal (uri_ref_text value)) result };
 
     /// The same text, as a URI.
     ///
@@ -44,7 +45,9 @@ impl<'a> TryFrom<UriRef<&'a str>> for Uri<&'a str> {
 impl TryFrom<UriRef<String>> for Uri<String> {
     type Error = (ConvertError, UriRef<String>);
 
-    ghost try_from_gives = { λ value result. ConvertsOwned uri uri_text (uri_ref_text value) (scheme_refusal (uri_ref_text value)) value result };
+    ghost try_from_gives = { λ value result.
+        ConvertsOwned uri uri_text (uri_ref_text value)
+        (scheme_refusal (uri_ref_text value)) value result };
 
     /// The same text, as a URI.
     ///

@@ -1,5 +1,6 @@
 //! URIs (RFC 3986, section 3).
-ghost use Rattle.std.specs.Prelude.{◌≡◌, ◌↔◌, IsOk, IfOk, IfErr, OnOk, OnErr, None, Some, is_some, option_map, string_bytes};
+ghost use Rattle.std.specs.Prelude.{◌≡◌, ◌↔◌, IsOk, IfOk, IfErr, OnOk, OnErr, None, Some, is_some};
+ghost use Rattle.std.specs.Prelude.{option_map, string_bytes};
 ghost use Rattle.std.specs.Str.{IsUtf8};
 ghost use Rattle.uri_parts.specs.Components.{components};
 ghost use Rattle.uri_parts.specs.Errors.{IsErrorIn};
@@ -185,7 +186,7 @@ impl<T: AsStr> Uri<T> {
     }
 }
 
-#[tactic(auto, using(uri_parts::proofs::KindLemmas::uri_is_uri_ref, uri_parts::proofs::KindLemmas::uri_has_scheme))]
+#[tactic(auto, using(uri_parts::proofs::KindLemmas::uri_laws))]
 impl<'a> Uri<&'a str> {
     ghost use Rattle.uri_pct.specs.EStrs.{text_of};
     ghost use Rattle.uri_parts.specs.AuthorityTexts.{authority_text};
@@ -286,7 +287,9 @@ impl<'a> Uri<&'a str> {
         alloc: Global,
         fragment: Option<EStr<'_, Fragment>>,
     ) -> Result<Uri<String>, AllocError>
-        ensures { IfOk result (λ made. IsWithFragment (uri_text self.entry) (option_map text_of fragment.entry) (uri_text made)) }
+        ensures { IfOk result (λ made.
+            IsWithFragment (uri_text self.entry) (option_map text_of fragment.entry)
+            (uri_text made)) }
     {
         traits::with_fragment(alloc, &self, fragment)
     }
@@ -308,7 +311,8 @@ impl<'a> Uri<&'a str> {
     ///
     /// Only if memory is refused.
     pub fn normalize(self, alloc: Global) -> Result<Uri<String>, AllocError>
-        ensures { IfOk result (λ normal. IsNormalForm uri default_port (uri_text self.entry) (uri_text normal)) }
+        ensures { IfOk result (λ normal.
+            IsNormalForm uri default_port (uri_text self.entry) (uri_text normal)) }
     {
         normalize::normal(alloc, &self)
     }
@@ -384,7 +388,9 @@ impl Uri<String> {
         alloc: Global,
         fragment: Option<EStr<'_, Fragment>>,
     ) -> Result<Uri<String>, AllocError>
-        ensures { IfOk result (λ made. IsWithFragment (uri_text self.now) (option_map text_of fragment.entry) (uri_text made)) }
+        ensures { IfOk result (λ made.
+            IsWithFragment (uri_text self.now) (option_map text_of fragment.entry)
+            (uri_text made)) }
     {
         traits::with_fragment(alloc, self, fragment)
     }
@@ -401,7 +407,9 @@ impl Uri<String> {
     /// With the fragment `fragment`, `http://example.com/` becomes `http://example.com/#fragment`,
     /// and with `None` it is `http://example.com/` again.
     pub fn set_fragment(&mut self, fragment: Option<EStr<'_, Fragment>>) -> Result<(), AllocError>
-        ensures set { OnOk result (IsWithFragment (uri_text self.old) (option_map text_of fragment.entry) (uri_text self.new)) }
+        ensures set { OnOk result
+            (IsWithFragment (uri_text self.old) (option_map text_of fragment.entry)
+            (uri_text self.new)) }
         ensures kept { OnErr result (uri_text self.new ≡ uri_text self.old) }
         ensures none { fragment.entry ≡ None → IsOk result }
     {
@@ -421,7 +429,8 @@ impl Uri<String> {
     ///
     /// Only if memory is refused.
     pub fn normalize(&self, alloc: Global) -> Result<Uri<String>, AllocError>
-        ensures { IfOk result (λ normal. IsNormalForm uri default_port (uri_text self.now) (uri_text normal)) }
+        ensures { IfOk result (λ normal.
+            IsNormalForm uri default_port (uri_text self.now) (uri_text normal)) }
     {
         normalize::normal(alloc, self)
     }
@@ -591,7 +600,8 @@ impl<T: AsStr> PartialOrd for Uri<T> {
 
     ghost partial_cmp = { as_partial_cmp (on uri_text (slice_cmp nat_cmp)) };
 
-    ghost laws = { partial_order_from_own_ties (Prim.search (comparing, rules)) (Prim.search (comparing, rules)) };
+    ghost laws = { partial_order_from_own_ties (Prim.search (comparing, rules))
+        (Prim.search (comparing, rules)) };
 
     fn partial_cmp(&self, other: &Self) -> Option<Ordering> {
         Some(self.cmp(other))

@@ -1,5 +1,6 @@
 //! URI references (RFC 3986, section 4.1).
-ghost use Rattle.std.specs.Prelude.{◌≡◌, ◌↔◌, IsOk, IfOk, IfErr, OnOk, OnErr, None, Some, is_some, option_map, string_bytes, Ok, true};
+ghost use Rattle.std.specs.Prelude.{◌≡◌, ◌↔◌, IsOk, IfOk, IfErr, OnOk, OnErr, None, Some, is_some};
+ghost use Rattle.std.specs.Prelude.{option_map, string_bytes, Ok, true};
 ghost use Rattle.std.specs.Str.{IsUtf8};
 ghost use Rattle.uri_parts.specs.Components.{components};
 ghost use Rattle.uri_parts.specs.Errors.{IsErrorIn};
@@ -11,7 +12,7 @@ ghost use Rattle.uri_ops.specs.Normalizers.{IsNormalForm};
 ghost use Rattle.uri_ops.specs.EncodedTargets.{IsErrorForEncoded, IsTargetOfEncoded};
 ghost use Rattle.uri_ops.specs.NormalTargets.{IsErrorOfMeanings, IsTargetOfMeanings};
 ghost use Rattle.uri_ops.specs.Resolving.{IsRefusalFor};
-ghost use Rattle.uri_ops.specs.Target.{resolution_of};
+ghost use Rattle.uri_ops.specs.Target.{resolution_of_texts};
 
 use crate::uri::Uri;
 use std::alloc::{AllocError, Global};
@@ -243,7 +244,8 @@ impl<'a> UriRef<&'a str> {
 
     /// The authority without its `//`, if there is one (RFC 3986, section 3.2).
     pub fn authority(self) -> Option<Authority<'a>>
-        ensures { option_map authority_text result ≡ (components (uri_ref_text self.entry)).authority }
+        ensures { option_map authority_text result
+            ≡ (components (uri_ref_text self.entry)).authority }
     {
         self.parts().authority()
     }
@@ -298,7 +300,9 @@ impl<'a> UriRef<&'a str> {
         alloc: Global,
         fragment: Option<EStr<'_, Fragment>>,
     ) -> Result<UriRef<String>, AllocError>
-        ensures { IfOk result (λ made. IsWithFragment (uri_ref_text self.entry) (option_map text_of fragment.entry) (uri_ref_text made)) }
+        ensures { IfOk result (λ made.
+            IsWithFragment (uri_ref_text self.entry) (option_map text_of fragment.entry)
+            (uri_ref_text made)) }
     {
         traits::with_fragment(alloc, &self, fragment)
     }
@@ -320,7 +324,8 @@ impl<'a> UriRef<&'a str> {
     ///
     /// Only if memory is refused.
     pub fn normalize(self, alloc: Global) -> Result<UriRef<String>, AllocError>
-        ensures { IfOk result (λ normal. IsNormalForm uri_ref default_port (uri_ref_text self.entry) (uri_ref_text normal)) }
+        ensures { IfOk result (λ normal.
+            IsNormalForm uri_ref default_port (uri_ref_text self.entry) (uri_ref_text normal)) }
     {
         normalize::normal(alloc, &self)
     }
@@ -330,8 +335,8 @@ impl<'a> UriRef<&'a str> {
     ///
     /// # Errors
     ///
-    /// `BaseWithFragment` if the base has a fragment, and else `InvalidReferenceAgainstOpaqueBase` if
-    /// the base has no authority and its path doesn't begin with `/`, and this reference has no
+    /// `BaseWithFragment` if the base has a fragment, and else `InvalidReferenceAgainstOpaqueBase`
+    /// if the base has no authority and its path doesn't begin with `/`, and this reference has no
     /// scheme, is not empty and doesn't begin with `#`, both before memory is asked for;
     /// `OutOfMemory` if memory is refused. Never `PathUnderflow`.
     pub fn resolve_against<B: AsStr>(
@@ -339,8 +344,11 @@ impl<'a> UriRef<&'a str> {
         alloc: Global,
         base: &Uri<B>,
     ) -> Result<Uri<String>, ResolveError>
-        ensures target { IfOk result (λ target. resolution_of (components (uri_text base.now)) (components (uri_ref_text self.entry)) ≡ Ok (uri_text target)) }
-        ensures refusal { IfErr result (IsRefusalFor (components (uri_text base.now)) (components (uri_ref_text self.entry))) }
+        ensures target { IfOk result (λ target.
+            resolution_of_texts (uri_text base.now) (uri_ref_text self.entry)
+            ≡ Ok (uri_text target)) }
+        ensures refusal { IfErr result
+            (IsRefusalFor (components (uri_text base.now)) (components (uri_ref_text self.entry))) }
         ensures encoded { IfOk result (λ target. IsTargetOfEncoded true
             (uri_text base.now) (uri_ref_text self.entry) (uri_text target)) }
         ensures encoded_error { IfErr result
@@ -364,7 +372,8 @@ impl UriRef<String> {
     ghost use Rattle.uri_ascii.specs.UriRefs.{uri_ref_text};
     ghost use Rattle.uri_ascii.specs.Uris.{uri_text};
 
-    /// A builder of a URI reference, which holds nothing yet and takes its memory from the allocator.
+    /// A builder of a URI reference, which holds nothing yet and takes its memory from the
+    /// allocator.
     pub fn builder(alloc: Global) -> Builder<UriRef<String>, Start>
         ensures { builder_parts uri_ref (⟦<Start as State>⟧.held (state_of result)) ≡ no_parts }
     {
@@ -425,7 +434,9 @@ impl UriRef<String> {
         alloc: Global,
         fragment: Option<EStr<'_, Fragment>>,
     ) -> Result<UriRef<String>, AllocError>
-        ensures { IfOk result (λ made. IsWithFragment (uri_ref_text self.now) (option_map text_of fragment.entry) (uri_ref_text made)) }
+        ensures { IfOk result (λ made.
+            IsWithFragment (uri_ref_text self.now) (option_map text_of fragment.entry)
+            (uri_ref_text made)) }
     {
         traits::with_fragment(alloc, self, fragment)
     }
@@ -442,7 +453,9 @@ impl UriRef<String> {
     /// With the fragment `fragment`, `http://example.com/` becomes `http://example.com/#fragment`,
     /// and with `None` it is `http://example.com/` again.
     pub fn set_fragment(&mut self, fragment: Option<EStr<'_, Fragment>>) -> Result<(), AllocError>
-        ensures set { OnOk result (IsWithFragment (uri_ref_text self.old) (option_map text_of fragment.entry) (uri_ref_text self.new)) }
+        ensures set { OnOk result
+            (IsWithFragment (uri_ref_text self.old) (option_map text_of fragment.entry)
+            (uri_ref_text self.new)) }
         ensures kept { OnErr result (uri_ref_text self.new ≡ uri_ref_text self.old) }
         ensures none { fragment.entry ≡ None → IsOk result }
     {
@@ -462,7 +475,8 @@ impl UriRef<String> {
     ///
     /// Only if memory is refused.
     pub fn normalize(&self, alloc: Global) -> Result<UriRef<String>, AllocError>
-        ensures { IfOk result (λ normal. IsNormalForm uri_ref default_port (uri_ref_text self.now) (uri_ref_text normal)) }
+        ensures { IfOk result (λ normal.
+            IsNormalForm uri_ref default_port (uri_ref_text self.now) (uri_ref_text normal)) }
     {
         normalize::normal(alloc, self)
     }
@@ -472,8 +486,8 @@ impl UriRef<String> {
     ///
     /// # Errors
     ///
-    /// `BaseWithFragment` if the base has a fragment, and else `InvalidReferenceAgainstOpaqueBase` if
-    /// the base has no authority and its path doesn't begin with `/`, and this reference has no
+    /// `BaseWithFragment` if the base has a fragment, and else `InvalidReferenceAgainstOpaqueBase`
+    /// if the base has no authority and its path doesn't begin with `/`, and this reference has no
     /// scheme, is not empty and doesn't begin with `#`, both before memory is asked for;
     /// `OutOfMemory` if memory is refused. Never `PathUnderflow`.
     pub fn resolve_against<B: AsStr>(
@@ -481,8 +495,11 @@ impl UriRef<String> {
         alloc: Global,
         base: &Uri<B>,
     ) -> Result<Uri<String>, ResolveError>
-        ensures target { IfOk result (λ target. resolution_of (components (uri_text base.now)) (components (uri_ref_text self.now)) ≡ Ok (uri_text target)) }
-        ensures refusal { IfErr result (IsRefusalFor (components (uri_text base.now)) (components (uri_ref_text self.now))) }
+        ensures target { IfOk result (λ target.
+            resolution_of_texts (uri_text base.now) (uri_ref_text self.now)
+            ≡ Ok (uri_text target)) }
+        ensures refusal { IfErr result
+            (IsRefusalFor (components (uri_text base.now)) (components (uri_ref_text self.now))) }
         ensures encoded { IfOk result (λ target. IsTargetOfEncoded true
             (uri_text base.now) (uri_ref_text self.now) (uri_text target)) }
         ensures encoded_error { IfErr result
@@ -512,7 +529,8 @@ impl UriRef<String> {
 
     /// The authority without its `//`, if there is one (RFC 3986, section 3.2).
     pub fn authority(&self) -> Option<Authority<'_>>
-        ensures { option_map authority_text result ≡ (components (uri_ref_text self.now)).authority }
+        ensures { option_map authority_text result
+            ≡ (components (uri_ref_text self.now)).authority }
     {
         self.borrow().authority()
     }
@@ -559,7 +577,8 @@ impl TryFrom<String> for UriRef<String> {
     ghost use Rattle.uri_ascii.specs.Parses.{ParsesOwned};
     ghost use Rattle.uri_ascii.specs.UriRefs.{uri_ref_text};
 
-    ghost try_from_gives = { λ text result. ParsesOwned uri_ref uri_ref_text (string_bytes text) result };
+    ghost try_from_gives = { λ text result.
+        ParsesOwned uri_ref uri_ref_text (string_bytes text) result };
 
     /// The same as `parse`.
     fn try_from(text: String) -> Result<Self, (ParseError, String)> {
@@ -682,7 +701,8 @@ impl<T: AsStr> PartialOrd for UriRef<T> {
 
     ghost partial_cmp = { as_partial_cmp (on uri_ref_text (slice_cmp nat_cmp)) };
 
-    ghost laws = { partial_order_from_own_ties (Prim.search (comparing, rules)) (Prim.search (comparing, rules)) };
+    ghost laws = { partial_order_from_own_ties (Prim.search (comparing, rules))
+        (Prim.search (comparing, rules)) };
 
     fn partial_cmp(&self, other: &Self) -> Option<Ordering> {
         Some(self.cmp(other))

@@ -158,3 +158,9 @@ iri_means_under text encoded e u h ports = encoded_means_under iri iri_sets text
 
 pub iri_ref_means_under : (text encoded : List ℕ) → encoded ≡ encoded_text text → IsUtf8 text → IsOfKind iri_ref text → (ports : PortFunction) → meaning_of iri_ref ports encoded ≡ meaning_of iri_ref ports text
 iri_ref_means_under text encoded e u h ports = encoded_means_under iri_ref iri_ref_sets text encoded e u h ports
+
+pub ruleset uri_widening = (uri_is_uri_ref, uri_ref_is_iri_ref)
+
+pub ruleset iri_encoding = (iri_encoded, iri_means, iri_means_under)
+
+pub ruleset iri_ref_encoding = (iri_ref_encoded, iri_ref_means, iri_ref_means_under)

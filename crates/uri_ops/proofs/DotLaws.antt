@@ -209,3 +209,18 @@ pub length_removed : (path : List ℕ) → IsAbsolute path → length (remove_do
 unfolding cleaned slashed
 length_removed = by_segments (λ path. length (remove_dot_segments path) ≤ length path)
     (λ s rest e. omega (arith, ap length (remove_slashed (s ∷ rest) e), length_steps [] (s ∷ rest)))
+
+pub ruleset removed_laws = (removed_lacks, removed_absolute, length_removed)
+
+pub ruleset plain_laws = (removed_of_plain, underflows_of_plain)
+
+pub ruleset directory_laws = (
+  directory_absolute,
+  directory_ends,
+  removed_directory,
+  underflows_directory,
+)
+
+pub ruleset piece_laws = (removed_in_pieces, underflows_in_pieces)
+
+pub ruleset merging_laws = (removed_before_merging, underflows_merged)

@@ -65,3 +65,5 @@ end_inside bytes i n h k =
     let f : n ≤ length (drop i bytes) = subst (λ t. n ≤ length t) (from_drop bytes i) k in
     let d : length (drop i bytes) ≡ length bytes - i = length-drop i bytes in
     omega arith
+
+pub ruleset encoded_runs = (nothing_encoded, plain_more, run_more, octet_more)

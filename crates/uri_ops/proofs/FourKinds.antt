@@ -73,3 +73,5 @@ iri_sets = kind_sets true true true
 pub iri_ref_sets : HasComponentSets iri_ref
 unfolding kind_with component
 iri_ref_sets = kind_sets true true false
+
+pub ruleset four_sets = (uri_sets, uri_ref_sets, iri_sets, iri_ref_sets)

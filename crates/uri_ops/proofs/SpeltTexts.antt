@@ -105,3 +105,7 @@ uri_host text host u h = one_host uri.userinfo uri.reg_name uri_apart text host 
 
 pub iri_host : (text : List ℕ) (host : HostKind) → IsUtf8 text → IsHost iri.reg_name text host → host_kind text ≡ host
 iri_host text host u h = one_host iri.userinfo iri.reg_name iri_apart text host u h
+
+pub ruleset grammar_laws = (uri_in_grammar, uri_ref_in_grammar, iri_in_grammar, iri_ref_in_grammar)
+
+pub ruleset cut_laws = (uri_cut, iri_cut, uri_host, iri_host)

@@ -127,3 +127,5 @@ fragment_only text = ⊎_elim
     (λ h. h ∙ sym (ap (λ t. is_empty t || starts 35 t) (sym (recompose-components text)) ∙ only_test (components text) h))
     (λ h. h ∙ sym (false_from_ne_true (is_empty text || starts 35 text) (λ e. false≢true (sym h ∙ text_only text e))))
     (cases_Bool (is_fragment_only (components text)))
+
+pub ruleset target_laws = (target_is_split, target_components)

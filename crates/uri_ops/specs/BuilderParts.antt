@@ -1,5 +1,6 @@
 -- What a builder holds, and the text of it: RFC 3986, section 5.3.
-use Rattle.std.specs.Prelude.{◌≡◌, ◌&&◌, ℕ, Bool, false, List, [], ◌++◌, Option, Some, None, is_none, option_map, unwrap_or, if◌then◌else◌}
+use Rattle.std.specs.Prelude.{◌≡◌, ◌&&◌, ℕ, Bool, false, List, [], ◌++◌, Option, Some, None}
+use Rattle.std.specs.Prelude.{is_none, option_map, unwrap_or, if◌then◌else◌}
 use Rattle.std.specs.Str.{is_utf8}
 use Rattle.uri_pct.specs.Sets.{TableSet}
 use Rattle.uri_pct.specs.Tokens.{is_valid_for}
@@ -19,11 +20,24 @@ pub record BuilderParts : Type 0 where
 
 -- what a fresh builder holds
 abbrev pub no_parts : BuilderParts
-no_parts = record { scheme = None; authority = None; path = None; query = None; fragment = None; failed = false }
+no_parts = record {
+  scheme = None;
+  authority = None;
+  path = None;
+  query = None;
+  fragment = None;
+  failed = false;
+}
 
 -- the parts as components: a path that is not there is empty
 abbrev pub as_components : BuilderParts → Components
-as_components p = record { scheme = p.scheme; authority = p.authority; path = unwrap_or p.path []; query = p.query; fragment = p.fragment }
+as_components p = record {
+  scheme = p.scheme;
+  authority = p.authority;
+  path = unwrap_or p.path [];
+  query = p.query;
+  fragment = p.fragment;
+}
 
 -- section 5.3: their text
 abbrev pub parts_text : BuilderParts → List ℕ
@@ -41,7 +55,8 @@ with_authority text p = record p { authority = Some text }
 
 -- the authority that was begun goes on
 abbrev pub with_more_authority : List ℕ → BuilderParts → BuilderParts
-with_more_authority text p = record p { authority = option_map (λ authority. authority ++ text) p.authority }
+with_more_authority text p =
+    record p { authority = option_map (λ authority. authority ++ text) p.authority }
 
 abbrev pub with_path : List ℕ → BuilderParts → BuilderParts
 with_path text p = record p { path = Some text }
@@ -54,7 +69,8 @@ with_fragment text p = record p { fragment = Some text }
 
 -- a kind by what its sets hold past ASCII, and whether it needs a scheme
 abbrev pub known_kind : Bool → Bool → Kind
-known_kind international needs_scheme = record (if international then iri_ref else uri_ref) { needs_scheme = needs_scheme }
+known_kind international needs_scheme =
+    record (if international then iri_ref else uri_ref) { needs_scheme = needs_scheme }
 
 -- UTF-8 that a set allows
 unfoldable pub is_text_for : TableSet → List ℕ → Bool
@@ -72,7 +88,8 @@ meet_rules kind p =
     if_some p.scheme is_scheme_text
     && (if_some p.authority (is_authority_text kind)
     && (if_some p.path (is_text_for kind.path)
-    && (if_some p.query (is_text_for kind.query) && if_some p.fragment (is_text_for kind.fragment))))
+    && (if_some p.query (is_text_for kind.query)
+    && if_some p.fragment (is_text_for kind.fragment))))
 
 -- an authority of which a host may follow, and of which a port may follow: RFC 3986, section 3.2
 abbrev pub takes_port : List ℕ → Bool

@@ -1,20 +1,27 @@
 -- What is refused of the parts of a builder: RFC 3986, sections 3.3 and 4.2.
-use Rattle.std.specs.Prelude.{◌≡◌, ◌&&◌, ◌||◌, not, ℕ, Bool, List, [], Option, Some, None, is_some, unwrap_or, if◌then◌else◌}
+use Rattle.std.specs.Prelude.{◌≡◌, ◌&&◌, ◌||◌, not, ℕ, Bool, List, [], Option, Some, None, is_some}
+use Rattle.std.specs.Prelude.{unwrap_or, if◌then◌else◌}
 use Rattle.uri_parts.specs.Components as Components
 use Rattle.uri_parts.specs.Components.{components, starts}
 use Rattle.uri_parts.specs.Grammar.{IsOfKind, Kind, has_colon_first}
 use Rattle.uri_ops.specs.declared.build.BuildError.{BuildError}
-use Rattle.uri_ops.specs.declared.build.BuildError.TheVariants.{FirstPathSegmentContainsColon, NonemptyRootlessPath, PathStartsWithDoubleSlash}
+use Rattle.uri_ops.specs.declared.build.BuildError.TheVariants.{FirstPathSegmentContainsColon}
+use Rattle.uri_ops.specs.declared.build.BuildError.TheVariants.{NonemptyRootlessPath}
+use Rattle.uri_ops.specs.declared.build.BuildError.TheVariants.{PathStartsWithDoubleSlash}
 use Rattle.uri_ops.specs.BuilderParts.{BuilderParts, as_components, parts_text}
 use Rattle.uri_ops.specs.Dots.{is_empty}
 
--- section 3.3: with an authority the path is empty or begins with `/`, without one it does not begin with `//`;
+-- section 3.3: with an authority the path is empty or begins with `/`, without one it does not
+-- begin with `//`;
 -- section 4.2: with neither a scheme nor an authority no `:` stands in the first segment
 unfoldable pub refusal_of : Bool → Bool → List ℕ → Option BuildError
 refusal_of has_scheme has_authority path =
-    if has_authority then (if is_empty path || starts 47 path then None else Some NonemptyRootlessPath)
+    if has_authority
+    then (if is_empty path || starts 47 path then None else Some NonemptyRootlessPath)
     else (if Components.has_authority path then Some PathStartsWithDoubleSlash
-    else (if not has_scheme && has_colon_first path then Some FirstPathSegmentContainsColon else None))
+    else (if not has_scheme && has_colon_first path
+    then Some FirstPathSegmentContainsColon
+    else None))
 
 abbrev pub refusal : BuilderParts → Option BuildError
 refusal p = refusal_of (is_some p.scheme) (is_some p.authority) (unwrap_or p.path [])

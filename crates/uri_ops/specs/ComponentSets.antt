@@ -1,10 +1,12 @@
--- What the characters of each component have in common in all kinds: RFC 3986, sections 2.2, 2.3 and 3, and RFC 3987, section 2.2.
+-- What the characters of each component have in common in all kinds: RFC 3986, sections 2.2, 2.3
+-- and 3, and RFC 3987, section 2.2.
 use Rattle.std.specs.Prelude.{◌≡◌, true, false, List, ℕ, codes}
 use Rattle.std.specs.List.{list_any}
 use Rattle.uri_pct.specs.Sets.{TableSet, LacksPercent, IsSubset, unreserved_set}
 use Rattle.uri_parts.specs.Grammar.{Kind}
 
--- a component may have the unreserved characters and percent-encoded octets, and neither `%` by itself nor one of the marks, which end it
+-- a component may have the unreserved characters and percent-encoded octets, and neither `%` by
+-- itself nor one of the marks, which end it
 pub record IsComponentSet (marks : List ℕ) (set : TableSet) : Type 0 where
   pub unreserved : IsSubset unreserved_set set
   pub percent : LacksPercent set
@@ -19,7 +21,8 @@ pub record HasComponentSets (kind : Kind) : Type 0 where
   pub query : IsComponentSet (codes "#[]") kind.query
   pub fragment : IsComponentSet (codes "#[]") kind.fragment
 
--- what one kind allows the other does: its sets are wider, and a scheme is needed there only if it is here
+-- what one kind allows the other does: its sets are wider, and a scheme is needed there only if it
+-- is here
 pub record IsWithin (kind wide : Kind) : Type 0 where
   pub userinfo : IsSubset kind.userinfo wide.userinfo
   pub reg_name : IsSubset kind.reg_name wide.reg_name

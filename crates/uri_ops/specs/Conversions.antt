@@ -1,5 +1,7 @@
--- When a value of one kind is one of another: RFC 3986, sections 3 and 4.1, and RFC 3987, section 3.1.
-use Rattle.std.specs.Prelude.{◌≡◌, ◌↔◌, ℕ, Bool, not, nat_lt, List, Option, Some, None, is_some, option_map, Result, IsOk, IfOk, IfErr, if◌then◌else◌}
+-- When a value of one kind is one of another: RFC 3986, sections 3 and 4.1, and RFC 3987, section
+-- 3.1.
+use Rattle.std.specs.Prelude.{◌≡◌, ◌↔◌, ℕ, Bool, not, nat_lt, List, Option, Some, None, is_some}
+use Rattle.std.specs.Prelude.{option_map, Result, IsOk, IfOk, IfErr, if◌then◌else◌}
 use Rattle.std.specs.List.{position}
 use Rattle.std.specs.Option.{option_or}
 use Rattle.std.specs.Result.{result_err}
@@ -28,14 +30,18 @@ ascii_refusal text = option_map (λ index. NotAscii index) (first_past_ascii tex
 unfoldable pub uri_refusal : List ℕ → Option ConvertError
 uri_refusal text = option_or (scheme_refusal text) (ascii_refusal text)
 
--- a value is taken exactly if its text is of the kind, as it stands, and else refused for this reason
-pub record Converts {A : Type 0} (kind : Kind) (text_of : A → List ℕ) (text : List ℕ) (refusal : Option ConvertError) (result : Result A ConvertError) : Type 0 where
+-- a value is taken exactly if its text is of the kind, as it stands, and else refused for this
+-- reason
+pub record Converts {A : Type 0} (kind : Kind) (text_of : A → List ℕ) (text : List ℕ)
+    (refusal : Option ConvertError) (result : Result A ConvertError) : Type 0 where
   pub accepts : IsOk result ↔ IsOfKind kind text
   pub same : IfOk result (λ value. text_of value ≡ text)
   pub refused : result_err result ≡ refusal
 
 -- the same of a value that owns its text, which comes back where it is refused
-pub record ConvertsOwned {A B : Type 0} (kind : Kind) (text_of : A → List ℕ) (text : List ℕ) (refusal : Option ConvertError) (value : B) (result : Result A (ConvertError × B)) : Type 0 where
+pub record ConvertsOwned {A B : Type 0} (kind : Kind) (text_of : A → List ℕ) (text : List ℕ)
+    (refusal : Option ConvertError) (value : B)
+    (result : Result A (ConvertError × B)) : Type 0 where
   pub accepts : IsOk result ↔ IsOfKind kind text
   pub same : IfOk result (λ other. text_of other ≡ text)
   pub refused : option_map (λ e. e.0) (result_err result) ≡ refusal

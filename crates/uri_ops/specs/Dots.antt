@@ -1,5 +1,7 @@
--- Dot segments: RFC 3986, section 5.2.4, for a path that begins with `/`. A dot counts percent-encoded too.
-use Rattle.std.specs.Prelude.{◌≡◌, ℕ, zero, suc, ◌+◌, Bool, true, false, not, ◌||◌, ◌==◌, List, [], ◌∷◌, ◌++◌, length, drop, codes, bytes_eq, IsTrue, if◌then◌else◌}
+-- Dot segments: RFC 3986, section 5.2.4, for a path that begins with `/`. A dot counts
+-- percent-encoded too.
+use Rattle.std.specs.Prelude.{◌≡◌, ℕ, zero, suc, ◌+◌, Bool, true, false, not, ◌||◌, ◌==◌, List, []}
+use Rattle.std.specs.Prelude.{◌∷◌, ◌++◌, length, drop, codes, bytes_eq, IsTrue, if◌then◌else◌}
 use Rattle.std.specs.List.{list_all, list_any, slice_split}
 use Rattle.uri_parts.specs.Components.{starts, before_any, from_any}
 
@@ -12,7 +14,8 @@ abbrev pub is_single_dot : List ℕ → Bool
 is_single_dot segment = list_any (bytes_eq segment) dots
 
 abbrev pub is_double_dot : List ℕ → Bool
-is_double_dot segment = list_any (λ first. list_any (λ second. bytes_eq segment (first ++ second)) dots) dots
+is_double_dot segment =
+    list_any (λ first. list_any (λ second. bytes_eq segment (first ++ second)) dots) dots
 
 abbrev pub is_dot_segment : List ℕ → Bool
 is_dot_segment segment = is_single_dot segment || is_double_dot segment
@@ -43,9 +46,11 @@ up_to_last_slash text = if has_slash text then before_last_slash text ++ codes "
 -- the text after its last `/`, or all of it where it has none
 abbrev pub last_segment : List ℕ → List ℕ
 last_segment [] = []
-last_segment (c ∷ rest) = if has_slash rest then last_segment rest else (if c == 47 then rest else c ∷ rest)
+last_segment (c ∷ rest) =
+    if has_slash rest then last_segment rest else (if c == 47 then rest else c ∷ rest)
 
--- section 5.2.4, step 1: the input buffer and the output buffer, and whether a double dot met an empty output
+-- section 5.2.4, step 1: the input buffer and the output buffer, and whether a double dot met an
+-- empty output
 pub record Buffers : Type 0 where
   pub input : List ℕ
   pub output : List ℕ
@@ -56,15 +61,20 @@ abbrev pub or_slash : List ℕ → List ℕ
 or_slash [] = codes "/"
 or_slash (c ∷ rest) = c ∷ rest
 
--- step 2, where the input begins with `/`: B drops a single dot, C drops a double dot and the output's last segment with the
--- `/` before it, and E moves the first segment to the output
+-- step 2, where the input begins with `/`: B drops a single dot, C drops a double dot and the
+-- output's last segment with the `/` before it, and E moves the first segment to the output
 abbrev pub step : Buffers → Buffers
 step b =
     let segment = before_any (codes "/") (drop 1 b.input) in
     let rest = from_any (codes "/") (drop 1 b.input) in
-    if is_single_dot segment then record { input = or_slash rest; output = b.output; underflowed = b.underflowed }
+    if is_single_dot segment
+    then record { input = or_slash rest; output = b.output; underflowed = b.underflowed }
     else (if is_double_dot segment
-    then record { input = or_slash rest; output = before_last_slash b.output; underflowed = b.underflowed || is_empty b.output }
+    then record {
+      input = or_slash rest;
+      output = before_last_slash b.output;
+      underflowed = b.underflowed || is_empty b.output;
+    }
     else record { input = rest; output = b.output ++ 47 ∷ segment; underflowed = b.underflowed })
 
 -- the loop of step 2, at most so many times
@@ -84,8 +94,8 @@ remove_dot_segments path = (run_whole path).output
 unfoldable pub underflows : List ℕ → Bool
 underflows path = (run_whole path).underflowed
 
--- section 5.2.3: what of the base's path stands before a merged path. Other than in the RFC, a base path that ends in a
--- double dot is kept whole, so that its dots may be removed first or last.
+-- section 5.2.3: what of the base's path stands before a merged path. Other than in the RFC, a base
+-- path that ends in a double dot is kept whole, so that its dots may be removed first or last.
 unfoldable pub directory : List ℕ → List ℕ
 directory path =
     if is_empty path then codes "/"

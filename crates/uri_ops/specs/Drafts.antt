@@ -1,5 +1,6 @@
 -- How a builder's text holds its parts: RFC 3986, section 5.3.
-use Rattle.std.specs.Prelude.{◌≡◌, ℕ, ◌+◌, Bool, true, false, List, length, take, drop, Option, Some, None, option_map}
+use Rattle.std.specs.Prelude.{◌≡◌, ℕ, ◌+◌, Bool, true, false, List, length, take, drop, Option}
+use Rattle.std.specs.Prelude.{Some, None, option_map}
 use Rattle.uri_parts.specs.Grammar.{Kind}
 use Rattle.uri_ops.specs.declared.build.draft.Lengths.{Lengths}
 use Rattle.uri_ops.specs.BuilderParts.{BuilderParts, meet_rules, parts_text}

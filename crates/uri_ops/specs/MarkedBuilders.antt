@@ -2,13 +2,16 @@
 use Rattle.std.specs.Prelude.{◌≡◌, true}
 use Rattle.std.proofs.lemmas.Bool.{or_left}
 use Rattle.uri_ops.specs.declared.build.draft.Draft.{Draft}
-use Rattle.uri_ops.specs.Builders.{is_at_end, is_before_authority, is_before_fragment, is_before_host, is_before_path, is_before_port, is_before_query, is_before_userinfo, is_fresh}
+use Rattle.uri_ops.specs.Builders.{is_at_end, is_before_authority, is_before_fragment}
+use Rattle.uri_ops.specs.Builders.{is_before_host, is_before_path, is_before_port, is_before_query}
+use Rattle.uri_ops.specs.Builders.{is_before_userinfo, is_fresh}
 
 pub marked_at_end : (draft : Draft) → draft.failed ≡ true → is_at_end draft ≡ true
 unfolding is_at_end
 marked_at_end draft e = or_left _ _ e
 
-pub marked_before_authority : (draft : Draft) → draft.failed ≡ true → is_before_authority draft ≡ true
+pub marked_before_authority : (draft : Draft) → draft.failed ≡ true
+    → is_before_authority draft ≡ true
 unfolding is_before_authority
 marked_before_authority draft e = or_left _ _ e
 

@@ -1,5 +1,7 @@
--- What a text means: RFC 3986, section 6.2.2 with, of section 6.2.3, what it says of ports; RFC 3987, section 5.3.2.
-use Rattle.std.specs.Prelude.{ℕ, ◌&&◌, ◌||◌, List, map, Option, Some, None, is_some, option_map, if◌then◌else◌}
+-- What a text means: RFC 3986, section 6.2.2 with, of section 6.2.3, what it says of ports;
+-- RFC 3987, section 5.3.2.
+use Rattle.std.specs.Prelude.{ℕ, ◌&&◌, ◌||◌, List, map, Option, Some, None, is_some, option_map}
+use Rattle.std.specs.Prelude.{if◌then◌else◌}
 use Rattle.std.specs.Option.{option_and_then}
 use Rattle.std.specs.Str.{str_to_ascii_lowercase}
 use Rattle.uri_pct.specs.Sets.{TableSet}
@@ -12,7 +14,8 @@ use Rattle.uri_parts.specs.Grammar.{Kind}
 use Rattle.uri_ops.specs.Dots.{is_empty, remove_dot_segments}
 use Rattle.uri_ops.specs.Ports.{PortFunction, no_defaults, is_default}
 
--- a host is the numbers of an IPv6 address, an address of a later version in brackets, or the characters and octets of a name
+-- a host is the numbers of an IPv6 address, an address of a later version in brackets, or the
+-- characters and octets of a name
 pub data HostMeaning : Type 0 where
   Address : List ℕ → HostMeaning
   FutureAddress : List ℕ → HostMeaning
@@ -30,18 +33,20 @@ pub record Meaning : Type 0 where
   pub query : Option (List Token)
   pub fragment : Option (List Token)
 
--- Section 6.2.2.1: a host is the same in upper and lower case, an IPv6 address by its numbers. The ASCII letters that octets stand for count too, and
--- an IPv4 address is its characters.
+-- Section 6.2.2.1: a host is the same in upper and lower case, an IPv6 address by its numbers. The
+-- ASCII letters that octets stand for count too, and an IPv4 address is its characters.
 abbrev pub host_meaning : TableSet → List ℕ → HostKind → HostMeaning
 host_meaning names host (Ipv6 segments) = Address segments
 host_meaning names host IpvFuture = FutureAddress (str_to_ascii_lowercase host)
 host_meaning names host (Ipv4 octets) = Name (map lower_token (read names host))
 host_meaning names host RegName = Name (map lower_token (read names host))
 
--- section 6.2.3: an empty port and the scheme's default port are as none; every other port is its digits
+-- section 6.2.3: an empty port and the scheme's default port are as none; every other port is its
+-- digits
 abbrev pub port_meaning : Option ℕ → Option (List ℕ) → Option (List ℕ)
 port_meaning default None = None
-port_meaning default (Some digits) = if is_empty digits || is_default default digits then None else Some digits
+port_meaning default (Some digits) =
+    if is_empty digits || is_default default digits then None else Some digits
 
 abbrev pub authority_meaning : Kind → Option ℕ → List ℕ → AuthorityMeaning
 authority_meaning kind default authority =
@@ -75,7 +80,11 @@ meaning_of kind ports text = components_meaning kind ports (components text)
 abbrev pub bare_meaning_of : Kind → List ℕ → Meaning
 bare_meaning_of kind text = meaning_of kind no_defaults text
 
+-- an authority's meaning without the port, if it is the default one
+abbrev pub under_default : Option ℕ → AuthorityMeaning → AuthorityMeaning
+under_default default a = record a { port = port_meaning default a.port }
+
 -- what a port function leaves of a bare meaning
 abbrev pub under : PortFunction → Meaning → Meaning
 under ports m =
-    record m { authority = option_map (λ (a : AuthorityMeaning). record a { port = port_meaning (option_and_then ports m.scheme) a.port }) m.authority }
+    record m { authority = option_map (under_default (option_and_then ports m.scheme)) m.authority }

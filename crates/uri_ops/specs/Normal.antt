@@ -1,12 +1,17 @@
 -- The normal text of a meaning: RFC 3986, section 6.2.2, recomposed as in section 5.3.
-use Rattle.std.specs.Prelude.{ℕ, List, is_some, option_map, if◌then◌else◌}
+use Rattle.std.specs.Prelude.{ℕ, List, [], codes, Option, is_some, option_map, if◌then◌else◌}
 use Rattle.std.specs.Net.Text.{ipv6_text}
+use Rattle.std.specs.Str.{str_to_ascii_lowercase}
+use Rattle.uri_pct.specs.Reading.{read}
+use Rattle.uri_pct.specs.Sets.{TableSet}
 use Rattle.uri_pct.specs.Tokens.{print}
-use Rattle.uri_parts.specs.Components.{Components, recompose}
+use Rattle.uri_parts.specs.Components.{Components, marked, recompose}
+use Rattle.uri_parts.specs.Grammar.{Kind}
 use Rattle.uri_parts.specs.Hosts.{bracketed}
 use Rattle.uri_parts.specs.Authority.{AuthorityParts, authority_text}
 use Rattle.uri_ops.specs.Target.{guarded}
-use Rattle.uri_ops.specs.Meaning.{HostMeaning, Address, FutureAddress, Name, AuthorityMeaning, Meaning}
+use Rattle.uri_ops.specs.Meaning.{HostMeaning, Address, FutureAddress, Name}
+use Rattle.uri_ops.specs.Meaning.{AuthorityMeaning, Meaning, authority_meaning}
 
 -- an IPv6 address has the text of RFC 5952
 abbrev pub host_text : HostMeaning → List ℕ
@@ -24,9 +29,26 @@ normal_parts a = record {
 abbrev pub normal_authority : AuthorityMeaning → List ℕ
 normal_authority a = authority_text (normal_parts a)
 
--- Not in the RFC: under a scheme and without an authority `/.` stands before a path that begins with `//`, which would be read as one.
+-- section 6.2.2.1: a scheme is in lower case
+abbrev pub normal_scheme : Option (List ℕ) → Option (List ℕ)
+normal_scheme scheme = option_map str_to_ascii_lowercase scheme
+
+-- section 6.2.2: what is read of a part, where it is there
+abbrev pub normal_part : TableSet → Option (List ℕ) → Option (List ℕ)
+normal_part set part = option_map print (option_map (read set) part)
+
+-- an authority with its mark, where it is there, by the default port of its scheme
+abbrev pub marked_authority : Kind → Option ℕ → Option (List ℕ) → List ℕ
+marked_authority kind default authority =
+    marked (codes "//")
+    (option_map normal_authority (option_map (authority_meaning kind default) authority)) []
+
+-- Not in the RFC: under a scheme and without an authority `/.` stands before a path that begins
+-- with `//`, which would be read as one.
 abbrev pub normal_path : Meaning → List ℕ
-normal_path m = if is_some m.scheme then guarded (option_map normal_authority m.authority) (print m.path) else print m.path
+normal_path m =
+    if is_some m.scheme then guarded (option_map normal_authority m.authority) (print m.path)
+    else print m.path
 
 abbrev pub normal_components : Meaning → Components
 normal_components m = record {

@@ -7,6 +7,7 @@ use Rattle.uri_ops.specs.Normalizers.{IsNormalForm}
 use Rattle.uri_ops.specs.Ports.{PortFunction}
 use Rattle.uri_ops.specs.Resolving.{IsRefusalFor}
 use Rattle.uri_ops.specs.Target.{BaseWithFragment, InvalidReferenceAgainstOpaqueBase, resolution_of}
+use Rattle.uri_ops.specs.Target.{resolution_of_texts}
 use Rattle.uri_ops.specs.Texts.{IsTextOf}
 use Rattle.uri_ops.specs.declared.resolve.ResolveError.{ResolveError}
 use Rattle.uri_ops.specs.declared.resolve.ResolveError.TheVariants as Of
@@ -18,37 +19,56 @@ pub record MeansTheSame (kind : Kind) (ports : PortFunction) (text other : List 
 
 -- there is a target, and it means what this text means
 abbrev pub HasTargetMeaning : Kind → PortFunction → List ℕ → List ℕ → List ℕ → Type 0
-HasTargetMeaning kind ports base reference text = (target : List ℕ) × ((resolution_of (components base) (components reference) ≡ Ok target) × (meaning_of kind ports target ≡ meaning_of kind ports text))
+HasTargetMeaning kind ports base reference text =
+    (target : List ℕ)
+    × ((resolution_of_texts base reference ≡ Ok target)
+    × (meaning_of kind ports target ≡ meaning_of kind ports text))
 
--- what an error says of whether there is a target: where dot segments underflow, or memory is refused, there is one
+-- what an error says of whether there is a target: where dot segments underflow, or memory is
+-- refused, there is one
 abbrev pub IsRefusedFor : Components → Components → ResolveError → Type 0
 IsRefusedFor base r Of.BaseWithFragment = resolution_of base r ≡ Err BaseWithFragment
-IsRefusedFor base r Of.InvalidReferenceAgainstOpaqueBase = resolution_of base r ≡ Err InvalidReferenceAgainstOpaqueBase
+IsRefusedFor base r Of.InvalidReferenceAgainstOpaqueBase =
+    resolution_of base r ≡ Err InvalidReferenceAgainstOpaqueBase
 IsRefusedFor base r Of.PathUnderflow = is_ok (resolution_of base r) ≡ true
 IsRefusedFor base r Of.OutOfMemory = is_ok (resolution_of base r) ≡ true
 
--- the target of a base of the first kind and a reference of the second: any that mean the same have a target that means the same
-pub record IsTargetOfMeanings (kind of_reference : Kind) (base reference target : List ℕ) : Type 0 where
-  pub alike : (ports : PortFunction) (b r : List ℕ) → MeansTheSame kind ports base b → MeansTheSame of_reference ports reference r → HasTargetMeaning kind ports b r target
+-- the target of a base of the first kind and a reference of the second: any that mean the same have
+-- a target that means the same
+pub record IsTargetOfMeanings (kind of_reference : Kind)
+    (base reference target : List ℕ) : Type 0 where
+  pub alike : (ports : PortFunction) (b r : List ℕ) → MeansTheSame kind ports base b
+      → MeansTheSame of_reference ports reference r → HasTargetMeaning kind ports b r target
 
--- the error for a base of the first kind and a reference of the second: any that mean the same are refused alike
-pub record IsErrorOfMeanings (kind of_reference : Kind) (base reference : List ℕ) (error : ResolveError) : Type 0 where
-  pub alike : (ports : PortFunction) (b r : List ℕ) → MeansTheSame kind ports base b → MeansTheSame of_reference ports reference r → IsRefusedFor (components b) (components r) error
+-- the error for a base of the first kind and a reference of the second: any that mean the same are
+-- refused alike
+pub record IsErrorOfMeanings (kind of_reference : Kind) (base reference : List ℕ)
+    (error : ResolveError) : Type 0 where
+  pub alike : (ports : PortFunction) (b r : List ℕ) → MeansTheSame kind ports base b
+      → MeansTheSame of_reference ports reference r
+      → IsRefusedFor (components b) (components r) error
 
 -- there is a target, and this is its normal form
 abbrev pub IsNormalFormOfTarget : Kind → PortFunction → List ℕ → List ℕ → List ℕ → Type 0
-IsNormalFormOfTarget kind ports base reference normal = (target : List ℕ) × ((resolution_of (components base) (components reference) ≡ Ok target) × IsNormalForm kind ports target normal)
+IsNormalFormOfTarget kind ports base reference normal =
+    (target : List ℕ)
+    × ((resolution_of_texts base reference ≡ Ok target) × IsNormalForm kind ports target normal)
 
 -- the answer for a base of the first kind and a reference of the second
-pub record IsNormalTarget (kind of_reference : Kind) (ports : PortFunction) (base reference normal : List ℕ) : Type 0 where
+pub record IsNormalTarget (kind of_reference : Kind) (ports : PortFunction)
+    (base reference normal : List ℕ) : Type 0 where
   -- it is the normal form of the target
   pub target : IsNormalFormOfTarget kind ports base reference normal
   -- it is that of the target of any base and reference that mean the same, too
-  pub swap : (b r : List ℕ) → MeansTheSame kind ports base b → MeansTheSame of_reference ports reference r → IsNormalFormOfTarget kind ports b r normal
+  pub swap : (b r : List ℕ) → MeansTheSame kind ports base b
+      → MeansTheSame of_reference ports reference r → IsNormalFormOfTarget kind ports b r normal
 
 -- the error for a base of the first kind and a reference of the second
-pub record IsRefusedAlike (kind of_reference : Kind) (ports : PortFunction) (base reference : List ℕ) (error : ResolveError) : Type 0 where
+pub record IsRefusedAlike (kind of_reference : Kind) (ports : PortFunction)
+    (base reference : List ℕ) (error : ResolveError) : Type 0 where
   -- it says why there is no target, or that none could be held
   pub refusal : IsRefusalFor (components base) (components reference) error
   -- it says so of any base and reference that mean the same, too
-  pub swap : (b r : List ℕ) → MeansTheSame kind ports base b → MeansTheSame of_reference ports reference r → IsRefusalFor (components b) (components r) error
+  pub swap : (b r : List ℕ) → MeansTheSame kind ports base b
+      → MeansTheSame of_reference ports reference r
+      → IsRefusalFor (components b) (components r) error

@@ -22,11 +22,15 @@ unfoldable pub text_underflows : List ℕ → Bool
 text_underflows text = let p = components text in path_underflows p.scheme p.path
 
 -- the normal text of a text
-pub record HasNormalText (kind : Kind) (ports : PortFunction) (source normal : List ℕ) : Type 0 where
+pub record HasNormalText (kind : Kind) (ports : PortFunction)
+    (source normal : List ℕ) : Type 0 where
   pub text : normal ≡ normal_text (meaning_of kind ports source)
 
--- the normal text of a text of the kind has its meaning, and is that of another one exactly if the two mean the same
+-- the normal text of a text of the kind has its meaning, and is that of another one exactly if the
+-- two mean the same
 pub record IsNormalForm (kind : Kind) (ports : PortFunction) (source normal : List ℕ) : Type 0 where
   pub text : HasNormalText kind ports source normal
   pub meaning : meaning_of kind ports normal ≡ meaning_of kind ports source
-  pub same : (other : List ℕ) → IsTextOf kind other → (normal ≡ normal_text (meaning_of kind ports other) ↔ meaning_of kind ports source ≡ meaning_of kind ports other)
+  pub same : (other : List ℕ) → IsTextOf kind other
+      → (normal ≡ normal_text (meaning_of kind ports other)
+      ↔ meaning_of kind ports source ≡ meaning_of kind ports other)

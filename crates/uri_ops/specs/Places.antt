@@ -3,4 +3,5 @@ use Rattle.std.specs.Prelude.{◌≡◌, ℕ, ◌<◌, ◌≤◌, ◌⊎◌, Lis
 
 -- a `/` stands at a place behind another one, or the two are the same
 abbrev pub IsSlashOrAt : List ℕ → ℕ → ℕ → Type 0
-IsSlashOrAt bytes start place = (start ≤ place) × ((place ≡ start) ⊎ ((place < length bytes) × (slice_index bytes place ≡ 47)))
+IsSlashOrAt bytes start place =
+    (start ≤ place) × ((place ≡ start) ⊎ ((place < length bytes) × (slice_index bytes place ≡ 47)))

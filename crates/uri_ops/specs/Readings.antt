@@ -1,6 +1,7 @@
 -- What the parts of a component leave in the reading that takes them, one part after the other.
 use Rattle.std.specs.Prelude.{if◌then◌else◌}
-use Rattle.std.proofs.Common.{◌≡◌, ℕ, Bool, true, false, List, [], ◌++◌, map, refl, sym, ap, ◌∙◌, append_assoc, string_bytes}
+use Rattle.std.proofs.Common.{◌≡◌, ℕ, Bool, true, false, List, [], ◌++◌, map, refl, sym, ap, ◌∙◌}
+use Rattle.std.proofs.Common.{append_assoc, string_bytes}
 use Rattle.std.specs.List.{flat_map}
 use Rattle.std.specs.Str.{chars}
 use Rattle.std.proofs.lemmas.List.{append-nil, map-append}
@@ -28,10 +29,13 @@ cased lowers ts = if lowers then map lower_token ts else ts
 pub record TookReading (s : Reading) (ps : List Part) (t : Reading) : Type 0 where
   pub set : set_of t.table ≡ set_of s.table
   pub lowers : t.lowers ≡ s.lowers
-  pub text : string_bytes t.text ≡ string_bytes s.text ++ print (cased s.lowers (read_parts (set_of s.table) ps))
+  pub text : string_bytes t.text
+      ≡ string_bytes s.text ++ print (cased s.lowers (read_parts (set_of s.table) ps))
 
-pub cased_append : (lowers : Bool) (ts us : List Token) → print (cased lowers (ts ++ us)) ≡ print (cased lowers ts) ++ print (cased lowers us)
-cased_append true ts us = ap print (map-append lower_token ts us) ∙ flat_map-append text_of_token (map lower_token ts) (map lower_token us)
+pub cased_append : (lowers : Bool) (ts us : List Token)
+    → print (cased lowers (ts ++ us)) ≡ print (cased lowers ts) ++ print (cased lowers us)
+cased_append true ts us = ap print (map-append lower_token ts us)
+    ∙ flat_map-append text_of_token (map lower_token ts) (map lower_token us)
 cased_append false ts us = flat_map-append text_of_token ts us
 
 nothing_cased : (lowers : Bool) → print (cased lowers []) ≡ []
@@ -42,18 +46,26 @@ pub took_nothing : (s : Reading) → TookReading s [] s
 took_nothing s = record {
   set = refl;
   lowers = refl;
-  text = sym (append-nil (string_bytes s.text)) ∙ ap (λ x. string_bytes s.text ++ x) (sym (nothing_cased s.lowers));
+  text = sym (append-nil (string_bytes s.text))
+      ∙ ap (λ x. string_bytes s.text ++ x) (sym (nothing_cased s.lowers));
 }
 
-pub took_on : (s t u : Reading) (ps qs : List Part) → TookReading s ps t → TookReading t qs u → TookReading s (ps ++ qs) u
+pub took_on : (s t u : Reading) (ps qs : List Part) → TookReading s ps t → TookReading t qs u
+    → TookReading s (ps ++ qs) u
 took_on s t u ps qs first next =
-    let grown : TableSet → Bool → List Part → List ℕ = λ set lowers parts. print (cased lowers (read_parts set parts)) in
+    let grown : TableSet → Bool → List Part → List ℕ =
+    λ set lowers parts. print (cased lowers (read_parts set parts)) in
     let before = grown (set_of s.table) s.lowers ps in
     let behind = grown (set_of s.table) s.lowers qs in
+    let moved = ap (λ set. grown set t.lowers qs) first.set
+    ∙ ap (λ lowers. grown (set_of s.table) lowers qs) first.lowers in
+    let joined = ap (λ ts. print (cased s.lowers ts))
+    (flat_map-append (read_part (set_of s.table)) ps qs)
+    ∙ cased_append s.lowers (read_parts (set_of s.table) ps) (read_parts (set_of s.table) qs) in
     record {
       set = next.set ∙ first.set;
       lowers = next.lowers ∙ first.lowers;
-      text = next.text ∙ ap (λ x. string_bytes t.text ++ x) (ap (λ set. grown set t.lowers qs) first.set ∙ ap (λ lowers. grown (set_of s.table) lowers qs) first.lowers)
+      text = next.text ∙ ap (λ x. string_bytes t.text ++ x) moved
           ∙ ap (λ x. x ++ behind) first.text ∙ append_assoc (string_bytes s.text) before behind
-          ∙ ap (λ x. string_bytes s.text ++ x) (sym (ap (λ ts. print (cased s.lowers ts)) (flat_map-append (read_part (set_of s.table)) ps qs) ∙ cased_append s.lowers (read_parts (set_of s.table) ps) (read_parts (set_of s.table) qs)));
+          ∙ ap (λ x. string_bytes s.text ++ x) (sym joined);
     }

@@ -1,11 +1,13 @@
 -- Resolving as a program answers it: RFC 3986, section 5.2.
-use Rattle.std.specs.Prelude.{◌≡◌, ◌||◌, ℕ, Bool, true, false, not, List, Ok, Err, is_ok, is_some, option_map}
+use Rattle.std.specs.Prelude.{◌≡◌, ◌||◌, ℕ, Bool, true, false, not, List, Ok, Err, is_ok, is_some}
+use Rattle.std.specs.Prelude.{option_map}
 use Rattle.uri_parts.specs.Components.{Components, starts}
 use Rattle.uri_ops.specs.declared.resolve.Parts.{Parts}
 use Rattle.uri_ops.specs.declared.resolve.ResolveError.{ResolveError}
 use Rattle.uri_ops.specs.declared.resolve.ResolveError.TheVariants as Of
 use Rattle.uri_ops.specs.Dots.{is_empty}
-use Rattle.uri_ops.specs.Target.{BaseWithFragment, InvalidReferenceAgainstOpaqueBase, cleaned_path, guarded, target_underflows, resolution_of}
+use Rattle.uri_ops.specs.Target.{BaseWithFragment, InvalidReferenceAgainstOpaqueBase, cleaned_path}
+use Rattle.uri_ops.specs.Target.{guarded, target_underflows, resolution_of}
 
 -- the components that a program holds
 abbrev pub components_of : Parts → Components
@@ -19,7 +21,8 @@ components_of p = record {
 
 -- section 5.2.2: the reference's path is put behind the base's directory
 abbrev pub is_merged : Components → Bool
-is_merged r = not (is_some r.scheme || (is_some r.authority || (is_empty r.path || starts 47 r.path)))
+is_merged r =
+    not (is_some r.scheme || (is_some r.authority || (is_empty r.path || starts 47 r.path)))
 
 -- the target's components, of those before dot segments are removed
 abbrev pub finished : Components → Components
@@ -27,18 +30,23 @@ finished t = record t { path = guarded t.authority (cleaned_path t.path) }
 
 -- the target's text, which is refused where its dot segments underflow and that is not allowed
 abbrev pub IsTarget : Bool → Components → Components → List ℕ → Type 0
-IsTarget allowed base r text = (resolution_of base r ≡ Ok text) × (allowed ≡ false → target_underflows base r ≡ false)
+IsTarget allowed base r text =
+    (resolution_of base r ≡ Ok text) × (allowed ≡ false → target_underflows base r ≡ false)
 
--- when each error is answered: the first two whenever a reference has no target, and then before memory is asked for
+-- when each error is answered: the first two whenever a reference has no target, and then before
+-- memory is asked for
 abbrev pub IsErrorFor : Bool → Components → Components → ResolveError → Type 0
 IsErrorFor allowed base r Of.BaseWithFragment = resolution_of base r ≡ Err BaseWithFragment
-IsErrorFor allowed base r Of.InvalidReferenceAgainstOpaqueBase = resolution_of base r ≡ Err InvalidReferenceAgainstOpaqueBase
-IsErrorFor allowed base r Of.PathUnderflow = (is_ok (resolution_of base r) ≡ true) × (allowed ≡ false) × (target_underflows base r ≡ true)
+IsErrorFor allowed base r Of.InvalidReferenceAgainstOpaqueBase =
+    resolution_of base r ≡ Err InvalidReferenceAgainstOpaqueBase
+IsErrorFor allowed base r Of.PathUnderflow =
+    (is_ok (resolution_of base r) ≡ true) × (allowed ≡ false) × (target_underflows base r ≡ true)
 IsErrorFor allowed base r Of.OutOfMemory = is_ok (resolution_of base r) ≡ true
 
 -- the same where underflow is allowed, which is then no error
 abbrev pub IsRefusalFor : Components → Components → ResolveError → Type 0
 IsRefusalFor base r Of.BaseWithFragment = resolution_of base r ≡ Err BaseWithFragment
-IsRefusalFor base r Of.InvalidReferenceAgainstOpaqueBase = resolution_of base r ≡ Err InvalidReferenceAgainstOpaqueBase
+IsRefusalFor base r Of.InvalidReferenceAgainstOpaqueBase =
+    resolution_of base r ≡ Err InvalidReferenceAgainstOpaqueBase
 IsRefusalFor base r Of.PathUnderflow = ⊥
 IsRefusalFor base r Of.OutOfMemory = is_ok (resolution_of base r) ≡ true

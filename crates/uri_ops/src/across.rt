@@ -9,13 +9,14 @@ ghost use Rattle.uri_ops.specs.ComponentSets.{HasComponentSets, IsWithin};
 ghost use Rattle.uri_ops.specs.Encoded.{ascii_kind, encoded_text};
 ghost use Rattle.uri_ops.specs.Meaning.{bare_meaning_of, meaning_of};
 ghost use Rattle.uri_ops.specs.Ports.{PortFunction};
-ghost use Rattle.uri_ops.specs.Target.{resolution_of, target_underflows};
+ghost use Rattle.uri_ops.specs.Target.{resolution_of_texts, target_underflows};
 ghost use Rattle.uri_ops.specs.Texts.{IsTextOf};
 
 /// A text of a kind is of each kind with wider sets that needs no scheme where the one does not, as
 /// each URI is an IRI and a URI reference.
 pub fn texts_of_wider_kinds()
-    ensures wider { (kind wide : Kind) (text : List ℕ) → HasComponentSets wide → IsWithin kind wide → IsTextOf kind text → IsTextOf wide text }
+    ensures wider { (kind wide : Kind) (text : List ℕ) → HasComponentSets wide → IsWithin kind wide
+        → IsTextOf kind text → IsTextOf wide text }
     ensures uri { (kind : Kind) → IsWithin (ascii_kind kind) kind }
     ensures reference { IsWithin uri uri_ref × IsWithin iri iri_ref }
 {}
@@ -25,14 +26,23 @@ pub fn texts_of_wider_kinds()
 pub fn encoded_texts_mean_the_same()
     ensures uri { ascii_kind iri ≡ uri }
     ensures uri_ref { ascii_kind iri_ref ≡ uri_ref }
-    ensures text { (kind : Kind) (text : List ℕ) → HasComponentSets kind → IsTextOf kind text → IsTextOf (ascii_kind kind) (encoded_text text) }
-    ensures bare { (kind : Kind) (text : List ℕ) → HasComponentSets kind → IsTextOf kind text → bare_meaning_of kind (encoded_text text) ≡ bare_meaning_of kind text }
-    ensures meaning { (kind : Kind) (ports : PortFunction) (text : List ℕ) → HasComponentSets kind → IsTextOf kind text → meaning_of kind ports (encoded_text text) ≡ meaning_of kind ports text }
+    ensures text { (kind : Kind) (text : List ℕ) → HasComponentSets kind → IsTextOf kind text
+        → IsTextOf (ascii_kind kind) (encoded_text text) }
+    ensures bare { (kind : Kind) (text : List ℕ) → HasComponentSets kind → IsTextOf kind text
+        → bare_meaning_of kind (encoded_text text) ≡ bare_meaning_of kind text }
+    ensures meaning { (kind : Kind) (ports : PortFunction) (text : List ℕ) → HasComponentSets kind
+        → IsTextOf kind text
+        → meaning_of kind ports (encoded_text text) ≡ meaning_of kind ports text }
 {}
 
 /// What a base and a reference resolve to, with the characters past ASCII of both as octets, is the
 /// same refusal, or the target with its characters past ASCII as octets, and underflows alike.
 pub fn encoded_texts_resolve_alike()
-    ensures resolution { (base reference : List ℕ) → IsUtf8 base → IsUtf8 reference → resolution_of (components (encoded_text base)) (components (encoded_text reference)) ≡ result_map_both encoded_text (λ refusal. refusal) (resolution_of (components base) (components reference)) }
-    ensures underflow { (base reference target : List ℕ) → IsUtf8 base → IsUtf8 reference → resolution_of (components base) (components reference) ≡ Ok target → target_underflows (components (encoded_text base)) (components (encoded_text reference)) ≡ target_underflows (components base) (components reference) }
+    ensures resolution { (base reference : List ℕ) → IsUtf8 base → IsUtf8 reference
+        → resolution_of_texts (encoded_text base) (encoded_text reference)
+        ≡ result_map_both encoded_text (λ refusal. refusal) (resolution_of_texts base reference) }
+    ensures underflow { (base reference target : List ℕ) → IsUtf8 base → IsUtf8 reference
+        → resolution_of_texts base reference ≡ Ok target
+        → target_underflows (components (encoded_text base)) (components (encoded_text reference))
+        ≡ target_underflows (components base) (components reference) }
 {}

@@ -4,8 +4,9 @@ ghost use Rattle.std.specs.Result.{result_err};
 ghost use Rattle.uri_pct.specs.EStrs.{text_of};
 ghost use Rattle.uri_parts.specs.AuthorityTexts.{authority_text};
 ghost use Rattle.uri_parts.specs.Schemes.{scheme_text};
-ghost use Rattle.uri_ops.specs.BuilderParts.{Adds, no_parts, parts_text, with_authority, with_fragment, with_path, with_query, with_scheme};
-ghost use Rattle.uri_ops.specs.Builders.{builder_parts, is_for};
+ghost use Rattle.uri_ops.specs.BuilderParts.{no_parts, parts_text, with_authority, with_fragment};
+ghost use Rattle.uri_ops.specs.BuilderParts.{with_path, with_query, with_scheme};
+ghost use Rattle.uri_ops.specs.Builders.{IsStep, builder_parts, is_for};
 
 #[doc(hidden)]
 pub mod draft;
@@ -44,8 +45,9 @@ pub enum BuildError {
 
 /// A builder of an `R` in the state `S`.
 ///
-/// The parts are given from the first to the last, each at most once. A URI or an IRI needs a scheme,
-/// and each reference a path, which may be empty; all else may be left out. The types see to this.
+/// The parts are given from the first to the last, each at most once. A URI or an IRI needs a
+/// scheme, and each reference a path, which may be empty; all else may be left out. The types see
+/// to this.
 ///
 /// A step that is refused memory marks the builder failed. Later steps keep the mark, and `build`
 /// answers `OutOfMemory`.
@@ -108,7 +110,8 @@ impl<R, S: State> Builder<R, S> {
         S: AdvanceTo<T>,
         F: FnOnce(Builder<R, S>, V) -> Builder<R, T> + Drop,
         requires { F.IsAlwaysCallable step }
-        ensures { MatchOption value (T.held result.state ≡ S.held self.state) (λ v. F.post step self v result) }
+        ensures { MatchOption value
+            (T.held result.state ≡ S.held self.state) (λ v. F.post step self v result) }
     {
         match value {
             Some(value) => step(self, value),
@@ -144,7 +147,8 @@ impl<R: RiMaybeRef, S: State> Builder<R, S> {
     pub fn scheme(self, scheme: Scheme<'_>) -> Builder<R, SchemeEnd>
     where
         S: To<SchemeEnd>,
-        ensures { Adds (with_scheme (scheme_text scheme.entry)) (builder_parts R.kind (S.held self.state)) (builder_parts R.kind (⟦<SchemeEnd as State>⟧.held result.state)) }
+        ensures { IsStep R.kind (with_scheme (scheme_text scheme.entry)) (S.held self.state)
+            (⟦<SchemeEnd as State>⟧.held result.state) }
     {
         Builder {
             state: SchemeEnd {
@@ -158,7 +162,8 @@ impl<R: RiMaybeRef, S: State> Builder<R, S> {
     fn with_authority_begun(self) -> Builder<R, AuthorityStart>
     where
         S: To<AuthorityStart>,
-        ensures { Adds (with_authority []) (builder_parts R.kind (S.held self.state)) (builder_parts R.kind (⟦<AuthorityStart as State>⟧.held result.state)) }
+        ensures { IsStep R.kind (with_authority []) (S.held self.state)
+            (⟦<AuthorityStart as State>⟧.held result.state) }
     {
         Builder {
             state: AuthorityStart {
@@ -177,7 +182,11 @@ impl<R: RiMaybeRef, S: State> Builder<R, S> {
         T: To<AuthorityEnd>,
         F: FnOnce(Builder<R, AuthorityStart>) -> Builder<R, T>,
         requires { F.IsAlwaysCallable parts }
-        ensures { (begun : _) × (done : _) × Adds (with_authority []) (builder_parts R.kind (S.held self.state)) (builder_parts R.kind (⟦<AuthorityStart as State>⟧.held begun.state)) × F.post parts begun done × (⟦<AuthorityEnd as State>⟧.held result.state ≡ T.held done.state) }
+        ensures { (begun : _) × (done : _)
+            × IsStep R.kind (with_authority []) (S.held self.state)
+            (⟦<AuthorityStart as State>⟧.held begun.state)
+            × F.post parts begun done
+            × (⟦<AuthorityEnd as State>⟧.held result.state ≡ T.held done.state) }
     {
         let done = parts(self.with_authority_begun());
         Builder {
@@ -195,7 +204,8 @@ impl<R: RiMaybeRef, S: State> Builder<R, S> {
     ) -> Builder<R, AuthorityEnd>
     where
         S: To<AuthorityStart>,
-        ensures { Adds (with_authority (authority_text authority.entry)) (builder_parts R.kind (S.held self.state)) (builder_parts R.kind (⟦<AuthorityEnd as State>⟧.held result.state)) }
+        ensures { IsStep R.kind (with_authority (authority_text authority.entry))
+            (S.held self.state) (⟦<AuthorityEnd as State>⟧.held result.state) }
     {
         Builder {
             state: AuthorityEnd {
@@ -211,7 +221,8 @@ impl<R: RiMaybeRef, S: State> Builder<R, S> {
     pub fn path(self, path: EStr<'_, R::PathE>) -> Builder<R, PathEnd>
     where
         S: To<PathEnd>,
-        ensures { Adds (with_path (text_of path.entry)) (builder_parts R.kind (S.held self.state)) (builder_parts R.kind (⟦<PathEnd as State>⟧.held result.state)) }
+        ensures { IsStep R.kind (with_path (text_of path.entry)) (S.held self.state)
+            (⟦<PathEnd as State>⟧.held result.state) }
     {
         Builder {
             state: PathEnd {
@@ -225,7 +236,8 @@ impl<R: RiMaybeRef, S: State> Builder<R, S> {
     pub fn query(self, query: EStr<'_, R::QueryE>) -> Builder<R, QueryEnd>
     where
         S: To<QueryEnd>,
-        ensures { Adds (with_query (text_of query.entry)) (builder_parts R.kind (S.held self.state)) (builder_parts R.kind (⟦<QueryEnd as State>⟧.held result.state)) }
+        ensures { IsStep R.kind (with_query (text_of query.entry)) (S.held self.state)
+            (⟦<QueryEnd as State>⟧.held result.state) }
     {
         Builder {
             state: QueryEnd {
@@ -239,7 +251,8 @@ impl<R: RiMaybeRef, S: State> Builder<R, S> {
     pub fn fragment(self, fragment: EStr<'_, R::FragmentE>) -> Builder<R, FragmentEnd>
     where
         S: To<FragmentEnd>,
-        ensures { Adds (with_fragment (text_of fragment.entry)) (builder_parts R.kind (S.held self.state)) (builder_parts R.kind (⟦<FragmentEnd as State>⟧.held result.state)) }
+        ensures { IsStep R.kind (with_fragment (text_of fragment.entry)) (S.held self.state)
+            (⟦<FragmentEnd as State>⟧.held result.state) }
     {
         Builder {
             state: FragmentEnd {
@@ -249,23 +262,27 @@ impl<R: RiMaybeRef, S: State> Builder<R, S> {
         }
     }
 
-    /// The reference of these parts: its text is that of the parts by RFC 3986, section 5.3, and its
-    /// components are the parts.
+    /// The reference of these parts: its text is that of the parts by RFC 3986, section 5.3, and
+    /// its components are the parts.
     ///
     /// # Errors
     ///
-    /// `OutOfMemory` exactly if a step was refused memory. Else `NonemptyRootlessPath` if there is an
-    /// authority, and the path is neither empty nor begins with `/`; `PathStartsWithDoubleSlash` if
-    /// there is no authority, and the path begins with `//`; `FirstPathSegmentContainsColon` if there
-    /// is neither a scheme nor an authority, and the first segment of the path holds `:`.
+    /// `OutOfMemory` exactly if a step was refused memory. Else `NonemptyRootlessPath` if there is
+    /// an authority, and the path is neither empty nor begins with `/`; `PathStartsWithDoubleSlash`
+    /// if there is no authority, and the path begins with `//`; `FirstPathSegmentContainsColon` if
+    /// there is neither a scheme nor an authority, and the first segment of the path holds `:`.
     pub fn build(self) -> Result<R, BuildError>
     where
         S: To<End>,
         R: RiMaybeRef<Owned = R>,
-        ensures failed { (builder_parts R.kind (S.held self.state)).failed ≡ true → result_err result ≡ Some OutOfMemory }
-        ensures refused { (builder_parts R.kind (S.held self.state)).failed ≡ false → result_err result ≡ refusal (builder_parts R.kind (S.held self.state)) }
-        ensures value { IfOk result (λ made. R.owned_text made ≡ parts_text (builder_parts R.kind (S.held self.state))) }
-        ensures exactly { (builder_parts R.kind (S.held self.state)).failed ≡ false → (IsOk result ↔ IsTextOfParts R.kind (builder_parts R.kind (S.held self.state))) }
+        ensures failed { let p = builder_parts R.kind (S.held self.state) in
+            p.failed ≡ true → result_err result ≡ Some OutOfMemory }
+        ensures refused { let p = builder_parts R.kind (S.held self.state) in
+            p.failed ≡ false → result_err result ≡ refusal p }
+        ensures value { let p = builder_parts R.kind (S.held self.state) in
+            IfOk result (λ made. R.owned_text made ≡ parts_text p) }
+        ensures exactly { let p = builder_parts R.kind (S.held self.state) in
+            p.failed ≡ false → (IsOk result ↔ IsTextOfParts R.kind p) }
     {
         let draft = self.taken::<End>();
         if draft.failed {

@@ -9,7 +9,7 @@ ghost use Rattle.uri_ops.specs.Texts.{IsTextOf};
 
 /// The sets of the four kinds have what the laws below ask of a kind's (RFC 3986, sections 2.2, 2.3
 /// and 3, and RFC 3987, section 2.2).
-#[tactic(auto, using(crate::proofs::FourKinds::uri_sets, crate::proofs::FourKinds::uri_ref_sets, crate::proofs::FourKinds::iri_sets, crate::proofs::FourKinds::iri_ref_sets))]
+#[tactic(auto, using(crate::proofs::FourKinds::four_sets))]
 pub fn four_kinds_have_component_sets()
     ensures uri { HasComponentSets uri }
     ensures uri_ref { HasComponentSets uri_ref }
@@ -20,7 +20,8 @@ pub fn four_kinds_have_component_sets()
 /// The meaning under a port function is a function of the bare meaning (RFC 3986, section 6.2.3).
 #[tactic(auto, using(crate::proofs::NormalTexts::canonical))]
 pub fn meaning_under_ports()
-    ensures { (kind : Kind) (ports : PortFunction) (text : List ℕ) → meaning_of kind ports text ≡ under ports (bare_meaning_of kind text) }
+    ensures { (kind : Kind) (ports : PortFunction) (text : List ℕ)
+        → meaning_of kind ports text ≡ under ports (bare_meaning_of kind text) }
 {}
 
 /// The normal text of a text's meaning is a text of the kind and has that meaning, so texts have
@@ -28,8 +29,18 @@ pub fn meaning_under_ports()
 /// itself (RFC 3986, section 6.2.2).
 #[tactic(auto, using(crate::proofs::NormalTexts::canonical))]
 pub fn normal_texts_are_canonical()
-    ensures text { (kind : Kind) (ports : PortFunction) (text : List ℕ) → HasComponentSets kind → IsTextOf kind text → IsTextOf kind (normal_text (meaning_of kind ports text)) }
-    ensures meaning { (kind : Kind) (ports : PortFunction) (text : List ℕ) → HasComponentSets kind → IsTextOf kind text → meaning_of kind ports (normal_text (meaning_of kind ports text)) ≡ meaning_of kind ports text }
-    ensures twice { (kind : Kind) (ports : PortFunction) (text : List ℕ) → HasComponentSets kind → IsTextOf kind text → normal_text (meaning_of kind ports (normal_text (meaning_of kind ports text))) ≡ normal_text (meaning_of kind ports text) }
-    ensures same { (kind : Kind) (ports : PortFunction) (t u : List ℕ) → HasComponentSets kind → IsTextOf kind t → IsTextOf kind u → (normal_text (meaning_of kind ports t) ≡ normal_text (meaning_of kind ports u) ↔ meaning_of kind ports t ≡ meaning_of kind ports u) }
+    ensures text { (kind : Kind) (ports : PortFunction) (text : List ℕ) → HasComponentSets kind
+        → IsTextOf kind text → IsTextOf kind (normal_text (meaning_of kind ports text)) }
+    ensures meaning { (kind : Kind) (ports : PortFunction) (text : List ℕ) → HasComponentSets kind
+        → IsTextOf kind text
+        → meaning_of kind ports (normal_text (meaning_of kind ports text))
+        ≡ meaning_of kind ports text }
+    ensures twice { (kind : Kind) (ports : PortFunction) (text : List ℕ) → HasComponentSets kind
+        → IsTextOf kind text
+        → normal_text (meaning_of kind ports (normal_text (meaning_of kind ports text)))
+        ≡ normal_text (meaning_of kind ports text) }
+    ensures same { (kind : Kind) (ports : PortFunction) (t u : List ℕ) → HasComponentSets kind
+        → IsTextOf kind t → IsTextOf kind u
+        → (normal_text (meaning_of kind ports t) ≡ normal_text (meaning_of kind ports u)
+        ↔ meaning_of kind ports t ≡ meaning_of kind ports u) }
 {}

@@ -5,7 +5,8 @@ ghost use Rattle.std.specs.Str.{IsUtf8};
 ghost use Rattle.uri_parts.specs.Components.{components};
 ghost use Rattle.uri_parts.specs.CoreTexts.{core_text};
 ghost use Rattle.uri_parts.specs.Grammar.{IsOfKind, iri, iri_ref, uri, uri_ref};
-ghost use Rattle.uri_ops.specs.Conversions.{first_past_ascii, scheme_refusal, ascii_refusal, uri_refusal};
+ghost use Rattle.uri_ops.specs.Conversions.{first_past_ascii, scheme_refusal, ascii_refusal};
+ghost use Rattle.uri_ops.specs.Conversions.{uri_refusal};
 
 use thiserror::Error;
 use uri_parts::core_text::CoreText;
@@ -88,24 +89,30 @@ pub fn needs_uri(text: &str, has_scheme: bool) -> Result<(), ConvertError>
 /// A reference is a URI, or an IRI, exactly if it has a scheme (RFC 3986, sections 3 and 4.1).
 #[doc(hidden)]
 pub fn references_with_a_scheme()
-    ensures uri { (text : List ℕ) → IsOfKind uri_ref text → (scheme_refusal text ≡ None ↔ IsOfKind uri text) }
-    ensures iri { (text : List ℕ) → IsOfKind iri_ref text → (scheme_refusal text ≡ None ↔ IsOfKind iri text) }
+    ensures uri { (text : List ℕ) → IsOfKind uri_ref text
+        → (scheme_refusal text ≡ None ↔ IsOfKind uri text) }
+    ensures iri { (text : List ℕ) → IsOfKind iri_ref text
+        → (scheme_refusal text ≡ None ↔ IsOfKind iri text) }
 {}
 
 /// An IRI is a URI, and an IRI reference a URI reference, exactly if it has no character past
 /// ASCII (RFC 3987, section 3.1).
 #[doc(hidden)]
 pub fn iris_of_ascii()
-    ensures uri { (text : List ℕ) → IsUtf8 text → IsOfKind iri text → (ascii_refusal text ≡ None ↔ IsOfKind uri text) }
-    ensures uri_ref { (text : List ℕ) → IsUtf8 text → IsOfKind iri_ref text → (ascii_refusal text ≡ None ↔ IsOfKind uri_ref text) }
-    ensures both { (text : List ℕ) → IsUtf8 text → IsOfKind iri_ref text → (uri_refusal text ≡ None ↔ IsOfKind uri text) }
+    ensures uri { (text : List ℕ) → IsUtf8 text → IsOfKind iri text
+        → (ascii_refusal text ≡ None ↔ IsOfKind uri text) }
+    ensures uri_ref { (text : List ℕ) → IsUtf8 text → IsOfKind iri_ref text
+        → (ascii_refusal text ≡ None ↔ IsOfKind uri_ref text) }
+    ensures both { (text : List ℕ) → IsUtf8 text → IsOfKind iri_ref text
+        → (uri_refusal text ≡ None ↔ IsOfKind uri text) }
 {}
 
 /// A URI is an IRI, and a URI reference an IRI reference (RFC 3987, section 3.1).
 #[doc(hidden)]
 pub fn uris_are_iris()
     ensures uri { (text : List ℕ) → IsUtf8 text → IsOfKind uri text → IsOfKind iri text }
-    ensures uri_ref { (text : List ℕ) → IsUtf8 text → IsOfKind uri_ref text → IsOfKind iri_ref text }
+    ensures uri_ref { (text : List ℕ) → IsUtf8 text → IsOfKind uri_ref text
+        → IsOfKind iri_ref text }
     ensures reference { (text : List ℕ) → IsOfKind uri text → IsOfKind uri_ref text }
     ensures iri_reference { (text : List ℕ) → IsOfKind iri text → IsOfKind iri_ref text }
 {}

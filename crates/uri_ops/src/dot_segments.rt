@@ -1,8 +1,12 @@
 //! The removal of dot segments (RFC 3986, section 5.2.4).
-ghost use Rattle.std.specs.Prelude.{◌≡◌, ◌≤◌, ◌==◌, ◌||◌, ◌++◌, ◌+◌, IfOk, false, true, OnOk, length, drop, take, string_bytes};
+ghost use Rattle.std.specs.Prelude.{◌≡◌, ◌≤◌, ◌==◌, ◌||◌, ◌++◌, ◌+◌, IfOk, false, true, OnOk};
+ghost use Rattle.std.specs.Prelude.{length, drop, take, string_bytes};
 ghost use Rattle.std.specs.String.Boundary.{IsSplitPoint};
+ghost use Rattle.uri_parts.specs.Appending.{Pushes};
 ghost use Rattle.uri_ops.specs.Places.{IsSlashOrAt};
-ghost use Rattle.uri_ops.specs.Dots.{IsAbsolute, before_last_slash, has_slash, is_double_dot, is_empty, is_single_dot, lacks_dot_segments, remove_dot_segments, underflows};
+ghost use Rattle.uri_ops.specs.Dots.{IsAbsolute, before_last_slash, has_slash, is_double_dot};
+ghost use Rattle.uri_ops.specs.Dots.{is_empty, is_single_dot, lacks_dot_segments};
+ghost use Rattle.uri_ops.specs.Dots.{remove_dot_segments, underflows};
 
 use std::alloc::AllocError;
 
@@ -26,7 +30,8 @@ pub(crate) fn is_double_dot(segment: &str) -> bool
 /// Where the last `/` stands that is not before `start`, or `start` if there is none.
 pub(crate) fn last_slash(bytes: &[u8], start: usize) -> usize
     requires { start ≤ length bytes.now }
-    ensures front { take result bytes.now ≡ take start bytes.now ++ before_last_slash (drop start bytes.now) }
+    ensures front { take result bytes.now
+        ≡ take start bytes.now ++ before_last_slash (drop start bytes.now) }
     ensures last { has_slash (drop (result + 1) bytes.now) ≡ false }
     ensures place { IsSlashOrAt bytes.now start result }
 {
@@ -44,7 +49,9 @@ pub(crate) fn last_slash(bytes: &[u8], start: usize) -> usize
 /// answers whether nothing stood there.
 fn pop_segment(start: usize, out: &mut String) -> bool
     requires { IsSplitPoint (string_bytes out.old) start }
-    ensures bytes { string_bytes out.new ≡ take start (string_bytes out.old) ++ before_last_slash (drop start (string_bytes out.old)) }
+    ensures bytes { string_bytes out.new
+        ≡ take start (string_bytes out.old)
+        ++ before_last_slash (drop start (string_bytes out.old)) }
     ensures empty { result ≡ is_empty (drop start (string_bytes out.old)) }
 {
     let is_empty = out.len() == start;
@@ -87,7 +94,7 @@ pub(crate) fn may_have_dot_segments(path: &str) -> bool
 #[doc(hidden)]
 pub fn push_without_dot_segments(path: &str, out: &mut String) -> Result<bool, AllocError>
     requires { IsAbsolute path.now }
-    ensures text { OnOk result (string_bytes out.new ≡ string_bytes out.old ++ remove_dot_segments path.now) }
+    ensures text { OnOk result (Pushes out.old out.new (remove_dot_segments path.now)) }
     ensures underflow { IfOk result (λ underflowed. underflowed ≡ underflows path.now) }
 {
     if may_have_dot_segments(path) {
@@ -97,11 +104,11 @@ pub fn push_without_dot_segments(path: &str, out: &mut String) -> Result<bool, A
     Ok(false)
 }
 
-/// Appends a path segment by segment, without its dot segments, and answers whether a double dot had
-/// nothing left to remove.
+/// Appends a path segment by segment, without its dot segments, and answers whether a double dot
+/// had nothing left to remove.
 fn push_kept_segments(path: &str, out: &mut String) -> Result<bool, AllocError>
     requires { IsAbsolute path.now }
-    ensures text { OnOk result (string_bytes out.new ≡ string_bytes out.old ++ remove_dot_segments path.now) }
+    ensures text { OnOk result (Pushes out.old out.new (remove_dot_segments path.now)) }
     ensures underflow { IfOk result (λ underflowed. underflowed ≡ underflows path.now) }
 {
     let start = out.len();

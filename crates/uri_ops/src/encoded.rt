@@ -1,12 +1,13 @@
 //! Texts whose characters past ASCII are replaced by their octets (RFC 3987, section 3.1).
-ghost use Rattle.std.specs.Prelude.{◌≡◌, ◌≤◌, ◌<◌, ◌++◌, IfOk, OnOk, length, take, slice_index, string_bytes};
+ghost use Rattle.std.specs.Prelude.{◌≡◌, ◌≤◌, ◌<◌, ◌++◌, IfOk, OnOk, length, take, slice_index};
+ghost use Rattle.std.specs.Prelude.{string_bytes};
 ghost use Rattle.uri_ops.specs.Encoded.{encoded_text};
 
 use std::alloc::{AllocError, Global};
 use uri_pct::octet::pct_encoded;
 
 /// How many bytes stand before the first one past ASCII, or before the end.
-#[tactic(auto, using(crate::proofs::EncodedRuns::nothing_encoded, crate::proofs::EncodedRuns::plain_more))]
+#[tactic(auto, using(crate::proofs::EncodedRuns::encoded_runs))]
 fn ascii_len(bytes: &[u8]) -> usize
     ensures inside { result ≤ length bytes.now }
     ensures plain { encoded_text (take result bytes.now) ≡ take result bytes.now }
@@ -20,7 +21,7 @@ fn ascii_len(bytes: &[u8]) -> usize
 }
 
 /// Appends the bytes, each one past ASCII as an octet.
-#[tactic(auto, using(crate::proofs::EncodedRuns::nothing_encoded, crate::proofs::EncodedRuns::run_more, crate::proofs::EncodedRuns::octet_more))]
+#[tactic(auto, using(crate::proofs::EncodedRuns::encoded_runs))]
 fn push_encoded(bytes: &[u8], out: &mut Vec<u8>) -> Result<(), AllocError>
     ensures { OnOk result (out.new.items ≡ out.old.items ++ encoded_text bytes.now) }
 {

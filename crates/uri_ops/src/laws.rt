@@ -1,5 +1,6 @@
 //! Laws of the definitions that contracts cite, each the contract of a function that does nothing.
-ghost use Rattle.std.specs.Prelude.{◌≡◌, ◌↔◌, ◌≤◌, ◌++◌, ◌||◌, ℕ, List, [], true, false, length, is_some};
+ghost use Rattle.std.specs.Prelude.{◌≡◌, ◌↔◌, ◌≤◌, ◌++◌, ◌||◌, ℕ, List, [], true, false, length};
+ghost use Rattle.std.specs.Prelude.{is_some};
 ghost use Rattle.std.specs.Str.{IsUtf8};
 ghost use Rattle.uri_pct.specs.Sets.{TableSet, LacksPercent, IsSubset, unreserved_set};
 ghost use Rattle.uri_pct.specs.Tokens.{print, IsValidFor};
@@ -9,7 +10,8 @@ ghost use Rattle.uri_parts.specs.Components.{IsRooted, IsSplitOf, starts, compon
 ghost use Rattle.uri_parts.specs.Grammar.{IsOfKind, iri, iri_ref, uri, uri_ref};
 ghost use Rattle.uri_parts.specs.GrammarInWords.{IsInGrammar};
 ghost use Rattle.uri_parts.specs.Hosts.{HostKind, IsHost, host_kind};
-ghost use Rattle.uri_ops.specs.Dots.{is_empty, remove_dot_segments, underflows, directory, lacks_dot_segments, run_whole, IsAbsolute, EndsInSlash};
+ghost use Rattle.uri_ops.specs.Dots.{is_empty, remove_dot_segments, underflows, directory};
+ghost use Rattle.uri_ops.specs.Dots.{lacks_dot_segments, run_whole, IsAbsolute, EndsInSlash};
 ghost use Rattle.uri_ops.specs.Target.{is_fragment_only, target_of};
 
 /// The loop that removes dot segments ends with nothing left to read (RFC 3986, section 5.2.4).
@@ -18,76 +20,107 @@ pub fn nothing_is_left_to_read()
     ensures { (path : List ℕ) → (run_whole path).input ≡ [] }
 {}
 
-/// What is left has no dot segment, begins with `/` and is no longer than the path (RFC 3986, section 5.2.4).
-#[tactic(auto, using(crate::proofs::DotLaws::removed_lacks, crate::proofs::DotLaws::removed_absolute, crate::proofs::DotLaws::length_removed))]
+/// What is left has no dot segment, begins with `/` and is no longer than the path (RFC 3986,
+/// section 5.2.4).
+#[tactic(auto, using(crate::proofs::DotLaws::removed_laws))]
 pub fn what_is_left()
-    ensures plain { (path : List ℕ) → IsAbsolute path → lacks_dot_segments (remove_dot_segments path) ≡ true }
+    ensures plain { (path : List ℕ) → IsAbsolute path
+        → lacks_dot_segments (remove_dot_segments path) ≡ true }
     ensures absolute { (path : List ℕ) → IsAbsolute path → IsAbsolute (remove_dot_segments path) }
-    ensures short { (path : List ℕ) → IsAbsolute path → length (remove_dot_segments path) ≤ length path }
+    ensures short { (path : List ℕ) → IsAbsolute path
+        → length (remove_dot_segments path) ≤ length path }
 {}
 
 /// A path without dot segments is left as it is, and does not underflow.
-#[tactic(auto, using(crate::proofs::DotLaws::removed_of_plain, crate::proofs::DotLaws::underflows_of_plain))]
+#[tactic(auto, using(crate::proofs::DotLaws::plain_laws))]
 pub fn nothing_to_remove()
-    ensures removed { (path : List ℕ) → IsAbsolute path → lacks_dot_segments path ≡ true → remove_dot_segments path ≡ path }
-    ensures underflow { (path : List ℕ) → IsAbsolute path → lacks_dot_segments path ≡ true → underflows path ≡ false }
+    ensures removed { (path : List ℕ) → IsAbsolute path → lacks_dot_segments path ≡ true
+        → remove_dot_segments path ≡ path }
+    ensures underflow { (path : List ℕ) → IsAbsolute path → lacks_dot_segments path ≡ true
+        → underflows path ≡ false }
 {}
 
 /// To remove dot segments twice is to remove them once.
 #[tactic(auto, using(crate::proofs::DotLaws::removed_twice))]
 pub fn removed_twice()
-    ensures { (path : List ℕ) → IsAbsolute path → remove_dot_segments (remove_dot_segments path) ≡ remove_dot_segments path }
+    ensures { (path : List ℕ) → IsAbsolute path
+        → remove_dot_segments (remove_dot_segments path) ≡ remove_dot_segments path }
 {}
 
-/// A directory begins with and ends in `/`, and its dot segments may be removed before it is taken or after.
-#[tactic(auto, using(crate::proofs::DotLaws::directory_absolute, crate::proofs::DotLaws::directory_ends, crate::proofs::DotLaws::removed_directory, crate::proofs::DotLaws::underflows_directory))]
+/// A directory begins with and ends in `/`, and its dot segments may be removed before it is taken
+/// or after.
+#[tactic(auto, using(crate::proofs::DotLaws::directory_laws))]
 pub fn of_a_directory()
     ensures absolute { (path : List ℕ) → IsRooted path → IsAbsolute (directory path) }
     ensures closed { (path : List ℕ) → IsRooted path → EndsInSlash (directory path) }
-    ensures removed { (path : List ℕ) → IsRooted path → remove_dot_segments (directory path) ≡ directory (remove_dot_segments path) }
-    ensures underflow { (path : List ℕ) → IsRooted path → underflows (directory path) ≡ underflows path }
+    ensures removed { (path : List ℕ) → IsRooted path
+        → remove_dot_segments (directory path) ≡ directory (remove_dot_segments path) }
+    ensures underflow { (path : List ℕ) → IsRooted path
+        → underflows (directory path) ≡ underflows path }
 {}
 
-/// Of a path in two pieces, the first of which ends in `/`, the first piece's dot segments may be removed before the path's.
-/// The path underflows where the first piece does, or what is left of it with the second.
-#[tactic(auto, using(crate::proofs::DotLaws::removed_in_pieces, crate::proofs::DotLaws::underflows_in_pieces))]
+/// Of a path in two pieces, the first of which ends in `/`, the first piece's dot segments may be
+/// removed before the path's. The path underflows where the first piece does, or what is left of it
+/// with the second.
+#[tactic(auto, using(crate::proofs::DotLaws::piece_laws))]
 pub fn in_pieces()
-    ensures removed { (front back : List ℕ) → IsAbsolute front → EndsInSlash front → remove_dot_segments (front ++ back) ≡ remove_dot_segments (remove_dot_segments front ++ back) }
-    ensures underflow { (front back : List ℕ) → IsAbsolute front → EndsInSlash front → underflows (front ++ back) ≡ (underflows front || underflows (remove_dot_segments front ++ back)) }
+    ensures removed { (front back : List ℕ) → IsAbsolute front → EndsInSlash front
+        → remove_dot_segments (front ++ back)
+        ≡ remove_dot_segments (remove_dot_segments front ++ back) }
+    ensures underflow { (front back : List ℕ) → IsAbsolute front → EndsInSlash front
+        → underflows (front ++ back)
+        ≡ (underflows front || underflows (remove_dot_segments front ++ back)) }
 {}
 
-/// The same of a path that is merged with a base's (RFC 3986, section 5.2.3): the base's dot segments may be removed first.
-#[tactic(auto, using(crate::proofs::DotLaws::removed_before_merging, crate::proofs::DotLaws::underflows_merged))]
+/// The same of a path that is merged with a base's (RFC 3986, section 5.2.3): the base's dot
+/// segments may be removed first.
+#[tactic(auto, using(crate::proofs::DotLaws::merging_laws))]
 pub fn before_merging()
-    ensures removed { (base reference : List ℕ) → IsRooted base → remove_dot_segments (directory base ++ reference) ≡ remove_dot_segments (directory (remove_dot_segments base) ++ reference) }
-    ensures underflow { (base reference : List ℕ) → IsRooted base → underflows (directory base ++ reference) ≡ (underflows base || underflows (directory (remove_dot_segments base) ++ reference)) }
+    ensures removed { (base reference : List ℕ) → IsRooted base
+        → remove_dot_segments (directory base ++ reference)
+        ≡ remove_dot_segments (directory (remove_dot_segments base) ++ reference) }
+    ensures underflow { (base reference : List ℕ) → IsRooted base
+        → underflows (directory base ++ reference)
+        ≡ (underflows base || underflows (directory (remove_dot_segments base) ++ reference)) }
 {}
 
 /// Dot segments may be removed before a path is read or after, and reading changes no underflow.
 pub fn of_a_read_path()
-    ensures removed { (set : TableSet) (path : List ℕ) → LacksPercent set → IsSubset unreserved_set set → IsAbsolute path → IsUtf8 path → IsValidFor set path → remove_dot_segments (print (read set path)) ≡ print (read set (remove_dot_segments path)) }
-    ensures underflow { (set : TableSet) (path : List ℕ) → LacksPercent set → IsSubset unreserved_set set → IsAbsolute path → IsUtf8 path → IsValidFor set path → underflows (print (read set path)) ≡ underflows path }
+    ensures removed { (set : TableSet) (path : List ℕ) → LacksPercent set
+        → IsSubset unreserved_set set → IsAbsolute path → IsUtf8 path → IsValidFor set path
+        → remove_dot_segments (print (read set path))
+        ≡ print (read set (remove_dot_segments path)) }
+    ensures underflow { (set : TableSet) (path : List ℕ) → LacksPercent set
+        → IsSubset unreserved_set set → IsAbsolute path → IsUtf8 path → IsValidFor set path
+        → underflows (print (read set path)) ≡ underflows path }
 {}
 
-/// The text of a target has the components that were put into it, where the base has a scheme (RFC 3986, sections 5.2.2 and 5.3).
+/// The text of a target has the components that were put into it, where the base has a scheme
+/// (RFC 3986, sections 5.2.2 and 5.3).
 #[doc(hidden)]
-#[tactic(auto, using(crate::proofs::Targets::target_is_split, crate::proofs::Targets::target_components))]
+#[tactic(auto, using(crate::proofs::Targets::target_laws))]
 pub fn of_a_target()
-    ensures split { (base reference : List ℕ) → is_some (components base).scheme ≡ true → IsSplitOf (recompose (target_of (components base) (components reference))) (target_of (components base) (components reference)) }
-    ensures components { (base reference : List ℕ) → is_some (components base).scheme ≡ true → components (recompose (target_of (components base) (components reference))) ≡ target_of (components base) (components reference) }
+    ensures split { (base reference : List ℕ) → is_some (components base).scheme ≡ true
+        → IsSplitOf (recompose (target_of (components base) (components reference)))
+        (target_of (components base) (components reference)) }
+    ensures components { (base reference : List ℕ) → is_some (components base).scheme ≡ true
+        → components (recompose (target_of (components base) (components reference)))
+        ≡ target_of (components base) (components reference) }
 {}
 
-/// The references without a scheme that an opaque base takes are the empty text and those that begin with `#`.
+/// The references without a scheme that an opaque base takes are the empty text and those that
+/// begin with `#`.
 #[doc(hidden)]
 #[tactic(auto, using(crate::proofs::Targets::fragment_only))]
 pub fn fragment_only()
-    ensures { (reference : List ℕ) → is_fragment_only (components reference) ≡ (is_empty reference || starts 35 reference) }
+    ensures { (reference : List ℕ)
+        → is_fragment_only (components reference) ≡ (is_empty reference || starts 35 reference) }
 {}
 
 /// The texts of the four kinds are those that the RFCs' words spell: a split into components, each
 /// with its rule, of which the authority has a cut (RFC 3986, sections 3, 3.2 and 4.2, and
 /// appendix B; RFC 3987, section 2.2).
-#[tactic(auto, using(crate::proofs::SpeltTexts::uri_in_grammar, crate::proofs::SpeltTexts::uri_ref_in_grammar, crate::proofs::SpeltTexts::iri_in_grammar, crate::proofs::SpeltTexts::iri_ref_in_grammar))]
+#[tactic(auto, using(crate::proofs::SpeltTexts::grammar_laws))]
 pub fn kinds_are_their_grammar()
     ensures uri { (text : List ℕ) → IsUtf8 text → (IsOfKind uri text ↔ IsInGrammar uri text) }
     ensures uri_ref { (text : List ℕ) → IsUtf8 text
@@ -99,7 +132,7 @@ pub fn kinds_are_their_grammar()
 
 /// An authority has one cut into userinfo, host and port, and a host is of one kind (RFC 3986,
 /// sections 3.2 and 3.2.2; RFC 3987, section 2.2).
-#[tactic(auto, using(crate::proofs::SpeltTexts::uri_cut, crate::proofs::SpeltTexts::iri_cut, crate::proofs::SpeltTexts::uri_host, crate::proofs::SpeltTexts::iri_host))]
+#[tactic(auto, using(crate::proofs::SpeltTexts::cut_laws))]
 pub fn authorities_have_one_cut()
     ensures uri { (text : List ℕ) (p : AuthorityParts) → IsUtf8 text
         → IsAuthorityFor uri.userinfo uri.reg_name text p → authority_parts text ≡ p }

@@ -23,5 +23,7 @@ pub mod normalize;
 pub mod reading;
 pub mod resolve;
 #[doc(hidden)]
+pub mod slashes;
+#[doc(hidden)]
 pub mod swap;
 pub mod traits;

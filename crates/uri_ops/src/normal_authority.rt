@@ -1,15 +1,14 @@
 //! Authorities in normal form (RFC 3986, sections 6.2.2 and 6.2.3; RFC 3987, section 5.3.2).
-ghost use Rattle.std.specs.Prelude.{◌≡◌, ◌++◌, ◌==◌, [], OnOk, codes, false, option_map, string_bytes};
+ghost use Rattle.std.specs.Prelude.{◌≡◌, ◌==◌, [], OnOk, codes, false, option_map};
 ghost use Rattle.std.specs.Option.{option_map_or};
-ghost use Rattle.uri_pct.specs.Reading.{read};
-ghost use Rattle.uri_pct.specs.Tokens.{print};
+ghost use Rattle.uri_parts.specs.Appending.{Pushes};
 ghost use Rattle.uri_parts.specs.Authority.{authority_parts};
 ghost use Rattle.uri_parts.specs.AuthorityTexts.{authority_text};
 ghost use Rattle.uri_parts.specs.Components.{marked};
 ghost use Rattle.uri_parts.specs.Grammar.{Kind};
 ghost use Rattle.uri_parts.specs.Hosts.{host_kind};
 ghost use Rattle.uri_ops.specs.Meaning.{authority_meaning, host_meaning, port_meaning};
-ghost use Rattle.uri_ops.specs.Normal.{host_text, normal_authority};
+ghost use Rattle.uri_ops.specs.Normal.{host_text, normal_authority, normal_part};
 
 use crate::reading::{push_component, push_lower, push_read_host};
 use std::alloc::{AllocError, Global};
@@ -27,7 +26,9 @@ pub fn push_authority<U: Encoder, R: Encoder>(
     default: Option<u16>,
     out: &mut String,
 ) -> Result<(), AllocError>
-    ensures { (kind : Kind) → kind.userinfo ≡ U.set → kind.reg_name ≡ R.set → OnOk result (string_bytes out.new ≡ string_bytes out.old ++ normal_authority (authority_meaning kind default (authority_text authority.entry))) }
+    ensures { (kind : Kind) → kind.userinfo ≡ U.set → kind.reg_name ≡ R.set
+        → OnOk result (Pushes out.old out.new
+        (normal_authority (authority_meaning kind default (authority_text authority.entry)))) }
 {
     push_userinfo(alloc, authority, out)?;
     push_host(alloc, authority, out)?;
@@ -40,7 +41,9 @@ fn push_userinfo<U: Encoder, R: Encoder>(
     authority: Authority<'_, U, R>,
     out: &mut String,
 ) -> Result<(), AllocError>
-    ensures { let p = authority_parts (authority_text authority.entry) in OnOk result (string_bytes out.new ≡ string_bytes out.old ++ marked [] (option_map print (option_map (read U.set) p.userinfo)) (codes "@")) }
+    ensures { let p = authority_parts (authority_text authority.entry) in
+        OnOk result (Pushes out.old out.new
+        (marked [] (normal_part U.set p.userinfo) (codes "@"))) }
 {
     let Some(userinfo) = authority.userinfo() else {
         return Ok(());
@@ -59,7 +62,9 @@ pub fn push_host<U: Encoder, R: Encoder>(
     authority: Authority<'_, U, R>,
     out: &mut String,
 ) -> Result<(), AllocError>
-    ensures { let host = (authority_parts (authority_text authority.entry)).host in OnOk result (string_bytes out.new ≡ string_bytes out.old ++ host_text (host_meaning R.set host (host_kind host))) }
+    ensures { let host = (authority_parts (authority_text authority.entry)).host in
+        OnOk result (Pushes out.old out.new
+        (host_text (host_meaning R.set host (host_kind host)))) }
 {
     let host = authority.host();
     match authority.host_parsed() {
@@ -76,7 +81,8 @@ fn push_port<U: Encoder, R: Encoder>(
     default: Option<u16>,
     out: &mut String,
 ) -> Result<(), AllocError>
-    ensures { let p = authority_parts (authority_text authority.entry) in OnOk result (string_bytes out.new ≡ string_bytes out.old ++ marked (codes ":") (port_meaning default p.port) []) }
+    ensures { let p = authority_parts (authority_text authority.entry) in
+        OnOk result (Pushes out.old out.new (marked (codes ":") (port_meaning default p.port) [])) }
 {
     let Some(digits) = kept_port(authority, default) else {
         return Ok(());
@@ -91,7 +97,8 @@ fn kept_port<'a, U: Encoder, R: Encoder>(
     authority: Authority<'a, U, R>,
     default: Option<u16>,
 ) -> Option<&'a str>
-    ensures { let p = authority_parts (authority_text authority.entry) in option_map (λ digits. digits.now) result ≡ port_meaning default p.port }
+    ensures { let p = authority_parts (authority_text authority.entry) in
+        option_map (λ digits. digits.now) result ≡ port_meaning default p.port }
 {
     let port = authority.port()?;
     match authority.port_to_u16() {

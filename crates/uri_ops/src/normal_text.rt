@@ -1,10 +1,11 @@
 //! The normal text of a value (RFC 3986, section 6.2.2; RFC 3987, section 5.3.2).
-ghost use Rattle.std.specs.Prelude.{◌≡◌, ◌++◌, ℕ, List, Option, [], IfOk, OnOk, codes, is_some, option_map, string_bytes, true};
+ghost use Rattle.std.specs.Prelude.{◌≡◌, ◌++◌, ℕ, List, Option, [], IfOk, OnOk, codes, is_some};
+ghost use Rattle.std.specs.Prelude.{option_map, true};
 ghost use Rattle.std.specs.Option.{option_and_then};
-ghost use Rattle.std.specs.Str.{str_to_ascii_lowercase};
 ghost use Rattle.uri_pct.specs.EStrs.{text_of};
 ghost use Rattle.uri_pct.specs.Reading.{read};
 ghost use Rattle.uri_pct.specs.Tokens.{print, IsValidFor};
+ghost use Rattle.uri_parts.specs.Appending.{Pushes};
 ghost use Rattle.uri_parts.specs.AuthorityTexts.{authority_text};
 ghost use Rattle.uri_parts.specs.Components.{components, has_authority, marked};
 ghost use Rattle.uri_parts.specs.CoreTexts.{core_text};
@@ -12,8 +13,8 @@ ghost use Rattle.uri_parts.specs.Grammar.{Kind};
 ghost use Rattle.uri_parts.specs.Schemes.{scheme_text};
 ghost use Rattle.uri_ops.specs.ComponentSets.{HasComponentSets, IsComponentSet};
 ghost use Rattle.uri_ops.specs.Dots.{IsAbsolute, remove_dot_segments, underflows};
-ghost use Rattle.uri_ops.specs.Meaning.{authority_meaning, meaning_of};
-ghost use Rattle.uri_ops.specs.Normal.{normal_authority, normal_text};
+ghost use Rattle.uri_ops.specs.Meaning.{meaning_of};
+ghost use Rattle.uri_ops.specs.Normal.{marked_authority, normal_part, normal_scheme, normal_text};
 ghost use Rattle.uri_ops.specs.NormalPaths.{path_text, path_underflows};
 ghost use Rattle.uri_ops.specs.Target.{guarded};
 
@@ -21,6 +22,7 @@ use crate::default_port::DefaultPort;
 use crate::dot_segments::{may_have_dot_segments, push_without_dot_segments};
 use crate::normal_authority::push_authority;
 use crate::reading::{push_component, push_lower, push_read};
+use crate::slashes::begins_with_two_slashes;
 use std::alloc::{AllocError, Global};
 use uri_parts::component::{Authority, Scheme};
 use uri_parts::core_text::CoreText;
@@ -34,7 +36,8 @@ fn push_scheme(
     scheme: Option<Scheme<'_>>,
     out: &mut String,
 ) -> Result<(), AllocError>
-    ensures { OnOk result (string_bytes out.new ≡ string_bytes out.old ++ marked [] (option_map str_to_ascii_lowercase (option_map scheme_text scheme.entry)) (codes ":")) }
+    ensures { OnOk result (Pushes out.old out.new
+        (marked [] (normal_scheme (option_map scheme_text scheme.entry)) (codes ":"))) }
 {
     let Some(scheme) = scheme else {
         return Ok(());
@@ -45,7 +48,9 @@ fn push_scheme(
 
 /// The default port of the scheme, if there is a scheme and it has one.
 fn default_port<P: DefaultPort>(ports: &P, scheme: Option<Scheme<'_>>) -> Option<u16>
-    ensures { result ≡ option_and_then (P.port_of ports.now) (option_map str_to_ascii_lowercase (option_map scheme_text scheme.entry)) }
+    ensures { result
+        ≡ option_and_then (P.port_of ports.now)
+        (normal_scheme (option_map scheme_text scheme.entry)) }
 {
     ports.default_port(scheme?)
 }
@@ -58,7 +63,9 @@ fn push_marked_authority<U: Encoder, R: Encoder>(
     default: Option<u16>,
     out: &mut String,
 ) -> Result<(), AllocError>
-    ensures { (kind : Kind) → kind.userinfo ≡ U.set → kind.reg_name ≡ R.set → OnOk result (string_bytes out.new ≡ string_bytes out.old ++ marked (codes "//") (option_map normal_authority (option_map (authority_meaning kind default) (option_map authority_text authority.entry))) []) }
+    ensures { (kind : Kind) → kind.userinfo ≡ U.set → kind.reg_name ≡ R.set
+        → OnOk result (Pushes out.old out.new
+        (marked_authority kind default (option_map authority_text authority.entry))) }
 {
     let Some(authority) = authority else {
         return Ok(());
@@ -74,7 +81,8 @@ fn push_marked<E: Encoder>(
     part: Option<EStr<'_, E>>,
     out: &mut String,
 ) -> Result<(), AllocError>
-    ensures { OnOk result (string_bytes out.new ≡ string_bytes out.old ++ marked mark.now (option_map print (option_map (read E.set) (option_map text_of part.entry))) []) }
+    ensures { OnOk result (Pushes out.old out.new
+        (marked mark.now (normal_part E.set (option_map text_of part.entry)) [])) }
 {
     let Some(part) = part else {
         return Ok(());
@@ -83,18 +91,13 @@ fn push_marked<E: Encoder>(
     push_component(alloc, part, out)
 }
 
-/// Whether a path would be read as an authority, where none stands before it.
-fn begins_with_two_slashes(path: &str) -> bool
-    ensures { result ≡ has_authority path.now }
-{
-    matches!(path.as_bytes(), [b'/', b'/', ..])
-}
-
 /// What stands before a path under a scheme: `/.` if it would be read as an authority.
 fn guard_before(follows_authority: bool, path: &str) -> &'static str
-    ensures { (authority : Option (List ℕ)) → is_some authority ≡ follows_authority → (text : List ℕ) → has_authority text ≡ has_authority path.now → result.now ++ text ≡ guarded authority text }
+    ensures { (authority : Option (List ℕ)) → is_some authority ≡ follows_authority
+        → (text : List ℕ) → has_authority text ≡ has_authority path.now
+        → result.now ++ text ≡ guarded authority text }
 {
-    if !follows_authority && begins_with_two_slashes(path) {
+    if !follows_authority && begins_with_two_slashes(path.as_bytes()) {
         "/."
     } else {
         ""
@@ -110,14 +113,15 @@ fn push_guarded<E: Encoder>(
 ) -> Result<(), AllocError>
     requires valid { IsValidFor E.set path.now }
     requires set { IsComponentSet (codes "?#[]") E.set }
-    ensures { (authority : Option (List ℕ)) → is_some authority ≡ follows_authority → OnOk result (string_bytes out.new ≡ string_bytes out.old ++ guarded authority (print (read E.set path.now))) }
+    ensures { (authority : Option (List ℕ)) → is_some authority ≡ follows_authority
+        → OnOk result (Pushes out.old out.new (guarded authority (print (read E.set path.now)))) }
 {
     out.push_str(guard_before(follows_authority, path))?;
     push_read(alloc, &E::table(), path, out)
 }
 
-/// Appends what is read of a path without its dot segments, which are removed in a buffer of its own,
-/// and answers whether a double dot had nothing left to remove.
+/// Appends what is read of a path without its dot segments, which are removed in a buffer of its
+/// own, and answers whether a double dot had nothing left to remove.
 fn push_cleaned<E: Encoder>(
     alloc: Global,
     has_authority: bool,
@@ -127,7 +131,9 @@ fn push_cleaned<E: Encoder>(
     requires absolute { IsAbsolute (text_of path) }
     requires set { IsComponentSet (codes "?#[]") E.set }
     requires slash { E.set.ascii 47 ≡ true }
-    ensures text { (authority : Option (List ℕ)) → is_some authority ≡ has_authority → OnOk result (string_bytes out.new ≡ string_bytes out.old ++ guarded authority (print (read E.set (remove_dot_segments (text_of path.entry))))) }
+    ensures text { (authority : Option (List ℕ)) → is_some authority ≡ has_authority
+        → OnOk result (Pushes out.old out.new
+        (guarded authority (print (read E.set (remove_dot_segments (text_of path.entry)))))) }
     ensures underflow { IfOk result (λ underflowed. underflowed ≡ underflows (text_of path.entry)) }
 {
     let mut plain = String::new(alloc);
@@ -148,7 +154,9 @@ fn push_absolute<E: Encoder>(
     requires absolute { IsAbsolute (text_of path) }
     requires set { IsComponentSet (codes "?#[]") E.set }
     requires slash { E.set.ascii 47 ≡ true }
-    ensures text { (authority : Option (List ℕ)) → is_some authority ≡ has_authority → OnOk result (string_bytes out.new ≡ string_bytes out.old ++ guarded authority (print (read E.set (remove_dot_segments (text_of path.entry))))) }
+    ensures text { (authority : Option (List ℕ)) → is_some authority ≡ has_authority
+        → OnOk result (Pushes out.old out.new
+        (guarded authority (print (read E.set (remove_dot_segments (text_of path.entry)))))) }
     ensures underflow { IfOk result (λ underflowed. underflowed ≡ underflows (text_of path.entry)) }
 {
     if may_have_dot_segments(path.as_str()) {
@@ -169,8 +177,12 @@ fn push_path<E: PathEncoder>(
 ) -> Result<bool, AllocError>
     requires set { IsComponentSet (codes "?#[]") E.set }
     requires slash { E.set.ascii 47 ≡ true }
-    ensures text { (scheme authority : Option (List ℕ)) → is_some scheme ≡ has_scheme → is_some authority ≡ has_authority → OnOk result (string_bytes out.new ≡ string_bytes out.old ++ path_text E.set scheme authority (text_of path.entry)) }
-    ensures underflow { (scheme : Option (List ℕ)) → is_some scheme ≡ has_scheme → IfOk result (λ underflowed. underflowed ≡ path_underflows scheme (text_of path.entry)) }
+    ensures text { (scheme authority : Option (List ℕ)) → is_some scheme ≡ has_scheme
+        → is_some authority ≡ has_authority
+        → OnOk result (Pushes out.old out.new
+        (path_text E.set scheme authority (text_of path.entry))) }
+    ensures underflow { (scheme : Option (List ℕ)) → is_some scheme ≡ has_scheme
+        → IfOk result (λ underflowed. underflowed ≡ path_underflows scheme (text_of path.entry)) }
 {
     if has_scheme && path.is_absolute() {
         return push_absolute(alloc, has_authority, path, out);
@@ -191,8 +203,10 @@ pub fn push_normal<K: Encoders, P: DefaultPort>(
     out: &mut String,
 ) -> Result<bool, AllocError>
     requires { HasComponentSets K.kind }
-    ensures text { OnOk result (string_bytes out.new ≡ string_bytes out.old ++ normal_text (meaning_of K.kind (P.port_of ports.now) (core_text core.entry))) }
-    ensures underflow { let p = components (core_text core.entry) in IfOk result (λ underflowed. underflowed ≡ path_underflows p.scheme p.path) }
+    ensures text { OnOk result (Pushes out.old out.new
+        (normal_text (meaning_of K.kind (P.port_of ports.now) (core_text core.entry)))) }
+    ensures underflow { let p = components (core_text core.entry) in
+        IfOk result (λ underflowed. underflowed ≡ path_underflows p.scheme p.path) }
 {
     let scheme = core.scheme();
     push_scheme(alloc, scheme, out)?;

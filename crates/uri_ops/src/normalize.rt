@@ -5,7 +5,8 @@ ghost use Rattle.std.specs.Str.{IsUtf8};
 ghost use Rattle.uri_parts.specs.CoreTexts.{core_text};
 ghost use Rattle.uri_parts.specs.SchemePorts.{default_port};
 ghost use Rattle.uri_ops.specs.ComponentSets.{HasComponentSets};
-ghost use Rattle.uri_ops.specs.Normalizers.{HasNormalText, IsNormalForm, allows_underflow, ports_of, text_underflows};
+ghost use Rattle.uri_ops.specs.Normalizers.{HasNormalText, IsNormalForm, allows_underflow};
+ghost use Rattle.uri_ops.specs.Normalizers.{ports_of, text_underflows};
 ghost use Rattle.uri_ops.specs.declared.normalize.NormalizeError.TheVariants.{PathUnderflow};
 
 use crate::default_port::{DefaultPort, SchemeDefaults};
@@ -19,7 +20,8 @@ use uri_parts::rules::Encoders;
 /// Why a value was not normalised.
 #[derive(Clone, Copy, Debug, PartialEq, Eq, Error)]
 pub enum NormalizeError {
-    /// A double dot had no segment left to remove (RFC 3986, section 5.2.4), and this is not allowed.
+    /// A double dot had no segment left to remove (RFC 3986, section 5.2.4), and this is not
+    /// allowed.
     #[error("underflow occurred in path resolution")]
     PathUnderflow,
     /// Memory was refused.
@@ -61,8 +63,11 @@ pub(crate) fn normal_form<K: Encoders, P: DefaultPort>(
 ) -> Result<Normalized, AllocError>
     requires { HasComponentSets K.kind }
     ensures utf8 { IsUtf8 (core_text core.entry) }
-    ensures text { IfOk result (λ made. HasNormalText K.kind (P.port_of ports.now) (core_text core.entry) (string_bytes made.text)) }
-    ensures underflow { IfOk result (λ made. made.underflows ≡ text_underflows (core_text core.entry)) }
+    ensures text { IfOk result (λ made.
+        HasNormalText K.kind (P.port_of ports.now) (core_text core.entry)
+        (string_bytes made.text)) }
+    ensures underflow { IfOk result (λ made.
+        made.underflows ≡ text_underflows (core_text core.entry)) }
 {
     let mut text = String::new(alloc);
     text.reserve(core.as_str().len())?;
@@ -115,11 +120,11 @@ impl<P: DefaultPort> Normalizer<P> {
         }
     }
 
-    /// The normal form of a value: its scheme and its host are in lower case, each octet that spells
-    /// a readable character is that character and every other has upper-case digits, an empty or
-    /// default port is left out, and under a scheme a path that begins with `/` is without its dot
-    /// segments (RFC 3986, sections 6.2.2 and 6.2.3). Values of a kind have the same normal form
-    /// exactly if they mean the same.
+    /// The normal form of a value: its scheme and its host are in lower case, each octet that
+    /// spells a readable character is that character and every other has upper-case digits, an
+    /// empty or default port is left out, and under a scheme a path that begins with `/` is without
+    /// its dot segments (RFC 3986, sections 6.2.2 and 6.2.3). Values of a kind have the same normal
+    /// form exactly if they mean the same.
     ///
     /// # Errors
     ///
@@ -130,9 +135,14 @@ impl<P: DefaultPort> Normalizer<P> {
         alloc: Global,
         value: &R,
     ) -> Result<R::Owned, NormalizeError>
-        ensures normal { IfOk result (λ normal. IsNormalForm R.kind (P.port_of (ports_of self.now)) (R.text value.now) (R.owned_text normal)) }
-        ensures allowed { IfOk result (λ _. allows_underflow self.now ≡ false → text_underflows (R.text value.now) ≡ false) }
-        ensures underflow { IfErr result (λ error. error ≡ PathUnderflow → (allows_underflow self.now ≡ false) × (text_underflows (R.text value.now) ≡ true)) }
+        ensures normal { IfOk result (λ normal.
+            IsNormalForm R.kind (P.port_of (ports_of self.now)) (R.text value.now)
+            (R.owned_text normal)) }
+        ensures allowed { IfOk result (λ _.
+            allows_underflow self.now ≡ false → text_underflows (R.text value.now) ≡ false) }
+        ensures underflow { IfErr result (λ error.
+            error ≡ PathUnderflow
+            → (allows_underflow self.now ≡ false) × (text_underflows (R.text value.now) ≡ true)) }
     {
         let made = normal_form(alloc, value.core(), &self.ports)?;
         if made.underflows && !self.allow_path_underflow {
@@ -147,7 +157,8 @@ impl<P: DefaultPort> Normalizer<P> {
 /// may underflow.
 #[doc(hidden)]
 pub fn normal<R: RiMaybeRef>(alloc: Global, value: &R) -> Result<R::Owned, AllocError>
-    ensures { IfOk result (λ normal. IsNormalForm R.kind default_port (R.text value.now) (R.owned_text normal)) }
+    ensures { IfOk result (λ normal.
+        IsNormalForm R.kind default_port (R.text value.now) (R.owned_text normal)) }
 {
     match Normalizer::new().normalize(alloc, value) {
         Ok(normal) => Ok(normal),

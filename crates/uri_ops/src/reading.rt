@@ -1,11 +1,12 @@
 //! Components as they are read (RFC 3986, sections 6.2.2.1 and 6.2.2.2; RFC 3987, section 5.3.2.3).
-ghost use Rattle.std.specs.Prelude.{◌≡◌, ◌++◌, OnOk, map, string_bytes};
+ghost use Rattle.std.specs.Prelude.{OnOk, map};
 ghost use Rattle.std.specs.Str.{str_to_ascii_lowercase};
 ghost use Rattle.uri_pct.specs.Chunks.{widest_set};
 ghost use Rattle.uri_pct.specs.EStrs.{text_of};
 ghost use Rattle.uri_pct.specs.Reading.{read, lower_token};
 ghost use Rattle.uri_pct.specs.Tables.{set_of};
 ghost use Rattle.uri_pct.specs.Tokens.{print, IsValidFor};
+ghost use Rattle.uri_parts.specs.Appending.{Pushes};
 ghost use Rattle.uri_ops.specs.Readings.{cased};
 
 use std::alloc::{AllocError, Global};
@@ -67,7 +68,8 @@ fn push_cased(
     out: &mut String,
 ) -> Result<(), AllocError>
     requires { IsValidFor widest_set text.now }
-    ensures { OnOk result (string_bytes out.new ≡ string_bytes out.old ++ print (cased lowers (read (set_of table.now) text.now))) }
+    ensures { OnOk result (Pushes out.old out.new
+        (print (cased lowers (read (set_of table.now) text.now)))) }
 {
     let mut reading = Reading {
         alloc,
@@ -80,8 +82,8 @@ fn push_cased(
     taken
 }
 
-/// Appends what is read of the text: each character that octets spell as it is where it is readable,
-/// every other octet with upper-case digits, and all else as it stands.
+/// Appends what is read of the text: each character that octets spell as it is where it is
+/// readable, every other octet with upper-case digits, and all else as it stands.
 ///
 /// After an error some of it may stand behind what was there.
 #[doc(hidden)]
@@ -92,7 +94,7 @@ pub fn push_read(
     out: &mut String,
 ) -> Result<(), AllocError>
     requires { IsValidFor widest_set text.now }
-    ensures { OnOk result (string_bytes out.new ≡ string_bytes out.old ++ print (read (set_of table.now) text.now)) }
+    ensures { OnOk result (Pushes out.old out.new (print (read (set_of table.now) text.now))) }
 {
     push_cased(alloc, table, false, text, out)
 }
@@ -106,7 +108,7 @@ pub fn push_component<E: Encoder>(
     component: EStr<'_, E>,
     out: &mut String,
 ) -> Result<(), AllocError>
-    ensures { OnOk result (string_bytes out.new ≡ string_bytes out.old ++ print (read E.set (text_of component.entry))) }
+    ensures { OnOk result (Pushes out.old out.new (print (read E.set (text_of component.entry)))) }
 {
     push_read(alloc, &E::table(), component.as_str(), out)
 }
@@ -123,7 +125,8 @@ pub fn push_read_host(
     out: &mut String,
 ) -> Result<(), AllocError>
     requires { IsValidFor widest_set text.now }
-    ensures { OnOk result (string_bytes out.new ≡ string_bytes out.old ++ print (map lower_token (read (set_of table.now) text.now))) }
+    ensures { OnOk result (Pushes out.old out.new
+        (print (map lower_token (read (set_of table.now) text.now)))) }
 {
     push_cased(alloc, table, true, text, out)
 }
@@ -131,7 +134,7 @@ pub fn push_read_host(
 /// Appends the text with its ASCII letters in lower case.
 #[doc(hidden)]
 pub fn push_lower(alloc: Global, text: &str, out: &mut String) -> Result<(), AllocError>
-    ensures { OnOk result (string_bytes out.new ≡ string_bytes out.old ++ str_to_ascii_lowercase text.now) }
+    ensures { OnOk result (Pushes out.old out.new (str_to_ascii_lowercase text.now)) }
 {
     if text.as_bytes().iter().any(|byte| byte.is_ascii_uppercase()) {
         let lower = text.to_ascii_lowercase(alloc)?;

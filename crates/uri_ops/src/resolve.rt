@@ -1,21 +1,26 @@
 //! Resolving references against a base (RFC 3986, section 5).
-ghost use Rattle.std.specs.Prelude.{◌≡◌, ◌++◌, ◌&&◌, codes, IfOk, IfErr, OnOk, IfSome, [], true, option_map, string_bytes, take, Ok};
+ghost use Rattle.std.specs.Prelude.{◌≡◌, ◌++◌, codes, IfOk, IfErr, OnOk, IfSome, [], true};
+ghost use Rattle.std.specs.Prelude.{option_map, string_bytes, take, Ok};
+ghost use Rattle.uri_parts.specs.Appending.{Pushes};
 ghost use Rattle.uri_parts.specs.Grammar.{IsOfKind};
 ghost use Rattle.std.specs.Str.{IsCharBoundary, IsUtf8};
-ghost use Rattle.uri_parts.specs.Components.{IsRooted, components, has_authority, marked, recompose, starts};
-ghost use Rattle.uri_ops.specs.Dots.{directory, underflows};
+ghost use Rattle.uri_parts.specs.Components.{IsRooted, components, marked, recompose};
+ghost use Rattle.uri_ops.specs.Dots.{directory};
 ghost use Rattle.uri_ops.specs.Normalizers.{ports_of};
 ghost use Rattle.uri_ops.specs.EncodedTargets.{IsErrorForEncoded, IsTargetOfEncoded};
 ghost use Rattle.uri_ops.specs.NormalTargets.{IsErrorOfMeanings, IsTargetOfMeanings};
 ghost use Rattle.uri_ops.specs.NormalTargets.{IsNormalTarget, IsRefusedAlike};
 ghost use Rattle.uri_ops.specs.Resolvers.{allows_underflow, base_of};
-ghost use Rattle.uri_ops.specs.Resolving.{IsErrorFor, IsRefusalFor, IsTarget, components_of, finished, is_merged};
-ghost use Rattle.uri_ops.specs.Target.{cleaned_path, guarded, is_refused_as_opaque, joined, merged, resolution_of};
+ghost use Rattle.uri_ops.specs.Resolving.{IsErrorFor, IsRefusalFor, IsTarget, components_of};
+ghost use Rattle.uri_ops.specs.Resolving.{finished, is_merged};
+ghost use Rattle.uri_ops.specs.Target.{cleaned_path, cleaning_underflows, guarded};
+ghost use Rattle.uri_ops.specs.Target.{is_refused_as_opaque, joined, merged, resolution_of_texts};
 ghost use Rattle.uri_ops.specs.Texts.{IsTextOf};
 
 use crate::default_port::DefaultPort;
 use crate::dot_segments::{is_double_dot, last_slash, push_without_dot_segments};
 use crate::normalize::{Normalizer, normal_form};
+use crate::slashes::{begins_with_slash, begins_with_two_slashes};
 use crate::traits::{RefOf, Ri, RiMaybeRef, core_of, positions_in};
 use std::alloc::{AllocError, Global};
 use thiserror::Error;
@@ -30,7 +35,8 @@ pub enum ResolveError {
     /// scheme, is not empty and doesn't begin with `#`.
     #[error("when base has a rootless path and no authority, reference should either have scheme, be empty or start with '#'")]
     InvalidReferenceAgainstOpaqueBase,
-    /// A double dot had no segment left to remove (RFC 3986, section 5.2.4), and this is not allowed.
+    /// A double dot had no segment left to remove (RFC 3986, section 5.2.4), and this is not
+    /// allowed.
     #[error("underflow occurred in path resolution")]
     PathUnderflow,
     /// Memory was refused.
@@ -84,19 +90,13 @@ fn parts_of<R: RiMaybeRef>(value: &R) -> Parts<'_>
     }
 }
 
-/// Whether a path begins with `/`.
-fn is_absolute(path: &str) -> bool
-    ensures { result ≡ starts 47 path.now }
-{
-    path.as_bytes().first() == Some(&b'/')
-}
-
 /// Whether a base takes no such reference: it has no authority, and its path doesn't begin with
 /// `/`, and the reference has no scheme, is not empty and doesn't begin with `#`.
 fn is_refused(base: Parts<'_>, reference: Parts<'_>) -> bool
-    ensures { result ≡ is_refused_as_opaque (components_of base.entry) (components_of reference.entry) }
+    ensures { result
+        ≡ is_refused_as_opaque (components_of base.entry) (components_of reference.entry) }
 {
-    let is_opaque = base.authority.is_none() && !is_absolute(base.path);
+    let is_opaque = base.authority.is_none() && !begins_with_slash(base.path.as_bytes());
     let is_fragment_only = reference.scheme.is_none()
         && reference.authority.is_none()
         && reference.path.is_empty()
@@ -111,7 +111,7 @@ fn is_merged(reference: Parts<'_>) -> bool
     !(reference.scheme.is_some()
         || reference.authority.is_some()
         || reference.path.is_empty()
-        || is_absolute(reference.path))
+        || begins_with_slash(reference.path.as_bytes()))
 }
 
 /// Where the `/` stands, or is missing, up to which a base's path stands before a merged path
@@ -135,7 +135,10 @@ fn directory_end(path: &str) -> usize
 /// section 5.2.3), and else no text.
 fn merged_path(alloc: Global, base: Parts<'_>, reference: Parts<'_>) -> Result<String, AllocError>
     requires { is_merged (components_of reference) ≡ true → IsRooted base.path.now }
-    ensures { IfOk result (λ text. is_merged (components_of reference.entry) ≡ true → string_bytes text ≡ merged (components_of base.entry).path (components_of reference.entry).path) }
+    ensures { IfOk result (λ text.
+        is_merged (components_of reference.entry) ≡ true
+        → string_bytes text
+        ≡ merged (components_of base.entry).path (components_of reference.entry).path) }
 {
     let mut text = String::new(alloc);
     if is_merged(reference) {
@@ -155,8 +158,10 @@ fn merged_path(alloc: Global, base: Parts<'_>, reference: Parts<'_>) -> Result<S
 /// The target's components before dot segments are removed (RFC 3986, section 5.2.2), with the
 /// merged path where there is one.
 fn joined<'a>(base: Parts<'a>, reference: Parts<'a>, merged_path: &'a str) -> Parts<'a>
-    requires { is_merged (components_of reference) ≡ true → merged_path.now ≡ merged (components_of base).path (components_of reference).path }
-    ensures { components_of result ≡ joined (components_of base.entry) (components_of reference.entry) }
+    requires { is_merged (components_of reference) ≡ true
+        → merged_path.now ≡ merged (components_of base).path (components_of reference).path }
+    ensures { components_of result
+        ≡ joined (components_of base.entry) (components_of reference.entry) }
 {
     if reference.scheme.is_some() {
         return reference;
@@ -180,7 +185,7 @@ fn joined<'a>(base: Parts<'a>, reference: Parts<'a>, merged_path: &'a str) -> Pa
             ..base
         };
     }
-    let path = if is_absolute(reference.path) {
+    let path = if begins_with_slash(reference.path.as_bytes()) {
         reference.path
     } else {
         merged_path
@@ -196,7 +201,8 @@ fn joined<'a>(base: Parts<'a>, reference: Parts<'a>, merged_path: &'a str) -> Pa
 
 /// Appends a component behind its mark, where it is present.
 fn push_marked(mark: &str, part: Option<&str>, out: &mut String) -> Result<(), AllocError>
-    ensures { OnOk result (string_bytes out.new ≡ string_bytes out.old ++ marked mark.now (option_map (λ s. s.now) part.entry) []) }
+    ensures { OnOk result (Pushes out.old out.new
+        (marked mark.now (option_map (λ s. s.now) part.entry) [])) }
 {
     if let Some(part) = part {
         out.push_str(mark)?;
@@ -207,7 +213,8 @@ fn push_marked(mark: &str, part: Option<&str>, out: &mut String) -> Result<(), A
 
 /// Appends a scheme and its `:`, where it is present.
 fn push_scheme(scheme: Option<&str>, out: &mut String) -> Result<(), AllocError>
-    ensures { OnOk result (string_bytes out.new ≡ string_bytes out.old ++ marked [] (option_map (λ s. s.now) scheme.entry) (codes ":")) }
+    ensures { OnOk result (Pushes out.old out.new
+        (marked [] (option_map (λ s. s.now) scheme.entry) (codes ":"))) }
 {
     if let Some(scheme) = scheme {
         out.push_str(scheme)?;
@@ -219,10 +226,10 @@ fn push_scheme(scheme: Option<&str>, out: &mut String) -> Result<(), AllocError>
 /// Appends a path without its dot segments, if it begins with `/`, and answers whether their
 /// removal underflows.
 fn push_cleaned(path: &str, out: &mut String) -> Result<bool, AllocError>
-    ensures text { OnOk result (string_bytes out.new ≡ string_bytes out.old ++ cleaned_path path.now) }
-    ensures underflow { IfOk result (λ underflowed. underflowed ≡ (starts 47 path.now && underflows path.now)) }
+    ensures text { OnOk result (Pushes out.old out.new (cleaned_path path.now)) }
+    ensures underflow { IfOk result (λ underflowed. underflowed ≡ cleaning_underflows path.now) }
 {
-    if is_absolute(path) {
+    if begins_with_slash(path.as_bytes()) {
         push_without_dot_segments(path, out)
     } else {
         out.push_str(path)?;
@@ -230,18 +237,11 @@ fn push_cleaned(path: &str, out: &mut String) -> Result<bool, AllocError>
     }
 }
 
-/// Whether a path would be read as an authority, where none stands before it.
-#[doc(hidden)]
-pub fn begins_with_two_slashes(path: &[u8]) -> bool
-    ensures { result ≡ has_authority path.now }
-{
-    matches!(path, [b'/', b'/', ..])
-}
-
 /// Appends a path like `push_cleaned`, with `/.` before it where it would be read as an authority.
 fn push_guarded(authority: Option<&str>, path: &str, out: &mut String) -> Result<bool, AllocError>
-    ensures text { OnOk result (string_bytes out.new ≡ string_bytes out.old ++ guarded (option_map (λ s. s.now) authority.entry) (cleaned_path path.now)) }
-    ensures underflow { IfOk result (λ underflowed. underflowed ≡ (starts 47 path.now && underflows path.now)) }
+    ensures text { OnOk result (Pushes out.old out.new
+        (guarded (option_map (λ s. s.now) authority.entry) (cleaned_path path.now))) }
+    ensures underflow { IfOk result (λ underflowed. underflowed ≡ cleaning_underflows path.now) }
 {
     let start = out.len();
     let underflowed = push_cleaned(path, out)?;
@@ -253,8 +253,10 @@ fn push_guarded(authority: Option<&str>, path: &str, out: &mut String) -> Result
 
 /// Appends a target, whose dot segments are removed here, and answers whether that underflows.
 fn push_target(target: Parts<'_>, out: &mut String) -> Result<bool, AllocError>
-    ensures text { OnOk result (string_bytes out.new ≡ string_bytes out.old ++ recompose (finished (components_of target.entry))) }
-    ensures underflow { IfOk result (λ underflowed. underflowed ≡ (starts 47 target.entry.path.now && underflows target.entry.path.now)) }
+    ensures text { OnOk result (Pushes out.old out.new
+        (recompose (finished (components_of target.entry)))) }
+    ensures underflow { IfOk result (λ underflowed.
+        underflowed ≡ cleaning_underflows target.entry.path.now) }
 {
     push_scheme(target.scheme, out)?;
     push_marked("//", target.authority, out)?;
@@ -291,8 +293,12 @@ fn target_text(
     allow_path_underflow: bool,
 ) -> Result<String, ResolveError>
     requires { IfSome (components_of base).authority (λ _. IsRooted base.path.now) }
-    ensures target { IfOk result (λ text. IsTarget allow_path_underflow (components_of base.entry) (components_of reference.entry) (string_bytes text)) }
-    ensures error { IfErr result (IsErrorFor allow_path_underflow (components_of base.entry) (components_of reference.entry)) }
+    ensures target { IfOk result (λ text.
+        IsTarget allow_path_underflow (components_of base.entry) (components_of reference.entry)
+        (string_bytes text)) }
+    ensures error { IfErr result
+        (IsErrorFor allow_path_underflow (components_of base.entry)
+        (components_of reference.entry)) }
 {
     if base.fragment.is_some() {
         return Err(ResolveError::BaseWithFragment);
@@ -321,8 +327,12 @@ fn resolved_text<B: Ri, Q: RefOf<B>>(
     ensures base { IsTextOf B.kind (B.text base.now) }
     ensures reference { IsTextOf Q.kind (Q.text reference.now) }
     ensures of_kind { IfOk result (λ text. IsTextOf B.kind (string_bytes text)) }
-    ensures target { IfOk result (λ text. IsTarget allow_path_underflow (components (B.text base.now)) (components (Q.text reference.now)) (string_bytes text)) }
-    ensures error { IfErr result (IsErrorFor allow_path_underflow (components (B.text base.now)) (components (Q.text reference.now))) }
+    ensures target { IfOk result (λ text.
+        IsTarget allow_path_underflow (components (B.text base.now))
+        (components (Q.text reference.now)) (string_bytes text)) }
+    ensures error { IfErr result
+        (IsErrorFor allow_path_underflow (components (B.text base.now))
+        (components (Q.text reference.now))) }
     ensures encoded { IfOk result (λ text.
         IsTargetOfEncoded allow_path_underflow (B.text base.now) (Q.text reference.now)
         (string_bytes text)) }
@@ -350,8 +360,12 @@ pub fn resolved<B: Ri, Q: RefOf<B>>(
     reference: &Q,
     allow_path_underflow: bool,
 ) -> Result<B::Owned, ResolveError>
-    ensures target { IfOk result (λ target. IsTarget allow_path_underflow (components (B.text base.now)) (components (Q.text reference.now)) (B.owned_text target)) }
-    ensures error { IfErr result (IsErrorFor allow_path_underflow (components (B.text base.now)) (components (Q.text reference.now))) }
+    ensures target { IfOk result (λ target.
+        IsTarget allow_path_underflow (components (B.text base.now))
+        (components (Q.text reference.now)) (B.owned_text target)) }
+    ensures error { IfErr result
+        (IsErrorFor allow_path_underflow (components (B.text base.now))
+        (components (Q.text reference.now))) }
     ensures encoded { IfOk result (λ target.
         IsTargetOfEncoded allow_path_underflow (B.text base.now) (Q.text reference.now)
         (B.owned_text target)) }
@@ -375,8 +389,10 @@ pub fn resolved_against<B: Ri, Q: RefOf<B>>(
     base: &B,
     reference: &Q,
 ) -> Result<B::Owned, ResolveError>
-    ensures target { IfOk result (λ target. resolution_of (components (B.text base.now)) (components (Q.text reference.now)) ≡ Ok (B.owned_text target)) }
-    ensures refusal { IfErr result (IsRefusalFor (components (B.text base.now)) (components (Q.text reference.now))) }
+    ensures target { IfOk result (λ target.
+        resolution_of_texts (B.text base.now) (Q.text reference.now) ≡ Ok (B.owned_text target)) }
+    ensures refusal { IfErr result
+        (IsRefusalFor (components (B.text base.now)) (components (Q.text reference.now))) }
     ensures encoded { IfOk result (λ target.
         IsTargetOfEncoded true (B.text base.now) (Q.text reference.now) (B.owned_text target)) }
     ensures encoded_error { IfErr result
@@ -443,8 +459,12 @@ impl<R: Ri> Resolver<R> {
         alloc: Global,
         reference: &Q,
     ) -> Result<R::Owned, ResolveError>
-        ensures target { IfOk result (λ target. IsTarget (allows_underflow self.now) (components (R.text (base_of self.now))) (components (Q.text reference.now)) (R.owned_text target)) }
-        ensures error { IfErr result (IsErrorFor (allows_underflow self.now) (components (R.text (base_of self.now))) (components (Q.text reference.now))) }
+        ensures target { IfOk result (λ target.
+            IsTarget (allows_underflow self.now) (components (R.text (base_of self.now)))
+            (components (Q.text reference.now)) (R.owned_text target)) }
+        ensures error { IfErr result
+            (IsErrorFor (allows_underflow self.now) (components (R.text (base_of self.now)))
+            (components (Q.text reference.now))) }
         ensures encoded { IfOk result (λ target.
             IsTargetOfEncoded (allows_underflow self.now) (R.text (base_of self.now))
             (Q.text reference.now) (R.owned_text target)) }
@@ -461,8 +481,8 @@ impl<R: Ri> Resolver<R> {
     /// The normal form of the target of a reference against the base: what `resolve` answers where
     /// underflow is allowed, and then `normalize` of a normaliser with these ports (RFC 3986,
     /// sections 5.2, 6.2.2 and 6.2.3). Whether underflow is allowed by either setting makes no
-    /// difference. A base and a reference that mean the same, such as the normal forms of both, have
-    /// the same answer.
+    /// difference. A base and a reference that mean the same, such as the normal forms of both,
+    /// have the same answer.
     ///
     /// # Errors
     ///
@@ -474,8 +494,12 @@ impl<R: Ri> Resolver<R> {
         reference: &Q,
         normalizer: &Normalizer<P>,
     ) -> Result<R::Owned, ResolveError>
-        ensures normal { IfOk result (λ normal. IsNormalTarget R.kind Q.kind (P.port_of (ports_of normalizer.now)) (R.text (base_of self.now)) (Q.text reference.now) (R.owned_text normal)) }
-        ensures refusal { IfErr result (IsRefusedAlike R.kind Q.kind (P.port_of (ports_of normalizer.now)) (R.text (base_of self.now)) (Q.text reference.now)) }
+        ensures normal { IfOk result (λ normal.
+            IsNormalTarget R.kind Q.kind (P.port_of (ports_of normalizer.now))
+            (R.text (base_of self.now)) (Q.text reference.now) (R.owned_text normal)) }
+        ensures refusal { IfErr result
+            (IsRefusedAlike R.kind Q.kind (P.port_of (ports_of normalizer.now))
+            (R.text (base_of self.now)) (Q.text reference.now)) }
     {
         let target = resolved_text(alloc, &self.base, reference, true)?;
         let core = core_of::<R::Rules>(target.as_str());

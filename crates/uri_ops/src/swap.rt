@@ -1,23 +1,35 @@
 //! Laws of targets and their meanings, each the contract of a function that does nothing.
 ghost use Rattle.std.specs.Prelude.{◌≡◌, ℕ, List, true};
-ghost use Rattle.uri_parts.specs.Components.{components};
 ghost use Rattle.uri_parts.specs.Grammar.{Kind};
 ghost use Rattle.uri_ops.specs.ComponentSets.{HasComponentSets};
 ghost use Rattle.uri_ops.specs.Meaning.{meaning_of};
 ghost use Rattle.uri_ops.specs.Normal.{normal_text};
 ghost use Rattle.uri_ops.specs.Ports.{PortFunction};
 ghost use Rattle.uri_ops.specs.References.{reference_kind, resolved_meaning};
-ghost use Rattle.uri_ops.specs.Target.{resolution_of};
+ghost use Rattle.uri_ops.specs.Target.{resolution_of_texts};
 ghost use Rattle.uri_ops.specs.Texts.{IsTextOf};
 
-/// The target of a reference against a base of a kind is a text of that kind (RFC 3986, section 5.2).
+/// The target of a reference against a base of a kind is a text of that kind (RFC 3986, section
+/// 5.2).
 pub fn targets_are_texts()
-    ensures { (kind : Kind) (base reference target : List ℕ) → HasComponentSets kind → kind.needs_scheme ≡ true → IsTextOf kind base → IsTextOf (reference_kind kind) reference → resolution_of (components base) (components reference) ≡ Ok target → IsTextOf kind target }
+    ensures { (kind : Kind) (base reference target : List ℕ) → HasComponentSets kind
+        → kind.needs_scheme ≡ true → IsTextOf kind base → IsTextOf (reference_kind kind) reference
+        → resolution_of_texts base reference ≡ Ok target → IsTextOf kind target }
 {}
 
 /// The meanings of a base and a reference decide the meaning of the target, or which refusal there
 /// is: those of other texts with the same meanings, and of the normal texts, come to the same.
 pub fn resolving_and_normalising_swap()
-    ensures alike { (kind : Kind) (ports : PortFunction) (b c r s : List ℕ) → HasComponentSets kind → kind.needs_scheme ≡ true → IsTextOf kind b → IsTextOf kind c → IsTextOf (reference_kind kind) r → IsTextOf (reference_kind kind) s → meaning_of kind ports b ≡ meaning_of kind ports c → meaning_of (reference_kind kind) ports r ≡ meaning_of (reference_kind kind) ports s → resolved_meaning kind ports b r ≡ resolved_meaning kind ports c s }
-    ensures normal_texts { (kind : Kind) (ports : PortFunction) (base reference : List ℕ) → HasComponentSets kind → kind.needs_scheme ≡ true → IsTextOf kind base → IsTextOf (reference_kind kind) reference → resolved_meaning kind ports (normal_text (meaning_of kind ports base)) (normal_text (meaning_of (reference_kind kind) ports reference)) ≡ resolved_meaning kind ports base reference }
+    ensures alike { (kind : Kind) (ports : PortFunction) (b c r s : List ℕ) → HasComponentSets kind
+        → kind.needs_scheme ≡ true → IsTextOf kind b → IsTextOf kind c
+        → IsTextOf (reference_kind kind) r → IsTextOf (reference_kind kind) s
+        → meaning_of kind ports b ≡ meaning_of kind ports c
+        → meaning_of (reference_kind kind) ports r ≡ meaning_of (reference_kind kind) ports s
+        → resolved_meaning kind ports b r ≡ resolved_meaning kind ports c s }
+    ensures normal_texts { (kind : Kind) (ports : PortFunction) (base reference : List ℕ)
+        → HasComponentSets kind → kind.needs_scheme ≡ true → IsTextOf kind base
+        → IsTextOf (reference_kind kind) reference
+        → resolved_meaning kind ports (normal_text (meaning_of kind ports base))
+        (normal_text (meaning_of (reference_kind kind) ports reference))
+        ≡ resolved_meaning kind ports base reference }
 {}

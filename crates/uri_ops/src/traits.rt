@@ -156,7 +156,8 @@ where
 {
     ghost owned_kind: { Self.Owned.kind ≡ Self.kind };
 
-    ghost owned_text_is_text: { (value : Self.Owned) → Self.Owned.text value ≡ Self.owned_text value };
+    ghost owned_text_is_text: { (value : Self.Owned)
+        → Self.Owned.text value ≡ Self.owned_text value };
 }
 
 /// A kind whose texts have a scheme: a URI or an IRI.
@@ -190,7 +191,8 @@ pub fn with_fragment<R: RiMaybeRef>(
     value: &R,
     fragment: Option<EStr<'_, R::FragmentE>>,
 ) -> Result<R::Owned, AllocError>
-    ensures { IfOk result (λ made. IsWithFragment (R.text value.now) (option_map text_of fragment.entry) (R.owned_text made)) }
+    ensures { IfOk result (λ made.
+        IsWithFragment (R.text value.now) (option_map text_of fragment.entry) (R.owned_text made)) }
 {
     let core = value.core();
     let positions = core.positions();

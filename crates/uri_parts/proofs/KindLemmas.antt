@@ -116,3 +116,8 @@ empty_is_uri_ref = empty_is_reference uri_ref refl
 
 pub empty_is_iri_ref : IsOfKind iri_ref []
 empty_is_iri_ref = empty_is_reference iri_ref refl
+
+-- a URI is a URI reference with a scheme, and an IRI an IRI reference with one
+pub ruleset uri_laws = (uri_is_uri_ref, uri_has_scheme)
+
+pub ruleset iri_laws = (iri_is_iri_ref, iri_has_scheme)

@@ -21,6 +21,7 @@ pub mod Hierarchies
 pub mod Texts
 pub mod ReadPositions
 pub mod KindLemmas
+pub mod WholeTexts
 pub mod Places
 pub mod Fragments
 mod Rows

@@ -48,3 +48,6 @@ query_valid kind set text part h s e = ap (λ t. is_valid_for t part) s ∙ pres
 
 pub fragment_valid : (kind : Kind) (set : TableSet) (text part : List ℕ) → IsOfKind kind text → set ≡ kind.fragment → (components text).fragment ≡ Some part → IsValidFor set part
 fragment_valid kind set text part h s e = ap (λ t. is_valid_for t part) s ∙ present _ (is_valid_for kind.fragment) part (meets kind (components text) h).fragment e
+
+-- each component of a text of a kind meets its rule
+pub ruleset parts_valid = (scheme_valid, authority_valid, path_valid, query_valid, fragment_valid)

@@ -1,5 +1,6 @@
 -- The parts of an authority: RFC 3986, section 3.2.
-use Rattle.std.specs.Prelude.{◌≡◌, ℕ, Bool, true, false, ◌&&◌, List, [], ◌++◌, drop, codes, bytes_eq, Option, IfSome, if◌then◌else◌}
+use Rattle.std.specs.Prelude.{◌≡◌, ℕ, Bool, true, false, ◌&&◌, List, [], ◌++◌, drop, codes}
+use Rattle.std.specs.Prelude.{bytes_eq, Option, IfSome, if◌then◌else◌}
 use Rattle.std.specs.List.{list_any}
 use Rattle.std.specs.Option.{option_map_or}
 use Rattle.uri_pct.specs.Sets.{TableSet, LacksPercent, digit_set}
@@ -17,7 +18,8 @@ abbrev pub authority_text : AuthorityParts → List ℕ
 authority_text p = marked [] p.userinfo (codes "@") ++ (p.host ++ marked (codes ":") p.port [])
 
 -- section 3.2 in its words, for the characters of userinfo and of registered names
-pub record IsAuthorityFor (users names : TableSet) (text : List ℕ) (p : AuthorityParts) : Type 0 where
+pub record IsAuthorityFor (users names : TableSet) (text : List ℕ)
+    (p : AuthorityParts) : Type 0 where
   pub whole : authority_text p ≡ text
   pub userinfo : IfSome p.userinfo (IsValidFor users)
   pub host : (h : HostKind) × IsHost names p.host h
@@ -30,15 +32,19 @@ pub record KeepsApart (users names : TableSet) : Type 0 where
   pub users_marks : list_any users.ascii (codes "@") ≡ false
   pub names_marks : list_any names.ascii (codes "@:[") ≡ false
 
--- the cut as a function: the userinfo ends at the first `@`, a host in brackets behind the first `]`, and another at the first `:`
+-- the cut as a function: the userinfo ends at the first `@`, a host in brackets behind the first
+-- `]`, and another at the first `:`
 abbrev pub behind_userinfo : List ℕ → List ℕ
-behind_userinfo text = if starts 64 (from_any (codes "@") text) then drop 1 (from_any (codes "@") text) else text
+behind_userinfo text =
+    if starts 64 (from_any (codes "@") text) then drop 1 (from_any (codes "@") text) else text
 
 abbrev pub host_before : List ℕ → List ℕ
-host_before rest = if starts 91 rest then before_any (codes "]") rest ++ codes "]" else before_any (codes ":") rest
+host_before rest =
+    if starts 91 rest then before_any (codes "]") rest ++ codes "]" else before_any (codes ":") rest
 
 abbrev pub behind_host : List ℕ → List ℕ
-behind_host rest = if starts 91 rest then drop 1 (from_any (codes "]") rest) else from_any (codes ":") rest
+behind_host rest =
+    if starts 91 rest then drop 1 (from_any (codes "]") rest) else from_any (codes ":") rest
 
 abbrev pub authority_parts : List ℕ → AuthorityParts
 authority_parts text =
@@ -55,4 +61,5 @@ unfoldable pub is_authority_for : TableSet → TableSet → List ℕ → Bool
 is_authority_for users names text =
     let p = authority_parts text in
     bytes_eq (authority_text p) text
-    && (option_map_or (is_valid_for users) p.userinfo true && (is_host names p.host && option_map_or (is_valid_for digit_set) p.port true))
+    && (option_map_or (is_valid_for users) p.userinfo true
+    && (is_host names p.host && option_map_or (is_valid_for digit_set) p.port true))

@@ -1,5 +1,6 @@
 -- What the parser reads of a whole authority.
-use Rattle.std.specs.Prelude.{ℕ, Bool, true, ◌&&◌, ◌||◌, List, [], ◌∷◌, drop, codes, is_some, if◌then◌else◌}
+use Rattle.std.specs.Prelude.{ℕ, Bool, true, ◌&&◌, ◌||◌, List, [], ◌∷◌, drop, codes, is_some}
+use Rattle.std.specs.Prelude.{if◌then◌else◌}
 use Rattle.uri_pct.specs.Sets.{TableSet, digit_set}
 use Rattle.uri_pct.specs.Tokens.{is_valid_for}
 use Rattle.uri_parts.specs.Components.{starts, before_any, from_any}
@@ -21,11 +22,14 @@ ends_in_port (b ∷ rest) = starts 58 (b ∷ rest) && is_valid_for digit_set res
 unfoldable pub reads_host_and_port : TableSet → List ℕ → Bool
 reads_host_and_port names rest =
     if starts 91 rest
-    then starts 93 (from_any (codes "]") (drop 1 rest)) && (is_literal (before_any (codes "]") (drop 1 rest)) && ends_in_port (drop 1 (from_any (codes "]") (drop 1 rest))))
+    then starts 93 (from_any (codes "]") (drop 1 rest))
+    && (is_literal (before_any (codes "]") (drop 1 rest))
+    && ends_in_port (drop 1 (from_any (codes "]") (drop 1 rest))))
     else is_name names (before_any (codes ":") rest) && ends_in_port (from_any (codes ":") rest)
 
 unfoldable pub reads_whole_authority : TableSet → TableSet → List ℕ → Bool
 reads_whole_authority users names text =
     if starts 64 (from_any (codes "@") text)
-    then is_valid_for users (before_any (codes "@") text) && reads_host_and_port names (drop 1 (from_any (codes "@") text))
+    then is_valid_for users (before_any (codes "@") text)
+    && reads_host_and_port names (drop 1 (from_any (codes "@") text))
     else reads_host_and_port names text

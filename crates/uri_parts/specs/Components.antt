@@ -1,5 +1,7 @@
 -- The five components of any text: RFC 3986, appendix B; and their text: section 5.3.
-use Rattle.std.specs.Prelude.{◌≡◌, ℕ, ◌<◌, Bool, false, not, ◌&&◌, ◌⊎◌, ◌==◌, List, [], ◌∷◌, ◌++◌, length, take, drop, slice_index, codes, All, IsTrue, Option, Some, None, IfSome, IfNone, if◌then◌else◌}
+use Rattle.std.specs.Prelude.{◌≡◌, ℕ, ◌<◌, Bool, false, not, ◌&&◌, ◌⊎◌, ◌==◌, List, [], ◌∷◌, ◌++◌}
+use Rattle.std.specs.Prelude.{length, take, drop, slice_index, codes, All, IsTrue, Option, Some}
+use Rattle.std.specs.Prelude.{None, IfSome, IfNone, if◌then◌else◌}
 use Rattle.std.specs.List.{prefix_len}
 use Rattle.uri_pct.specs.Sets.{is_one_of}
 
@@ -49,8 +51,8 @@ Lacks marks text = All (λ c. is_one_of marks c ≡ false) text
 abbrev pub IsRooted : List ℕ → Type 0
 IsRooted path = (path ≡ []) ⊎ IsTrue (starts 47 path)
 
--- appendix B in its words: the components are together the text, each holds none of the characters that end it, and one
--- is absent only where the text has none
+-- appendix B in its words: the components are together the text, each holds none of the characters
+-- that end it, and one is absent only where the text has none
 pub record IsSplitOf (text : List ℕ) (p : Components) : Type 0 where
   pub whole : recompose p ≡ text
   pub scheme : IfSome p.scheme (λ s. (0 < length s) × Lacks (codes ":/?#") s)

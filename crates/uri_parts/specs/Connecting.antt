@@ -6,7 +6,9 @@ use Rattle.uri_pct.specs.Tokens.{tokens, token_bytes}
 use Rattle.uri_parts.specs.declared.connect.SocketTarget.{SocketTarget}
 use Rattle.uri_parts.specs.declared.connect.SocketTarget.TheVariants as Of
 use Rattle.uri_parts.specs.declared.connect.SocketError.{SocketError}
-use Rattle.uri_parts.specs.declared.connect.SocketError.TheVariants.{InvalidPort, UnsupportedMechanism, NameNotUtf8, OutOfMemory}
+use Rattle.uri_parts.specs.declared.connect.SocketError.TheVariants.{InvalidPort}
+use Rattle.uri_parts.specs.declared.connect.SocketError.TheVariants.{UnsupportedMechanism}
+use Rattle.uri_parts.specs.declared.connect.SocketError.TheVariants.{NameNotUtf8, OutOfMemory}
 use Rattle.uri_parts.specs.Addresses.{ipv4_octets, ipv6_segments}
 use Rattle.uri_parts.specs.Hosts.{HostKind, Ipv4, Ipv6, IpvFuture, RegName}
 
@@ -37,7 +39,9 @@ abbrev pub IsAnswerFor : List ℕ → HostKind → ℕ → Result SocketTarget S
 IsAnswerFor host (Ipv4 octets) port r = IsOkAnd r (λ t. target_of t ≡ V4 octets port)
 IsAnswerFor host (Ipv6 segments) port r = IsOkAnd r (λ t. target_of t ≡ V6 segments port)
 IsAnswerFor host IpvFuture port r = r ≡ Err UnsupportedMechanism
-IsAnswerFor host RegName port r = MatchResult r (λ t. (target_of t ≡ Name (name_bytes host) port) × IsUtf8 (name_bytes host)) (IsNameRefusal host)
+IsAnswerFor host RegName port r =
+    MatchResult r (λ t. (target_of t ≡ Name (name_bytes host) port) × IsUtf8 (name_bytes host))
+    (IsNameRefusal host)
 
 -- a name is borrowed
 abbrev pub IsBorrowedTarget : SocketTarget → Type 0

@@ -1,8 +1,11 @@
 -- Which texts are of a kind: RFC 3986, sections 3 and 4.1, and RFC 3987, section 2.2.
-use Rattle.std.specs.Prelude.{◌≡◌, ◌==◌, ℕ, Bool, true, false, not, ◌&&◌, ◌||◌, List, codes, slice_index, Option, Some, None, is_some}
+use Rattle.std.specs.Prelude.{◌≡◌, ◌==◌, ℕ, Bool, true, false, not, ◌&&◌, ◌||◌, List, codes}
+use Rattle.std.specs.Prelude.{slice_index, Option, Some, None, is_some}
 use Rattle.std.specs.List.{list_any}
 use Rattle.std.specs.Char.{is_ascii_alphabetic}
-use Rattle.uri_pct.specs.Sets.{TableSet, scheme_set, userinfo_set, reg_name_set, path_set, query_set, fragment_set, iuserinfo_set, ireg_name_set, ipath_set, iquery_set, ifragment_set}
+use Rattle.uri_pct.specs.Sets.{TableSet, scheme_set, userinfo_set, reg_name_set, path_set}
+use Rattle.uri_pct.specs.Sets.{query_set, fragment_set, iuserinfo_set, ireg_name_set, ipath_set}
+use Rattle.uri_pct.specs.Sets.{iquery_set, ifragment_set}
 use Rattle.uri_pct.specs.Tokens.{is_valid_for}
 use Rattle.uri_parts.specs.Authority.{is_authority_for}
 use Rattle.uri_parts.specs.Components.{Components, components, before_any}
@@ -62,8 +65,9 @@ abbrev pub if_some : Option (List ℕ) → (List ℕ → Bool) → Bool
 if_some None test = true
 if_some (Some part) test = test part
 
--- Each component meets its rule. Of section 3.3's rules on paths one is left to ask, since with an authority every cut has
--- a path that is empty or begins with `/`, and without one a path that does not begin with `//`.
+-- Each component meets its rule. Of section 3.3's rules on paths one is left to ask, since with an
+-- authority every cut has a path that is empty or begins with `/`, and without one a path that does
+-- not begin with `//`.
 abbrev pub are_components : Kind → Components → Bool
 are_components kind p =
     if_some p.scheme is_scheme
@@ -71,7 +75,8 @@ are_components kind p =
     && is_valid_for kind.path p.path
     && if_some p.query (is_valid_for kind.query)
     && if_some p.fragment (is_valid_for kind.fragment)
-    && (is_some p.scheme || (not kind.needs_scheme && (is_some p.authority || not (has_colon_first p.path))))
+    && (is_some p.scheme
+    || (not kind.needs_scheme && (is_some p.authority || not (has_colon_first p.path))))
 
 abbrev pub is_of_kind : Kind → List ℕ → Bool
 is_of_kind kind text = are_components kind (components text)

@@ -1,4 +1,5 @@
--- Which texts are of a kind, in the words of the RFCs: RFC 3986, sections 3, 3.3 and 4.2, and RFC 3987, section 2.2.
+-- Which texts are of a kind, in the words of the RFCs: RFC 3986, sections 3, 3.3 and 4.2, and
+-- RFC 3987, section 2.2.
 use Rattle.std.specs.Prelude.{◌≡◌, ℕ, true, false, ◌⊎◌, List, IfSome, IsSome}
 use Rattle.uri_pct.specs.Tokens.{IsValidFor}
 use Rattle.uri_parts.specs.Authority.{AuthorityParts, IsAuthorityFor}
@@ -7,7 +8,8 @@ use Rattle.uri_parts.specs.Grammar.{Kind, is_scheme, has_colon_first}
 
 -- section 3.2: the text is cut into userinfo, host and port, and each meets its rule
 abbrev pub HasAuthorityParts : Kind → List ℕ → Type 0
-HasAuthorityParts kind text = (parts : AuthorityParts) × IsAuthorityFor kind.userinfo kind.reg_name text parts
+HasAuthorityParts kind text =
+    (parts : AuthorityParts) × IsAuthorityFor kind.userinfo kind.reg_name text parts
 
 -- the text has these components, and each meets its rule
 pub record IsSpeltBy (kind : Kind) (text : List ℕ) (p : Components) : Type 0 where
@@ -17,8 +19,10 @@ pub record IsSpeltBy (kind : Kind) (text : List ℕ) (p : Components) : Type 0 w
   pub path : IsValidFor kind.path p.path
   pub query : IfSome p.query (IsValidFor kind.query)
   pub fragment : IfSome p.fragment (IsValidFor kind.fragment)
-  -- without a scheme, where none is needed, no `:` stands in a first segment that no authority comes before
-  pub reference : IsSome p.scheme ⊎ ((kind.needs_scheme ≡ false) × (IsSome p.authority ⊎ (has_colon_first p.path ≡ false)))
+  -- without a scheme, where none is needed, no `:` stands in a first segment that no authority
+  -- comes before
+  pub reference : IsSome p.scheme
+      ⊎ ((kind.needs_scheme ≡ false) × (IsSome p.authority ⊎ (has_colon_first p.path ≡ false)))
 
 -- there are such components
 abbrev pub IsInGrammar : Kind → List ℕ → Type 0

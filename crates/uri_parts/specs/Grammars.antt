@@ -1,3 +1,4 @@
+use Rattle.uri_pct.specs.Sets.{TableSet}
 use Rattle.uri_pct.specs.Tables.{set_of}
 use Rattle.uri_parts.specs.Grammar.{Kind}
 use Rattle.uri_parts.specs.declared.grammar.Grammar.{Grammar}
@@ -12,3 +13,7 @@ kind_of g = record {
   fragment = set_of g.fragment;
   needs_scheme = g.needs_scheme;
 }
+
+-- the characters of a first segment that holds no colon: RFC 3986, section 3.3
+abbrev pub segment_nz_nc_of : Grammar → TableSet
+segment_nz_nc_of g = set_of g.segment_nz_nc

@@ -1,5 +1,7 @@
 -- What a host may be: RFC 3986, section 3.2.2.
-use Rattle.std.specs.Prelude.{◌≡◌, ℕ, ◌<◌, Bool, true, false, ◌&&◌, ◌||◌, List, [], ◌∷◌, ◌++◌, length, drop, codes, bytes_eq, nat_lt, Option, Some, None, is_some, if◌then◌else◌}
+use Rattle.std.specs.Prelude.{◌≡◌, ℕ, ◌<◌, Bool, true, false, ◌&&◌, ◌||◌, List, [], ◌∷◌, ◌++◌}
+use Rattle.std.specs.Prelude.{length, drop, codes, bytes_eq, nat_lt, Option, Some, None, is_some}
+use Rattle.std.specs.Prelude.{if◌then◌else◌}
 use Rattle.std.specs.Net.Grammar.{IsColonHex, IsDotted}
 use Rattle.std.specs.Net.Reader.{whole_value, read_ipv4, read_ipv6}
 use Rattle.uri_pct.specs.Sets.{TableSet, is_one_of, hexdig_set, ipv_future_set}
@@ -17,8 +19,9 @@ pub data HostKind : Type 0 where
 abbrev pub IsIpv4Text : List ℕ → List ℕ → Type 0
 IsIpv4Text text octets = IsDotted text octets
 
--- Eight groups of one to four hexadecimal digits joined by `:`; or one `::` between two lists of such groups, perhaps empty and of at most seven
--- together, the missing ones being 0. The whole, or what follows the `::`, may end in an IPv4 address in place of two groups.
+-- Eight groups of one to four hexadecimal digits joined by `:`; or one `::` between two lists of
+-- such groups, perhaps empty and of at most seven together, the missing ones being 0. The whole, or
+-- what follows the `::`, may end in an IPv4 address in place of two groups.
 abbrev pub IsIpv6Text : List ℕ → List ℕ → Type 0
 IsIpv6Text text segments = IsColonHex text segments
 
@@ -37,7 +40,8 @@ bracketed text = codes "[" ++ (text ++ codes "]")
 
 -- An address in brackets, or an IPv4 address, or else a registered name that these characters spell
 abbrev pub IsHost : TableSet → List ℕ → HostKind → Type 0
-IsHost names text (Ipv6 segments) = (address : List ℕ) × (text ≡ bracketed address) × IsIpv6Text address segments
+IsHost names text (Ipv6 segments) =
+    (address : List ℕ) × (text ≡ bracketed address) × IsIpv6Text address segments
 IsHost names text IpvFuture = (address : List ℕ) × (text ≡ bracketed address) × IsIpvFuture address
 IsHost names text (Ipv4 octets) = IsIpv4Text text octets
 IsHost names text RegName = IsValidFor names text × ((octets : List ℕ) → ¬ (IsIpv4Text text octets))
@@ -51,13 +55,16 @@ ipv6_value text = whole_value (read_ipv6 text)
 
 -- `.` and one or more characters
 abbrev pub is_future_address : List ℕ → Bool
-is_future_address text = starts 46 text && (nat_lt 0 (length (drop 1 text)) && is_valid_for ipv_future_set (drop 1 text))
+is_future_address text =
+    starts 46 text && (nat_lt 0 (length (drop 1 text)) && is_valid_for ipv_future_set (drop 1 text))
 
 unfoldable pub is_ipv_future : List ℕ → Bool
 is_ipv_future [] = false
 is_ipv_future (letter ∷ rest) =
     let version = before_any (codes ".") rest in
-    is_one_of (codes "vV") letter && ((nat_lt 0 (length version) && is_valid_for hexdig_set version) && is_future_address (from_any (codes ".") rest))
+    is_one_of (codes "vV") letter
+    && ((nat_lt 0 (length version) && is_valid_for hexdig_set version)
+    && is_future_address (from_any (codes ".") rest))
 
 -- what stands behind a `[`, up to the first `]`
 abbrev pub literal_of : List ℕ → List ℕ
@@ -73,11 +80,14 @@ name_kind (Some octets) = Ipv4 octets
 
 -- the kind of a text that is a host
 unfoldable pub host_kind : List ℕ → HostKind
-host_kind text = if starts 91 text then literal_kind (ipv6_value (literal_of text)) else name_kind (ipv4_value text)
+host_kind text =
+    if starts 91 text then literal_kind (ipv6_value (literal_of text))
+    else name_kind (ipv4_value text)
 
 -- the text is a host
 unfoldable pub is_host : TableSet → List ℕ → Bool
 is_host names text =
     if starts 91 text
-    then bytes_eq (bracketed (literal_of text)) text && (is_some (ipv6_value (literal_of text)) || is_ipv_future (literal_of text))
+    then bytes_eq (bracketed (literal_of text)) text
+    && (is_some (ipv6_value (literal_of text)) || is_ipv_future (literal_of text))
     else is_some (ipv4_value text) || is_valid_for names text

@@ -1,4 +1,5 @@
 pub mod Addresses
+pub mod Appending
 pub mod Authority
 pub mod Authorities
 pub mod AuthorityReading

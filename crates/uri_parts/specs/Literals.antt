@@ -3,7 +3,9 @@ use Rattle.std.specs.Prelude.{◌≡◌, ℕ, ◌+◌, Bool, ◌&&◌, ◌||◌,
 use Rattle.std.specs.Str.{IsCharBoundary}
 use Rattle.uri_parts.specs.declared.error.ParseError.{ParseError}
 use Rattle.uri_parts.specs.declared.error.ParseErrorKind.{ParseErrorKind}
-use Rattle.uri_parts.specs.declared.error.ParseErrorKind.TheVariants.{InvalidPctEncodedOctet, UnexpectedChar, InvalidIpv6Addr}
+use Rattle.uri_parts.specs.declared.error.ParseErrorKind.TheVariants.{InvalidPctEncodedOctet}
+use Rattle.uri_parts.specs.declared.error.ParseErrorKind.TheVariants.{UnexpectedChar}
+use Rattle.uri_parts.specs.declared.error.ParseErrorKind.TheVariants.{InvalidIpv6Addr}
 use Rattle.uri_parts.specs.declared.literal.Literal.{Literal}
 use Rattle.uri_parts.specs.declared.literal.Literal.TheVariants as Lit
 use Rattle.uri_parts.specs.Addresses.{ipv6_segments}
@@ -16,7 +18,8 @@ literal_before rest = before_any (codes "]") rest
 
 -- an address and `]` come first
 unfoldable pub reads_literal : List ℕ → Bool
-reads_literal rest = starts 93 (from_any (codes "]") rest) && (is_some (ipv6_value (literal_before rest)) || is_ipv_future (literal_before rest))
+reads_literal rest = starts 93 (from_any (codes "]") rest)
+    && (is_some (ipv6_value (literal_before rest)) || is_ipv_future (literal_before rest))
 
 -- the length of both
 unfoldable pub literal_length : List ℕ → ℕ

@@ -1,5 +1,6 @@
 -- What the parser reads, as functions of the text that is left.
-use Rattle.std.specs.Prelude.{ℕ, length, codes, ◌+◌, Bool, true, false, not, ◌&&◌, ◌||◌, ◌==◌, List, [], ◌∷◌, drop, slice_index, Option, Some, None, if◌then◌else◌}
+use Rattle.std.specs.Prelude.{ℕ, length, codes, ◌+◌, Bool, true, false, not, ◌&&◌, ◌||◌, ◌==◌, List}
+use Rattle.std.specs.Prelude.{[], ◌∷◌, drop, slice_index, Option, Some, None, if◌then◌else◌}
 use Rattle.std.specs.Char.{is_ascii_alphabetic}
 use Rattle.uri_pct.specs.Sets.{TableSet, scheme_set, digit_set, is_one_of}
 use Rattle.uri_pct.specs.Fronts.{front, after}
@@ -24,11 +25,14 @@ is_end (b ∷ rest) = false
 
 -- a fragment if there is one, and then the end
 unfoldable pub reads_fragment : Kind → List ℕ → Bool
-reads_fragment kind rest = if starts 35 rest then reads_after kind.fragment is_end (drop 1 rest) else is_end rest
+reads_fragment kind rest =
+    if starts 35 rest then reads_after kind.fragment is_end (drop 1 rest) else is_end rest
 
 -- a query if there is one, and what follows it
 unfoldable pub reads_end : Kind → List ℕ → Bool
-reads_end kind rest = if starts 63 rest then reads_after kind.query (reads_fragment kind) (drop 1 rest) else reads_fragment kind rest
+reads_end kind rest =
+    if starts 63 rest then reads_after kind.query (reads_fragment kind) (drop 1 rest)
+    else reads_fragment kind rest
 
 -- a path, and what follows it
 unfoldable pub reads_path : Kind → List ℕ → Bool
@@ -47,8 +51,8 @@ port_length rest = if starts 58 rest then 1 + front digit_set (drop 1 rest) else
 unfoldable pub name_length : Kind → List ℕ → ℕ
 name_length kind rest = front kind.reg_name rest + port_length (after kind.reg_name rest)
 
--- An authority ends where `/`, `?`, `#` or nothing follows. Most are a registered name, perhaps with a port, and some have userinfo before it.
--- These are read at once.
+-- An authority ends where `/`, `?`, `#` or nothing follows. Most are a registered name, perhaps
+-- with a port, and some have userinfo before it. These are read at once.
 unfoldable pub finds_name : Kind → List ℕ → Bool
 finds_name kind rest = begins_any (codes "/?#") (drop (name_length kind rest) rest)
 
@@ -57,64 +61,84 @@ abbrev pub behind_user : Kind → List ℕ → List ℕ
 behind_user kind rest = drop 1 (after kind.userinfo rest)
 
 unfoldable pub finds_user : Kind → List ℕ → Bool
-finds_user kind rest = starts 64 (after kind.userinfo rest) && finds_name kind (behind_user kind rest)
+finds_user kind rest =
+    starts 64 (after kind.userinfo rest) && finds_name kind (behind_user kind rest)
 
 -- an authority of any other form is cut out, and taken apart
 unfoldable pub finds_other : Kind → List ℕ → Bool
-finds_other kind rest = finds_user kind rest || reads_whole_authority kind.userinfo kind.reg_name (before_any (codes "/?#") rest)
+finds_other kind rest = finds_user kind rest
+    || reads_whole_authority kind.userinfo kind.reg_name (before_any (codes "/?#") rest)
 
 unfoldable pub finds_authority : Kind → List ℕ → Bool
 finds_authority kind rest = finds_name kind rest || finds_other kind rest
 
 unfoldable pub other_length : Kind → List ℕ → ℕ
 other_length kind rest =
-    if finds_user kind rest then front kind.userinfo rest + 1 + name_length kind (behind_user kind rest)
+    if finds_user kind rest
+    then front kind.userinfo rest + 1 + name_length kind (behind_user kind rest)
     else length (before_any (codes "/?#") rest)
 
 unfoldable pub found_length : Kind → List ℕ → ℕ
-found_length kind rest = if finds_name kind rest then name_length kind rest else other_length kind rest
+found_length kind rest =
+    if finds_name kind rest then name_length kind rest else other_length kind rest
 
 -- an authority that begins at a place, with a registered name from another on
 abbrev pub name_at : Kind → ℕ → ℕ → List ℕ → AuthorityPositions
-name_at kind start host rest = record { start = start; host_start = host; host_end = host + front kind.reg_name rest; end = host + name_length kind rest }
+name_at kind start host rest =
+    record {
+      start = start;
+      host_start = host;
+      host_end = host + front kind.reg_name rest;
+      end = host + name_length kind rest;
+    }
 
 unfoldable pub other_authority : Kind → ℕ → List ℕ → AuthorityPositions
 other_authority kind place rest =
-    if finds_user kind rest then name_at kind place (place + front kind.userinfo rest + 1) (behind_user kind rest)
+    if finds_user kind rest
+    then name_at kind place (place + front kind.userinfo rest + 1) (behind_user kind rest)
     else authority_at place (before_any (codes "/?#") rest)
 
 unfoldable pub found_authority : Kind → ℕ → List ℕ → AuthorityPositions
-found_authority kind place rest = if finds_name kind rest then name_at kind place place rest else other_authority kind place rest
+found_authority kind place rest =
+    if finds_name kind rest then name_at kind place place rest else other_authority kind place rest
 
 -- an authority, and what follows it
 unfoldable pub reads_authority : Kind → List ℕ → Bool
-reads_authority kind rest = finds_authority kind rest && reads_path kind (drop (found_length kind rest) rest)
+reads_authority kind rest =
+    finds_authority kind rest && reads_path kind (drop (found_length kind rest) rest)
 
 -- a path that has no colon behind the characters of a first segment, and what follows it
 unfoldable pub reads_relative : TableSet → Kind → List ℕ → Bool
-reads_relative segment kind rest = reads_after segment (λ r. not (starts 58 r) && reads_path kind r) rest
+reads_relative segment kind rest =
+    reads_after segment (λ r. not (starts 58 r) && reads_path kind r) rest
 
 -- what follows a scheme
 unfoldable pub reads_hier : Kind → List ℕ → Bool
-reads_hier kind rest = if has_authority rest then reads_authority kind (drop 2 rest) else reads_path kind rest
+reads_hier kind rest =
+    if has_authority rest then reads_authority kind (drop 2 rest) else reads_path kind rest
 
 -- a text that has no scheme, of which so many characters are read that may stand in one
 unfoldable pub reads_schemeless : TableSet → Kind → ℕ → List ℕ → Bool
 reads_schemeless segment kind read rest =
-    if read == 0 && has_authority rest then reads_authority kind (drop 2 rest) else reads_relative segment kind rest
+    if read == 0 && has_authority rest then reads_authority kind (drop 2 rest)
+    else reads_relative segment kind rest
 
 unfoldable pub reads : TableSet → Kind → List ℕ → Bool
 reads segment kind text =
     if starts 58 (after scheme_set text)
-    then is_ascii_alphabetic (slice_index text 0) && reads_hier kind (drop 1 (after scheme_set text))
-    else not kind.needs_scheme && reads_schemeless segment kind (front scheme_set text) (after scheme_set text)
+    then is_ascii_alphabetic (slice_index text 0)
+    && reads_hier kind (drop 1 (after scheme_set text))
+    else not kind.needs_scheme
+    && reads_schemeless segment kind (front scheme_set text) (after scheme_set text)
 
 -- where the query ends that begins at a place
 unfoldable pub query_end_at : Kind → ℕ → List ℕ → Option ℕ
-query_end_at kind place rest = if starts 63 rest then Some (place + 1 + front kind.query (drop 1 rest)) else None
+query_end_at kind place rest =
+    if starts 63 rest then Some (place + 1 + front kind.query (drop 1 rest)) else None
 
 -- the positions, where the path begins at `start` and the text is read up to `place` within it
-unfoldable pub path_positions : Kind → Option ℕ → Option AuthorityPositions → ℕ → ℕ → List ℕ → Positions
+unfoldable pub path_positions : Kind → Option ℕ → Option AuthorityPositions → ℕ → ℕ → List ℕ
+    → Positions
 path_positions kind scheme_end authority start place rest =
     let end = place + front kind.path rest in
     record {
@@ -128,18 +152,22 @@ path_positions kind scheme_end authority start place rest =
 unfoldable pub authority_positions : Kind → Option ℕ → ℕ → List ℕ → Positions
 authority_positions kind scheme_end place rest =
     let end = place + found_length kind rest in
-    path_positions kind scheme_end (Some (found_authority kind place rest)) end end (drop (found_length kind rest) rest)
+    path_positions kind scheme_end (Some (found_authority kind place rest)) end end
+    (drop (found_length kind rest) rest)
 
 unfoldable pub hier_positions : Kind → Option ℕ → ℕ → List ℕ → Positions
 hier_positions kind scheme_end place rest =
-    if has_authority rest then authority_positions kind scheme_end (place + 2) (drop 2 rest) else path_positions kind scheme_end None place place rest
+    if has_authority rest then authority_positions kind scheme_end (place + 2) (drop 2 rest)
+    else path_positions kind scheme_end None place place rest
 
 unfoldable pub relative_positions : TableSet → Kind → ℕ → List ℕ → Positions
-relative_positions segment kind place rest = path_positions kind None None 0 (place + front segment rest) (after segment rest)
+relative_positions segment kind place rest =
+    path_positions kind None None 0 (place + front segment rest) (after segment rest)
 
 unfoldable pub schemeless_positions : TableSet → Kind → ℕ → List ℕ → Positions
 schemeless_positions segment kind read rest =
-    if read == 0 && has_authority rest then authority_positions kind None 2 (drop 2 rest) else relative_positions segment kind read rest
+    if read == 0 && has_authority rest then authority_positions kind None 2 (drop 2 rest)
+    else relative_positions segment kind read rest
 
 unfoldable pub read_positions : TableSet → Kind → List ℕ → Positions
 read_positions segment kind text =

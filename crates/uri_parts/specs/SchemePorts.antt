@@ -1,4 +1,5 @@
--- The default ports of schemes: RFC 3986, section 3.2.3. The standard names none, and this list is the project's own.
+-- The default ports of schemes: RFC 3986, section 3.2.3. The standard names none, and this list is
+-- the project's own.
 use Rattle.std.specs.Prelude.{ℕ, List, [], ◌∷◌, codes, bytes_eq, Option, option_map, find}
 use Rattle.std.specs.Str.{str_eq_ignore_ascii_case}
 
@@ -57,4 +58,5 @@ default_port scheme = option_map (λ row. row.1) (find (λ row. bytes_eq row.0 s
 
 -- the port of the first row whose name is this one, ASCII case apart
 unfoldable pub port_ignoring_case : List ℕ → List (List ℕ × ℕ) → Option ℕ
-port_ignoring_case name rows = option_map (λ row. row.1) (find (λ row. str_eq_ignore_ascii_case row.0 name) rows)
+port_ignoring_case name rows =
+    option_map (λ row. row.1) (find (λ row. str_eq_ignore_ascii_case row.0 name) rows)

@@ -96,7 +96,8 @@ impl<'a, U: Encoder, R: Encoder> Authority<'a, U, R> {
 
     /// The userinfo without its `@`, if there is one (RFC 3986, section 3.2.1).
     pub fn userinfo(self) -> Option<EStr<'a, U>>
-        ensures { option_map text_of result ≡ (authority_parts (authority_text self.entry)).userinfo }
+        ensures { option_map text_of result
+            ≡ (authority_parts (authority_text self.entry)).userinfo }
     {
         if self.host_start == 0 {
             return None;
@@ -141,7 +142,8 @@ impl<'a, U: Encoder, R: Encoder> Authority<'a, U, R> {
 
     /// The host by its kind: an address with its numbers, or a registered name.
     pub fn host_parsed(self) -> Host<'a, R>
-        ensures kind { host_kind_of result ≡ host_kind (authority_parts (authority_text self.entry)).host }
+        ensures kind { host_kind_of result
+            ≡ host_kind (authority_parts (authority_text self.entry)).host }
         ensures name { IsNamed result (authority_parts (authority_text self.entry)).host }
     {
         let host = self.host();

@@ -4,7 +4,8 @@ ghost use Rattle.uri_pct.specs.Cows.{cow_text, IsBorrowedText};
 ghost use Rattle.uri_pct.specs.EStrs.{text_of};
 ghost use Rattle.uri_pct.specs.Texts.{is_unencoded};
 ghost use Rattle.uri_parts.specs.Authority.{authority_parts};
-ghost use Rattle.uri_parts.specs.Connecting.{IsAnswerFor, IsBorrowedTarget, IsNameRefusal, name_bytes};
+ghost use Rattle.uri_parts.specs.Connecting.{IsAnswerFor, IsBorrowedTarget, IsNameRefusal};
+ghost use Rattle.uri_parts.specs.Connecting.{name_bytes};
 ghost use Rattle.uri_parts.specs.Hosts.{host_kind};
 ghost use Rattle.uri_parts.specs.PortNumbers.{port_number, FitsPort};
 ghost use Rattle.uri_parts.specs.declared.connect.SocketError.TheVariants.{InvalidPort};
@@ -60,9 +61,14 @@ impl<'a, U: Encoder, R: Encoder> Authority<'a, U, R> {
         alloc: Global,
         default_port: u16,
     ) -> Result<SocketTarget<'a>, SocketError>
-        ensures invalid_port { let p = authority_parts (authority_text self.entry) in ¬ (FitsPort (port_number p.port)) → result ≡ Err InvalidPort }
-        ensures answer { let p = authority_parts (authority_text self.entry) in FitsPort (port_number p.port) → IsAnswerFor p.host (host_kind p.host) (unwrap_or (port_number p.port) default_port) result }
-        ensures borrows { let p = authority_parts (authority_text self.entry) in IsTrue (is_unencoded p.host) → IfOk result IsBorrowedTarget }
+        ensures invalid_port { let p = authority_parts (authority_text self.entry) in
+            ¬ (FitsPort (port_number p.port)) → result ≡ Err InvalidPort }
+        ensures answer { let p = authority_parts (authority_text self.entry) in
+            FitsPort (port_number p.port)
+            → IsAnswerFor p.host (host_kind p.host)
+            (unwrap_or (port_number p.port) default_port) result }
+        ensures borrows { let p = authority_parts (authority_text self.entry) in
+            IsTrue (is_unencoded p.host) → IfOk result IsBorrowedTarget }
     {
         let Ok(port) = self.port_to_u16() else {
             return Err(SocketError::InvalidPort);
@@ -79,7 +85,9 @@ impl<'a, U: Encoder, R: Encoder> Authority<'a, U, R> {
 
 /// The text that a registered name decodes to.
 fn decoded_name<'a, R: Encoder>(alloc: Global, name: EStr<'a, R>) -> Result<CowStr<'a>, SocketError>
-    ensures text { IfOk result (λ text. (cow_text text ≡ name_bytes (text_of name.entry)) × IsUtf8 (name_bytes (text_of name.entry))) }
+    ensures text { IfOk result (λ text.
+        (cow_text text ≡ name_bytes (text_of name.entry))
+        × IsUtf8 (name_bytes (text_of name.entry))) }
     ensures refused { IfErr result (IsNameRefusal (text_of name.entry)) }
     ensures borrows { IsTrue (is_unencoded (text_of name.entry)) → IsOkAnd result IsBorrowedText }
 {

@@ -35,7 +35,7 @@ impl<'a, K: Rules> Clone for CoreText<'a, K> {
 
 impl<'a, K: Rules> Copy for CoreText<'a, K> {}
 
-#[tactic(auto, using(crate::proofs::Parts::scheme_valid, crate::proofs::Parts::authority_valid, crate::proofs::Parts::path_valid, crate::proofs::Parts::query_valid, crate::proofs::Parts::fragment_valid))]
+#[tactic(auto, using(crate::proofs::Parts::parts_valid))]
 impl<'a, K: Encoders> CoreText<'a, K> {
     ghost use Rattle.uri_pct.specs.EStrs.{text_of};
     ghost use Rattle.uri_parts.specs.Schemes.{scheme_text};

@@ -60,7 +60,8 @@ pub(crate) fn of_scheme(scheme: &str) -> Option<u16>
 
 /// The port of the first row with this name, ASCII case apart.
 fn port_in(rows: &[(&str, u16)], name: &str) -> Option<u16>
-    ensures { result ≡ port_ignoring_case name.now (map (λ row. (row.0.now, row.1)) rows.entry.now) }
+    ensures { result ≡ port_ignoring_case name.now
+        (map (λ row. (row.0.now, row.1)) rows.entry.now) }
 {
     let (_, port) = rows.iter().find(|row| row.0.eq_ignore_ascii_case(name))?;
     Some(*port)

@@ -1,7 +1,9 @@
 //! The same text with another fragment (RFC 3986, section 3.5).
-ghost use Rattle.std.specs.Prelude.{◌≡◌, ◌≤◌, ◌<◌, ◌+◌, ◌++◌, ◌∷◌, IfOk, IsOk, OnErr, OnOk, None, length, take, option_map, string_bytes};
+ghost use Rattle.std.specs.Prelude.{◌≡◌, ◌≤◌, ◌<◌, ◌+◌, ◌++◌, ◌∷◌, IfOk, IsOk, OnErr, OnOk, None};
+ghost use Rattle.std.specs.Prelude.{length, take, option_map, string_bytes};
 ghost use Rattle.std.specs.Str.{IsCharBoundary};
 ghost use Rattle.std.specs.String.{string_capacity};
+ghost use Rattle.uri_parts.specs.Appending.{Pushes};
 ghost use Rattle.uri_parts.specs.Fragments.{IsWithFragment, StaysOfKind};
 ghost use Rattle.uri_parts.specs.Positions.{AreAt};
 ghost use Rattle.uri_pct.specs.EStrs.{text_of};
@@ -13,8 +15,9 @@ use uri_pct::pct_enc::EStr;
 
 /// Appends a `#` and the fragment.
 fn push_fragment(text: &mut String, fragment: &str) -> Result<(), AllocError>
-    ensures text { OnOk result (string_bytes text.new ≡ string_bytes text.old ++ (35 ∷ fragment.now)) }
-    ensures full { OnErr result (string_capacity text.old < length (string_bytes text.old) + (length fragment.now + 1)) }
+    ensures text { OnOk result (Pushes text.old text.new (35 ∷ fragment.now)) }
+    ensures full { OnErr result
+        (string_capacity text.old < length (string_bytes text.old) + (length fragment.now + 1)) }
 {
     text.push('#')?;
     text.push_str(fragment)
@@ -54,7 +57,8 @@ pub fn with_fragment<E: Encoder>(
     fragment: Option<EStr<'_, E>>,
 ) -> Result<String, AllocError>
     requires { AreAt text.now positions.now }
-    ensures fragment { IfOk result (λ made. IsWithFragment text.now (option_map text_of fragment.entry) (string_bytes made)) }
+    ensures fragment { IfOk result (λ made.
+        IsWithFragment text.now (option_map text_of fragment.entry) (string_bytes made)) }
     ensures of_kind { IfOk result (λ made. StaysOfKind E.set text.now (string_bytes made)) }
     ensures at { IfOk result (λ made. AreAt (string_bytes made) positions.now) }
 {
@@ -79,7 +83,9 @@ pub fn set_fragment<E: Encoder>(
     fragment: Option<EStr<'_, E>>,
 ) -> Result<(), AllocError>
     requires { AreAt (string_bytes text.old) positions.now }
-    ensures fragment { OnOk result (IsWithFragment (string_bytes text.old) (option_map text_of fragment.entry) (string_bytes text.new)) }
+    ensures fragment { OnOk result
+        (IsWithFragment (string_bytes text.old) (option_map text_of fragment.entry)
+        (string_bytes text.new)) }
     ensures kept { OnErr result (string_bytes text.new ≡ string_bytes text.old) }
     ensures none { fragment.entry ≡ None → IsOk result }
     ensures of_kind { StaysOfKind E.set (string_bytes text.old) (string_bytes text.new) }

@@ -44,7 +44,8 @@ pub fn uri_grammar(needs_scheme: bool) -> Grammar
     }
 }
 
-/// The tables of IRIs, where a scheme is needed, and else of IRI references (RFC 3987, section 2.2).
+/// The tables of IRIs, where a scheme is needed, and else of IRI references (RFC 3987, section
+/// 2.2).
 #[tactic(auto, using(uri_pct::proofs::Constants::isegment_nz_nc_table))]
 #[doc(hidden)]
 pub fn iri_grammar(needs_scheme: bool) -> Grammar

@@ -2,7 +2,8 @@
 ghost use Rattle.std.specs.Prelude.{◌≡◌, ◌≤◌, ◌+◌, IfSome, is_some, length};
 ghost use Rattle.uri_pct.specs.Tables.{set_of};
 ghost use Rattle.uri_parts.specs.Authority.{host_before};
-ghost use Rattle.uri_parts.specs.AuthorityReading.{is_literal, is_name, ends_in_port, reads_host_and_port, reads_whole_authority};
+ghost use Rattle.uri_parts.specs.AuthorityReading.{is_literal, is_name, ends_in_port};
+ghost use Rattle.uri_parts.specs.AuthorityReading.{reads_host_and_port, reads_whole_authority};
 ghost use Rattle.uri_parts.specs.Positions.{host_start_of, host_end_of};
 
 use crate::grammar::Grammar;
@@ -77,7 +78,9 @@ fn find_host_end(names: &Table, text: &str) -> Option<usize>
 #[doc(hidden)]
 #[tactic(auto, unfolding(crate::specs::AuthorityReading::reads_whole_authority))]
 pub fn find_host(grammar: &Grammar, authority: &str) -> Option<HostPlaces>
-    ensures accepts { is_some result ≡ reads_whole_authority (set_of grammar.now.userinfo) (set_of grammar.now.reg_name) authority.now }
+    ensures accepts { is_some result
+        ≡ reads_whole_authority (set_of grammar.now.userinfo)
+        (set_of grammar.now.reg_name) authority.now }
     ensures start { IfSome result (λ h. h.start ≡ host_start_of authority.now) }
     ensures end { IfSome result (λ h. h.end ≡ host_end_of authority.now) }
     ensures within { IfSome result (λ h. (h.start ≤ h.end) × (h.end ≤ length authority.now)) }

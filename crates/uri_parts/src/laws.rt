@@ -7,9 +7,11 @@ ghost use Rattle.std.specs.Str.{IsUtf8};
 ghost use Rattle.std.specs.Net.Text.{ipv4_text, ipv6_text};
 ghost use Rattle.uri_pct.specs.Sets.{TableSet, userinfo_set, reg_name_set};
 ghost use Rattle.uri_parts.specs.Addresses.{ipv4_octets, ipv6_segments};
-ghost use Rattle.uri_parts.specs.Authority.{AuthorityParts, IsAuthorityFor, KeepsApart, authority_parts, is_authority_for};
+ghost use Rattle.uri_parts.specs.Authority.{AuthorityParts, IsAuthorityFor, KeepsApart};
+ghost use Rattle.uri_parts.specs.Authority.{authority_parts, is_authority_for};
 ghost use Rattle.uri_parts.specs.Components.{Components, IsSplitOf, components, recompose};
-ghost use Rattle.uri_parts.specs.Hosts.{HostKind, IsHost, IsIpv4Text, IsIpv6Text, host_kind, is_host};
+ghost use Rattle.uri_parts.specs.Hosts.{HostKind, IsHost, IsIpv4Text, IsIpv6Text, host_kind};
+ghost use Rattle.uri_parts.specs.Hosts.{is_host};
 
 use crate::net::{IpAddr, Ipv4Addr, Ipv6Addr};
 use std::cmp::Ordering;
@@ -102,23 +104,32 @@ pub fn uri_sets_keep_apart()
 /// A text is a host of one kind: RFC 3986, section 3.2.2.
 #[doc(hidden)]
 pub fn a_host_is_of_one_kind()
-    ensures { (users names : TableSet) (text : List ℕ) (host : HostKind) → KeepsApart users names → IsUtf8 text → IsHost names text host → host_kind text ≡ host }
+    ensures { (users names : TableSet) (text : List ℕ) (host : HostKind)
+        → KeepsApart users names → IsUtf8 text
+        → IsHost names text host → host_kind text ≡ host }
 {}
 
 /// The test of a host is its grammar.
 #[doc(hidden)]
 pub fn host_test_is_the_grammar()
-    ensures { (users names : TableSet) (text : List ℕ) → KeepsApart users names → IsUtf8 text → (is_host names text ≡ true ↔ ((host : HostKind) × IsHost names text host)) }
+    ensures { (users names : TableSet) (text : List ℕ)
+        → KeepsApart users names → IsUtf8 text
+        → (is_host names text ≡ true ↔ ((host : HostKind) × IsHost names text host)) }
 {}
 
 /// An authority has one cut into userinfo, host and port: RFC 3986, section 3.2.
 #[doc(hidden)]
 pub fn an_authority_has_one_cut()
-    ensures { (users names : TableSet) (text : List ℕ) (p : AuthorityParts) → KeepsApart users names → IsUtf8 text → IsAuthorityFor users names text p → authority_parts text ≡ p }
+    ensures { (users names : TableSet) (text : List ℕ) (p : AuthorityParts)
+        → KeepsApart users names → IsUtf8 text
+        → IsAuthorityFor users names text p → authority_parts text ≡ p }
 {}
 
 /// The test of an authority is its grammar.
 #[doc(hidden)]
 pub fn authority_test_is_the_grammar()
-    ensures { (users names : TableSet) (text : List ℕ) → KeepsApart users names → IsUtf8 text → (is_authority_for users names text ≡ true ↔ IsAuthorityFor users names text (authority_parts text)) }
+    ensures { (users names : TableSet) (text : List ℕ)
+        → KeepsApart users names → IsUtf8 text
+        → (is_authority_for users names text ≡ true
+        ↔ IsAuthorityFor users names text (authority_parts text)) }
 {}

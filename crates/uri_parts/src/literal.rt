@@ -1,5 +1,6 @@
 //! Addresses in brackets (RFC 3986, section 3.2.2).
-ghost use Rattle.std.specs.Prelude.{◌≡◌, ◌≤◌, ◌<◌, ◌+◌, IsTrue, IfSome, IfOk, IfErr, is_ok, length, drop, slice_index, nat_lt, ◌&&◌, ◌||◌};
+ghost use Rattle.std.specs.Prelude.{◌≡◌, ◌≤◌, ◌<◌, ◌+◌, IsTrue, IfSome, IfOk, IfErr, is_ok, length};
+ghost use Rattle.std.specs.Prelude.{drop, slice_index, nat_lt, ◌&&◌, ◌||◌};
 ghost use Rattle.std.specs.Str.{IsCharBoundary};
 ghost use Rattle.uri_pct.specs.Sets.{hexdig_set, ipv_future_set};
 ghost use Rattle.uri_pct.specs.Tables.{set_of};
@@ -7,7 +8,8 @@ ghost use Rattle.uri_pct.specs.Tokens.{is_valid_for};
 ghost use Rattle.uri_parts.specs.Components.{starts};
 ghost use Rattle.uri_parts.specs.Hosts as Hosts;
 ghost use Rattle.uri_parts.specs.Hosts.{literal_kind, ipv6_value};
-ghost use Rattle.uri_parts.specs.Literals.{IsLiteralRefusal, reads_literal, literal_before, literal_length, kind_of_literal};
+ghost use Rattle.uri_parts.specs.Literals.{IsLiteralRefusal, reads_literal, literal_before};
+ghost use Rattle.uri_parts.specs.Literals.{literal_length, kind_of_literal};
 
 use crate::error::{ParseError, ParseErrorKind};
 use crate::net::Ipv6Addr;
@@ -48,9 +50,11 @@ fn is_lettered(text: &str) -> bool
 }
 
 /// Whether the version and the address are spelt as those of an IPvFuture address.
-#[tactic(auto, using(uri_pct::proofs::Constants::hexdig_table, uri_pct::proofs::Constants::ipv_future_table))]
+#[tactic(auto, using(uri_pct::proofs::Constants::constant_tables))]
 fn is_versioned(version: &str, address: &str) -> bool
-    ensures { result ≡ ((nat_lt 0 (length version.now) && is_valid_for hexdig_set version.now) && (nat_lt 0 (length address.now) && is_valid_for ipv_future_set address.now)) }
+    ensures { result
+        ≡ ((nat_lt 0 (length version.now) && is_valid_for hexdig_set version.now)
+        && (nat_lt 0 (length address.now) && is_valid_for ipv_future_set address.now)) }
 {
     is_spelt(version, &HEXDIG) && is_spelt(address, &IPV_FUTURE)
 }
@@ -206,7 +210,8 @@ fn refusal(text: &str, start: usize) -> ParseError
 pub fn read_literal(text: &str, start: usize) -> Result<(Literal, usize), ParseError>
     requires { IsCharBoundary text.now start }
     ensures accepts { is_ok result ≡ reads_literal (drop start text.now) }
-    ensures kind { IfOk result (λ r. kind_of_literal r.0 ≡ literal_kind (ipv6_value (literal_before (drop start text.now)))) }
+    ensures kind { IfOk result (λ r.
+        kind_of_literal r.0 ≡ literal_kind (ipv6_value (literal_before (drop start text.now)))) }
     ensures end { IfOk result (λ r. r.1 ≡ start + literal_length (drop start text.now)) }
     ensures boundary { IfOk result (λ r. IsCharBoundary text.now r.1) }
     ensures err { IfErr result (IsLiteralRefusal text.now start) }

@@ -1,14 +1,21 @@
 //! The parser of the four kinds.
-ghost use Rattle.std.specs.Prelude.{◌≡◌, ◌↔◌, ◌+◌, ◌&&◌, drop, IfErr, IfOk, IfSome, IsOk, OnOk, is_ok, is_some, Some, None};
+ghost use Rattle.std.specs.Prelude.{◌≡◌, ◌↔◌, ◌+◌, ◌&&◌, drop, IfErr, IfOk, IfSome, IsOk, OnOk};
+ghost use Rattle.std.specs.Prelude.{is_ok, is_some, Some, None};
 ghost use Rattle.std.specs.Str.{IsCharBoundary};
 ghost use Rattle.uri_pct.specs.Fronts.{front};
 ghost use Rattle.uri_pct.specs.Tables.{set_of};
 ghost use Rattle.uri_parts.specs.Errors.{IsErrorIn};
 ghost use Rattle.uri_parts.specs.Grammar.{IsOfKind, uri, uri_ref, iri, iri_ref};
-ghost use Rattle.uri_parts.specs.Grammars.{kind_of};
+ghost use Rattle.uri_parts.specs.Grammars.{kind_of, segment_nz_nc_of};
 ghost use Rattle.uri_parts.specs.Positions.{AreAt};
-ghost use Rattle.uri_parts.specs.Readers.{rest_of, text_of, place_of};
-ghost use Rattle.uri_parts.specs.Reading.{reads_fragment, reads_end, reads_path, finds_name, name_length, finds_other, other_authority, finds_authority, found_length, found_authority, reads_authority, reads_relative, reads_hier, reads_schemeless, reads, query_end_at, path_positions, authority_positions, relative_positions, hier_positions, schemeless_positions, read_positions};
+ghost use Rattle.uri_parts.specs.Readers.{rest_of, text_of, place_of, positions_from};
+ghost use Rattle.uri_parts.specs.Reading.{reads_fragment, reads_end, reads_path, finds_name};
+ghost use Rattle.uri_parts.specs.Reading.{name_length, finds_other, other_authority};
+ghost use Rattle.uri_parts.specs.Reading.{finds_authority, found_length, found_authority};
+ghost use Rattle.uri_parts.specs.Reading.{reads_authority, reads_relative, reads_hier};
+ghost use Rattle.uri_parts.specs.Reading.{reads_schemeless, reads, query_end_at};
+ghost use Rattle.uri_parts.specs.Reading.{authority_positions, relative_positions, hier_positions};
+ghost use Rattle.uri_parts.specs.Reading.{schemeless_positions, read_positions};
 
 use crate::error::ParseError;
 use crate::fault::authority_fault;
@@ -39,7 +46,8 @@ fn read_fragment(reader: &mut Reader<'_>, grammar: &Grammar) -> Result<(), Parse
 #[inline(always)]
 fn read_end(reader: &mut Reader<'_>, grammar: &Grammar) -> Result<Option<usize>, ParseError>
     ensures accepts { is_ok result ≡ reads_end (kind_of grammar.now) (rest_of reader.old) }
-    ensures place { IfOk result (λ end. end ≡ query_end_at (kind_of grammar.now) (place_of reader.old) (rest_of reader.old)) }
+    ensures place { IfOk result (λ end.
+        end ≡ query_end_at (kind_of grammar.now) (place_of reader.old) (rest_of reader.old)) }
     ensures err { IfErr result (IsErrorIn (text_of reader.old)) }
 {
     let mut query_end = None;
@@ -68,7 +76,7 @@ fn read_path(
     before: BeforePath,
 ) -> Result<Positions, ParseError>
     ensures accepts { is_ok result ≡ reads_path (kind_of grammar.now) (rest_of reader.old) }
-    ensures places { IfOk result (λ p. p ≡ path_positions (kind_of grammar.now) before.scheme_end before.authority before.path_start (place_of reader.old) (rest_of reader.old)) }
+    ensures places { IfOk result (λ p. p ≡ positions_from (kind_of grammar.now) before reader.old) }
     ensures err { IfErr result (IsErrorIn (text_of reader.old)) }
 {
     reader.pass(&grammar.path)?;
@@ -89,10 +97,13 @@ fn read_path(
 #[inline(always)]
 fn find_name(reader: &mut Reader<'_>, grammar: &Grammar) -> Option<usize>
     ensures finds { is_some result ≡ finds_name (kind_of grammar.now) (rest_of reader.old) }
-    ensures end { IfSome result (λ n. n ≡ place_of reader.old + front (set_of grammar.now.reg_name) (rest_of reader.old)) }
+    ensures end { IfSome result (λ n.
+        n ≡ place_of reader.old + front (set_of grammar.now.reg_name) (rest_of reader.old)) }
     ensures text { text_of reader.new ≡ text_of reader.old }
-    ensures place { place_of reader.new ≡ place_of reader.old + name_length (kind_of grammar.now) (rest_of reader.old) }
-    ensures rest { rest_of reader.new ≡ drop (name_length (kind_of grammar.now) (rest_of reader.old)) (rest_of reader.old) }
+    ensures place { place_of reader.new
+        ≡ place_of reader.old + name_length (kind_of grammar.now) (rest_of reader.old) }
+    ensures rest { rest_of reader.new
+        ≡ drop (name_length (kind_of grammar.now) (rest_of reader.old)) (rest_of reader.old) }
 {
     reader.read(&grammar.reg_name);
     let name_end = reader.position();
@@ -114,7 +125,8 @@ fn find_other_authority(
     grammar: &Grammar,
 ) -> Result<AuthorityPositions, ParseError>
     ensures accepts { is_ok result ≡ finds_other (kind_of grammar.now) (rest_of reader.entry) }
-    ensures found { IfOk result (λ a. a ≡ other_authority (kind_of grammar.now) (place_of reader.entry) (rest_of reader.entry)) }
+    ensures found { IfOk result (λ a.
+        a ≡ other_authority (kind_of grammar.now) (place_of reader.entry) (rest_of reader.entry)) }
     ensures boundary { IfOk result (λ a. IsCharBoundary (text_of reader.entry) a.end) }
     ensures err { IfErr result (IsErrorIn (text_of reader.entry)) }
 {
@@ -153,10 +165,13 @@ fn find_authority(
     grammar: &Grammar,
 ) -> Result<AuthorityPositions, ParseError>
     ensures accepts { is_ok result ≡ finds_authority (kind_of grammar.now) (rest_of reader.old) }
-    ensures found { IfOk result (λ a. a ≡ found_authority (kind_of grammar.now) (place_of reader.old) (rest_of reader.old)) }
+    ensures found { IfOk result (λ a.
+        a ≡ found_authority (kind_of grammar.now) (place_of reader.old) (rest_of reader.old)) }
     ensures text { text_of reader.new ≡ text_of reader.old }
-    ensures place { OnOk result (place_of reader.new ≡ place_of reader.old + found_length (kind_of grammar.now) (rest_of reader.old)) }
-    ensures rest { OnOk result (rest_of reader.new ≡ drop (found_length (kind_of grammar.now) (rest_of reader.old)) (rest_of reader.old)) }
+    ensures place { OnOk result (place_of reader.new
+        ≡ place_of reader.old + found_length (kind_of grammar.now) (rest_of reader.old)) }
+    ensures rest { OnOk result (rest_of reader.new
+        ≡ drop (found_length (kind_of grammar.now) (rest_of reader.old)) (rest_of reader.old)) }
     ensures err { IfErr result (IsErrorIn (text_of reader.old)) }
 {
     let start = reader.position();
@@ -183,8 +198,11 @@ fn pass_authority(
     grammar: &Grammar,
     scheme_end: Option<usize>,
 ) -> Result<BeforePath, ParseError>
-    ensures accepts { reads_authority (kind_of grammar.now) (rest_of reader.old) ≡ (is_ok result && reads_path (kind_of grammar.now) (rest_of reader.new)) }
-    ensures places { IfOk result (λ b. authority_positions (kind_of grammar.now) scheme_end (place_of reader.old) (rest_of reader.old) ≡ path_positions (kind_of grammar.now) b.scheme_end b.authority b.path_start (place_of reader.new) (rest_of reader.new)) }
+    ensures accepts { reads_authority (kind_of grammar.now) (rest_of reader.old)
+        ≡ (is_ok result && reads_path (kind_of grammar.now) (rest_of reader.new)) }
+    ensures places { let kind = kind_of grammar.now in IfOk result (λ b.
+        authority_positions kind scheme_end (place_of reader.old) (rest_of reader.old)
+        ≡ positions_from kind b reader.new) }
     ensures text { text_of reader.new ≡ text_of reader.old }
     ensures err { IfErr result (IsErrorIn (text_of reader.old)) }
 {
@@ -204,8 +222,11 @@ fn pass_hier(
     grammar: &Grammar,
     scheme_end: usize,
 ) -> Result<BeforePath, ParseError>
-    ensures accepts { reads_hier (kind_of grammar.now) (rest_of reader.old) ≡ (is_ok result && reads_path (kind_of grammar.now) (rest_of reader.new)) }
-    ensures places { IfOk result (λ b. hier_positions (kind_of grammar.now) (Some scheme_end) (place_of reader.old) (rest_of reader.old) ≡ path_positions (kind_of grammar.now) b.scheme_end b.authority b.path_start (place_of reader.new) (rest_of reader.new)) }
+    ensures accepts { reads_hier (kind_of grammar.now) (rest_of reader.old)
+        ≡ (is_ok result && reads_path (kind_of grammar.now) (rest_of reader.new)) }
+    ensures places { let kind = kind_of grammar.now in IfOk result (λ b.
+        hier_positions kind (Some scheme_end) (place_of reader.old) (rest_of reader.old)
+        ≡ positions_from kind b reader.new) }
     ensures text { text_of reader.new ≡ text_of reader.old }
     ensures err { IfErr result (IsErrorIn (text_of reader.old)) }
 {
@@ -224,8 +245,12 @@ fn pass_hier(
 #[tactic(auto, unfolding(crate::specs::Reading::reads_relative, crate::specs::Reading::relative_positions))]
 #[inline(always)]
 fn pass_relative(reader: &mut Reader<'_>, grammar: &Grammar) -> Result<BeforePath, ParseError>
-    ensures accepts { reads_relative (set_of grammar.now.segment_nz_nc) (kind_of grammar.now) (rest_of reader.old) ≡ (is_ok result && reads_path (kind_of grammar.now) (rest_of reader.new)) }
-    ensures places { IfOk result (λ b. relative_positions (set_of grammar.now.segment_nz_nc) (kind_of grammar.now) (place_of reader.old) (rest_of reader.old) ≡ path_positions (kind_of grammar.now) b.scheme_end b.authority b.path_start (place_of reader.new) (rest_of reader.new)) }
+    ensures accepts { let segment = segment_nz_nc_of grammar.now in
+        reads_relative segment (kind_of grammar.now) (rest_of reader.old)
+        ≡ (is_ok result && reads_path (kind_of grammar.now) (rest_of reader.new)) }
+    ensures places { let segment = segment_nz_nc_of grammar.now in IfOk result (λ b.
+        relative_positions segment (kind_of grammar.now) (place_of reader.old) (rest_of reader.old)
+        ≡ positions_from (kind_of grammar.now) b reader.new) }
     ensures text { text_of reader.new ≡ text_of reader.old }
     ensures err { IfErr result (IsErrorIn (text_of reader.old)) }
 {
@@ -245,8 +270,13 @@ fn pass_relative(reader: &mut Reader<'_>, grammar: &Grammar) -> Result<BeforePat
 #[tactic(auto, unfolding(crate::specs::Reading::reads_schemeless, crate::specs::Reading::schemeless_positions))]
 #[inline(always)]
 fn pass_schemeless(reader: &mut Reader<'_>, grammar: &Grammar) -> Result<BeforePath, ParseError>
-    ensures accepts { reads_schemeless (set_of grammar.now.segment_nz_nc) (kind_of grammar.now) (place_of reader.old) (rest_of reader.old) ≡ (is_ok result && reads_path (kind_of grammar.now) (rest_of reader.new)) }
-    ensures places { IfOk result (λ b. schemeless_positions (set_of grammar.now.segment_nz_nc) (kind_of grammar.now) (place_of reader.old) (rest_of reader.old) ≡ path_positions (kind_of grammar.now) b.scheme_end b.authority b.path_start (place_of reader.new) (rest_of reader.new)) }
+    ensures accepts { let segment = segment_nz_nc_of grammar.now in
+        reads_schemeless segment (kind_of grammar.now) (place_of reader.old) (rest_of reader.old)
+        ≡ (is_ok result && reads_path (kind_of grammar.now) (rest_of reader.new)) }
+    ensures places { let segment = segment_nz_nc_of grammar.now in
+        let kind = kind_of grammar.now in IfOk result (λ b.
+        schemeless_positions segment kind (place_of reader.old) (rest_of reader.old)
+        ≡ positions_from kind b reader.new) }
     ensures text { text_of reader.new ≡ text_of reader.old }
     ensures err { IfErr result (IsErrorIn (text_of reader.old)) }
 {
@@ -262,8 +292,12 @@ fn pass_schemeless(reader: &mut Reader<'_>, grammar: &Grammar) -> Result<BeforeP
 #[inline(always)]
 fn pass_front(reader: &mut Reader<'_>, grammar: &Grammar) -> Result<BeforePath, ParseError>
     requires { place_of reader.old ≡ 0 }
-    ensures accepts { reads (set_of grammar.now.segment_nz_nc) (kind_of grammar.now) (text_of reader.old) ≡ (is_ok result && reads_path (kind_of grammar.now) (rest_of reader.new)) }
-    ensures places { IfOk result (λ b. read_positions (set_of grammar.now.segment_nz_nc) (kind_of grammar.now) (text_of reader.old) ≡ path_positions (kind_of grammar.now) b.scheme_end b.authority b.path_start (place_of reader.new) (rest_of reader.new)) }
+    ensures accepts { let kind = kind_of grammar.now in
+        reads (segment_nz_nc_of grammar.now) kind (text_of reader.old)
+        ≡ (is_ok result && reads_path kind (rest_of reader.new)) }
+    ensures places { let kind = kind_of grammar.now in IfOk result (λ b.
+        read_positions (segment_nz_nc_of grammar.now) kind (text_of reader.old)
+        ≡ positions_from kind b reader.new) }
     ensures text { text_of reader.new ≡ text_of reader.old }
     ensures err { IfErr result (IsErrorIn (text_of reader.old)) }
 {
@@ -286,8 +320,10 @@ fn pass_front(reader: &mut Reader<'_>, grammar: &Grammar) -> Result<BeforePath, 
 #[tactic(auto)]
 #[inline(always)]
 fn read_text(grammar: &Grammar, text: &str) -> Result<Positions, ParseError>
-    ensures accepts { is_ok result ≡ reads (set_of grammar.now.segment_nz_nc) (kind_of grammar.now) text.now }
-    ensures places { IfOk result (λ p. p ≡ read_positions (set_of grammar.now.segment_nz_nc) (kind_of grammar.now) text.now) }
+    ensures accepts { is_ok result
+        ≡ reads (segment_nz_nc_of grammar.now) (kind_of grammar.now) text.now }
+    ensures places { IfOk result (λ p.
+        p ≡ read_positions (segment_nz_nc_of grammar.now) (kind_of grammar.now) text.now) }
     ensures err { IfErr result (IsErrorIn text.now) }
 {
     let mut reader = Reader::new(text);
@@ -296,7 +332,7 @@ fn read_text(grammar: &Grammar, text: &str) -> Result<Positions, ParseError>
 }
 
 /// Where the components of a URI lie (RFC 3986, section 3), or why the text is none.
-#[tactic(auto, using(crate::proofs::Texts::reads_of_kind, crate::proofs::ReadPositions::positions_read, crate::proofs::KindLemmas::uri_separates))]
+#[tactic(auto, using(crate::proofs::WholeTexts::whole_texts))]
 pub fn parse_uri(text: &str) -> Result<Positions, ParseError>
     ensures accepts { IsOk result ↔ IsOfKind uri text.now }
     ensures positions { IfOk result (AreAt text.now) }
@@ -306,7 +342,7 @@ pub fn parse_uri(text: &str) -> Result<Positions, ParseError>
 }
 
 /// Where the components of a URI reference lie (RFC 3986, section 4.1), or why the text is none.
-#[tactic(auto, using(crate::proofs::Texts::reads_of_kind, crate::proofs::ReadPositions::positions_read, crate::proofs::KindLemmas::uri_ref_separates))]
+#[tactic(auto, using(crate::proofs::WholeTexts::whole_texts))]
 pub fn parse_uri_ref(text: &str) -> Result<Positions, ParseError>
     ensures accepts { IsOk result ↔ IsOfKind uri_ref text.now }
     ensures positions { IfOk result (AreAt text.now) }
@@ -316,7 +352,7 @@ pub fn parse_uri_ref(text: &str) -> Result<Positions, ParseError>
 }
 
 /// Where the components of an IRI lie (RFC 3987, section 2.2), or why the text is none.
-#[tactic(auto, using(crate::proofs::Texts::reads_of_kind, crate::proofs::ReadPositions::positions_read, crate::proofs::KindLemmas::iri_separates))]
+#[tactic(auto, using(crate::proofs::WholeTexts::whole_texts))]
 pub fn parse_iri(text: &str) -> Result<Positions, ParseError>
     ensures accepts { IsOk result ↔ IsOfKind iri text.now }
     ensures positions { IfOk result (AreAt text.now) }
@@ -326,7 +362,7 @@ pub fn parse_iri(text: &str) -> Result<Positions, ParseError>
 }
 
 /// Where the components of an IRI reference lie (RFC 3987, section 2.2), or why the text is none.
-#[tactic(auto, using(crate::proofs::Texts::reads_of_kind, crate::proofs::ReadPositions::positions_read, crate::proofs::KindLemmas::iri_ref_separates))]
+#[tactic(auto, using(crate::proofs::WholeTexts::whole_texts))]
 pub fn parse_iri_ref(text: &str) -> Result<Positions, ParseError>
     ensures accepts { IsOk result ↔ IsOfKind iri_ref text.now }
     ensures positions { IfOk result (AreAt text.now) }

@@ -19,7 +19,8 @@ impl<'a, U: Encoder, R: Encoder> Authority<'a, U, R> {
     /// The error comes exactly if the number is over 65535, however long it is; its kind is
     /// `PosOverflow`.
     pub fn port_to_u16(self) -> Result<Option<u16>, ParseIntError>
-        ensures number { let number = port_number (authority_parts (authority_text self.entry)).port in OkIff result (FitsPort number) number }
+        ensures number { let p = authority_parts (authority_text self.entry) in
+            OkIff result (FitsPort (port_number p.port)) (port_number p.port) }
         ensures refused { IfErr result (λ e. error_kind e ≡ PosOverflow) }
     {
         match self.port() {

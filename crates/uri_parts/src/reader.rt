@@ -1,5 +1,6 @@
 //! A place in a text.
-ghost use Rattle.std.specs.Prelude.{◌≡◌, ◌≤◌, ◌<◌, ◌+◌, ◌==◌, not, length, drop, codes, OnOk, IfErr, is_ok, if◌then◌else◌};
+ghost use Rattle.std.specs.Prelude.{◌≡◌, ◌≤◌, ◌<◌, ◌+◌, ◌==◌, not, length, drop, codes, OnOk};
+ghost use Rattle.std.specs.Prelude.{IfErr, is_ok, if◌then◌else◌};
 ghost use Rattle.std.specs.Str.{IsCharBoundary};
 
 use crate::error::{ParseError, ParseErrorKind};
@@ -79,7 +80,8 @@ impl<'a> Reader<'a> {
     #[inline(always)]
     pub fn read(&mut self, table: &Table)
         ensures text { text_of self.new ≡ text_of self.old }
-        ensures place { place_of self.new ≡ place_of self.old + front (set_of table.now) (rest_of self.old) }
+        ensures place { place_of self.new
+            ≡ place_of self.old + front (set_of table.now) (rest_of self.old) }
         ensures rest { rest_of self.new ≡ after (set_of table.now) (rest_of self.old) }
     {
         self.position = table.read(self.text, self.position);
@@ -101,8 +103,10 @@ impl<'a> Reader<'a> {
     pub fn pass_authority(&mut self) -> &'a str
         ensures value { result.now ≡ before_any (codes "/?#") (rest_of self.old) }
         ensures text { text_of self.new ≡ text_of self.old }
-        ensures place { place_of self.new ≡ place_of self.old + length (before_any (codes "/?#") (rest_of self.old)) }
-        ensures rest { rest_of self.new ≡ drop (length (before_any (codes "/?#") (rest_of self.old))) (rest_of self.old) }
+        ensures place { place_of self.new
+            ≡ place_of self.old + length (before_any (codes "/?#") (rest_of self.old)) }
+        ensures rest { rest_of self.new
+            ≡ drop (length (before_any (codes "/?#") (rest_of self.old))) (rest_of self.old) }
     {
         let (authority, _) = cut_before(&self.text[self.position..], b"/?#");
         self.position += authority.len();
@@ -115,9 +119,12 @@ impl<'a> Reader<'a> {
     #[inline(always)]
     pub fn pass(&mut self, table: &Table) -> Result<(), ParseError>
         ensures text { text_of self.new ≡ text_of self.old }
-        ensures place { OnOk result (place_of self.new ≡ place_of self.old + front (set_of table.now) (rest_of self.old)) }
-        ensures rest { OnOk result (rest_of self.new ≡ after (set_of table.now) (rest_of self.old)) }
-        ensures stray { is_ok result ≡ not (is_stray (set_of table.now) (after (set_of table.now) (rest_of self.old))) }
+        ensures place { OnOk result
+            (place_of self.new ≡ place_of self.old + front (set_of table.now) (rest_of self.old)) }
+        ensures rest { OnOk result
+            (rest_of self.new ≡ after (set_of table.now) (rest_of self.old)) }
+        ensures stray { is_ok result
+            ≡ not (is_stray (set_of table.now) (after (set_of table.now) (rest_of self.old))) }
         ensures err { IfErr result (IsErrorIn (text_of self.old)) }
     {
         let end = table.read(self.text, self.position);
@@ -155,8 +162,10 @@ impl<'a> Reader<'a> {
         requires { byte < 128 }
         ensures value { result ≡ starts byte (rest_of self.old) }
         ensures text { text_of self.new ≡ text_of self.old }
-        ensures place { place_of self.new ≡ (if result then place_of self.old + 1 else place_of self.old) }
-        ensures rest { rest_of self.new ≡ (if result then drop 1 (rest_of self.old) else rest_of self.old) }
+        ensures place { place_of self.new
+            ≡ (if result then place_of self.old + 1 else place_of self.old) }
+        ensures rest { rest_of self.new
+            ≡ (if result then drop 1 (rest_of self.old) else rest_of self.old) }
     {
         let bytes = self.text.as_bytes();
         let i = self.position;
@@ -173,8 +182,10 @@ impl<'a> Reader<'a> {
     pub fn skip_slashes(&mut self) -> bool
         ensures value { result ≡ has_authority (rest_of self.old) }
         ensures text { text_of self.new ≡ text_of self.old }
-        ensures place { place_of self.new ≡ (if result then place_of self.old + 2 else place_of self.old) }
-        ensures rest { rest_of self.new ≡ (if result then drop 2 (rest_of self.old) else rest_of self.old) }
+        ensures place { place_of self.new
+            ≡ (if result then place_of self.old + 2 else place_of self.old) }
+        ensures rest { rest_of self.new
+            ≡ (if result then drop 2 (rest_of self.old) else rest_of self.old) }
     {
         let bytes = self.text.as_bytes();
         let i = self.position;

@@ -1,14 +1,16 @@
 //! The text that a builder writes, with the lengths of its parts (RFC 3986, section 5.3).
-ghost use Rattle.std.specs.Prelude.{◌≡◌, ◌++◌, ◌==◌, ◌&&◌, ◌+◌, ◌≤◌, IfSome, [], codes, false, length, unwrap_or, true, string_bytes};
+ghost use Rattle.std.specs.Prelude.{◌≡◌, ◌==◌, ◌&&◌, ◌+◌, ◌≤◌, IfSome, [], codes, false, length};
+ghost use Rattle.std.specs.Prelude.{unwrap_or, true, string_bytes};
 ghost use Rattle.uri_pct.specs.Tokens.{is_valid_for};
-ghost use Rattle.uri_parts.specs.Components.{starts};
+ghost use Rattle.uri_parts.specs.Appending.{Pushes};
 ghost use Rattle.uri_parts.specs.Grammar.{has_colon_first, is_authority, is_scheme};
-ghost use Rattle.uri_ops.specs.BuilderParts.{Adds, known_kind, no_parts, with_authority, with_fragment, with_path, with_query, with_scheme};
+ghost use Rattle.uri_ops.specs.BuilderParts.{Adds, known_kind, no_parts, with_authority};
+ghost use Rattle.uri_ops.specs.BuilderParts.{with_fragment, with_path, with_query, with_scheme};
 ghost use Rattle.uri_ops.specs.Built.{refusal_of};
 ghost use Rattle.uri_ops.specs.Drafts.{IsDraft, behind_part};
 
 use crate::build::BuildError;
-use crate::resolve::begins_with_two_slashes;
+use crate::slashes::{begins_with_slash, begins_with_two_slashes};
 use std::alloc::Global;
 
 /// How long each part is, where it is there, in bytes.
@@ -34,19 +36,22 @@ pub struct Draft {
     pub international: bool,
     /// Whether the kind needs a scheme.
     pub needs_scheme: bool,
-    pub ghost ok: { failed ≡ false → IsDraft (known_kind international needs_scheme) lengths (string_bytes text) },
+    pub ghost ok: { failed ≡ false
+        → IsDraft (known_kind international needs_scheme) lengths (string_bytes text) },
 }
 
 /// Appends to a text, unless it has failed, and answers whether it has failed now.
 fn append(text: &mut String, failed: bool, piece: &str) -> bool
     ensures kept { result ≡ false → failed ≡ false }
-    ensures text { result ≡ false → string_bytes text.new ≡ string_bytes text.old ++ piece.now }
+    ensures text { result ≡ false → Pushes text.old text.new piece.now }
 {
     failed || text.push_str(piece).is_err()
 }
 
 impl Draft {
-    ghost use Rattle.uri_ops.specs.Builders.{Follows, draft_kind, draft_parts, is_before_authority, is_before_fragment, is_before_path, is_before_query, is_before_userinfo, is_at_end, is_fresh, same};
+    ghost use Rattle.uri_ops.specs.Builders.{Follows, draft_kind, draft_parts, is_before_authority};
+    ghost use Rattle.uri_ops.specs.Builders.{is_before_fragment, is_before_path, is_before_query};
+    ghost use Rattle.uri_ops.specs.Builders.{is_before_userinfo, is_at_end, is_fresh, same};
     ghost use Rattle.uri_ops.specs.Built.{refusal};
 
     /// A draft that holds nothing.
@@ -73,7 +78,9 @@ impl Draft {
 
     /// Whether it was begun for such a kind.
     pub fn is_for(&self, international: bool, needs_scheme: bool) -> bool
-        ensures { result ≡ (same self.now.international international && same self.now.needs_scheme needs_scheme) }
+        ensures { result
+            ≡ (same self.now.international international
+            && same self.now.needs_scheme needs_scheme) }
     {
         self.international == international && self.needs_scheme == needs_scheme
     }
@@ -181,7 +188,8 @@ impl Draft {
     /// With a query behind its `?`.
     pub fn with_query(self, query: &str) -> Draft
         requires before { is_before_query self ≡ true }
-        requires rule { self.failed ≡ false → is_valid_for (draft_kind self).query query.now ≡ true }
+        requires rule { self.failed ≡ false
+            → is_valid_for (draft_kind self).query query.now ≡ true }
         ensures adds { Adds (with_query query.now) (draft_parts self) (draft_parts result) }
         ensures follows { Follows self result }
         ensures at { is_before_fragment result ≡ true }
@@ -210,7 +218,8 @@ impl Draft {
     /// With a fragment behind its `#`.
     pub fn with_fragment(self, fragment: &str) -> Draft
         requires before { is_before_fragment self ≡ true }
-        requires rule { self.failed ≡ false → is_valid_for (draft_kind self).fragment fragment.now ≡ true }
+        requires rule { self.failed ≡ false
+            → is_valid_for (draft_kind self).fragment fragment.now ≡ true }
         ensures adds { Adds (with_fragment fragment.now) (draft_parts self) (draft_parts result) }
         ensures follows { Follows self result }
         ensures at { is_at_end result ≡ true }
@@ -280,13 +289,6 @@ fn has_colon_first(path: &[u8]) -> bool
     path.iter()
         .take_while(|byte| **byte != b'/')
         .any(|byte| *byte == b':')
-}
-
-/// Whether a path begins with `/`.
-fn begins_with_slash(path: &[u8]) -> bool
-    ensures { result ≡ starts 47 path.now }
-{
-    path.first() == Some(&b'/')
 }
 
 /// Why a path is refused behind what stands before it.

@@ -1,7 +1,14 @@
 //! The states of a builder, and the steps from one to another (RFC 3986, section 3).
 ghost use Rattle.std.specs.Prelude.{◌≡◌, true};
-ghost use Rattle.uri_ops.specs.MarkedBuilders.{marked_at_end, marked_before_authority, marked_before_fragment, marked_before_host, marked_before_path, marked_before_port, marked_before_query, marked_before_userinfo, marked_fresh};
-ghost use Rattle.uri_ops.specs.Builders.{is_at_end, is_before_authority, is_before_fragment, is_before_host, is_before_path, is_before_port, is_before_query, is_before_userinfo, is_fresh, is_fresh_reference, is_in_authority};
+ghost use Rattle.uri_ops.specs.MarkedBuilders.{marked_at_end, marked_before_authority};
+ghost use Rattle.uri_ops.specs.MarkedBuilders.{marked_before_fragment, marked_before_host};
+ghost use Rattle.uri_ops.specs.MarkedBuilders.{marked_before_path, marked_before_port};
+ghost use Rattle.uri_ops.specs.MarkedBuilders.{marked_before_query, marked_before_userinfo};
+ghost use Rattle.uri_ops.specs.MarkedBuilders.{marked_fresh};
+ghost use Rattle.uri_ops.specs.Builders.{is_at_end, is_before_authority, is_before_fragment};
+ghost use Rattle.uri_ops.specs.Builders.{is_before_host, is_before_path, is_before_port};
+ghost use Rattle.uri_ops.specs.Builders.{is_before_query, is_before_userinfo, is_fresh};
+ghost use Rattle.uri_ops.specs.Builders.{is_fresh_reference, is_in_authority};
 
 use crate::build::draft::Draft;
 
