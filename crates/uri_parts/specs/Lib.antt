@@ -1,6 +1,5 @@
 pub mod Addresses
 pub mod Authority
-pub mod Authorities
 pub mod AuthorityReading
 pub mod AuthorityTexts
 pub mod Components
