@@ -17,7 +17,6 @@ pub use Rattle.uri_pct.specs.Tables
 pub use Rattle.uri_pct.specs.Texts
 pub use Rattle.uri_pct.specs.Tokens
 pub use Rattle.uri_parts.specs.Addresses
-pub use Rattle.uri_parts.specs.Authorities
 pub use Rattle.uri_parts.specs.Authority
 pub use Rattle.uri_parts.specs.AuthorityTexts
 pub use Rattle.uri_parts.specs.Components

@@ -117,16 +117,6 @@ impl<T: AsStr> RiMaybeRef for IriRef<T> {
     ghost rules_of_kind = { refl };
 
     ghost component_sets = { iri_ref_sets };
-
-    ghost userinfo_set = { refl };
-
-    ghost reg_name_set = { refl };
-
-    ghost path_set = { refl };
-
-    ghost query_set = { refl };
-
-    ghost fragment_set = { refl };
 }
 
 impl<T: AsStr> WithOwned for IriRef<T> {

@@ -113,16 +113,6 @@ impl<T: AsStr> RiMaybeRef for Uri<T> {
     ghost rules_of_kind = { refl };
 
     ghost component_sets = { uri_sets };
-
-    ghost userinfo_set = { refl };
-
-    ghost reg_name_set = { refl };
-
-    ghost path_set = { refl };
-
-    ghost query_set = { refl };
-
-    ghost fragment_set = { refl };
 }
 
 impl<T: AsStr> WithOwned for Uri<T> {

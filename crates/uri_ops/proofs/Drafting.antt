@@ -98,11 +98,6 @@ rules_of kind p e =
 pub by_rules : (kind : Kind) (p : BuilderParts) → Rules kind p → meet_rules kind p ≡ true
 by_rules kind p r = and_from _ _ r.scheme (and_from _ _ r.authority (and_from _ _ r.path (and_from _ _ r.query r.fragment)))
 
--- what is not there
-none_is : (o : Option (List ℕ)) → option_map length o ≡ None → o ≡ None
-none_is None e = refl
-none_is (Some x) e = absurd (false≢true (sym (ap is_some e)))
-
 pub none_of : (n : Option ℕ) → is_none n ≡ true → n ≡ None
 none_of None e = refl
 none_of (Some n) e = absurd (false≢true e)

@@ -94,9 +94,6 @@ module _ (kind : Kind) (sets : HasComponentSets kind) (ports : PortFunction) whe
   either_query (Some x) other base h e = printed_query (Some x) h
 
   -- a reference without a scheme, an authority or a path, against a base with a scheme
-  abbrev Same : Components → Components → Components → Components → Type 0
-  Same base r other_base other = meaning (joined other_base other) ≡ meaning (joined base r)
-
   no_path : (base : Components) (q f : Option (List ℕ)) → AreParts kind base → IfSome q (λ x. is_part kind.query x ≡ true) → IfSome f (λ x. is_part kind.fragment x ≡ true)
       → meaning (joined (normal base) (normal (of_parts None None [] q f))) ≡ meaning (joined base (of_parts None None [] q f))
   unfolding reprinted

@@ -69,9 +69,6 @@ module _ (path : List ℕ) (slash : ℕ) (absolute : IsAbsolute path) (place : I
   pub behind_slash : IsUtf8 path → IsCharBoundary path (slash + 1)
   behind_slash u = let at = at_slash path slash absolute place in IsCharBoundary-after_ascii path slash u at.0 (omega (arith, at.1))
 
-  pub before_its_slash : IsCharBoundary path slash
-  before_its_slash = let at = at_slash path slash absolute place in IsCharBoundary-before_ascii path slash at.0 (omega (arith, at.1))
-
   cut : path ≡ take slash path ++ 47 ∷ drop (slash + 1) path
   cut = let at = at_slash path slash absolute place in sym (take-append-drop slash path) ∙ ap (λ t. take slash path ++ t) (rest_at path slash at.0 at.1)
 

@@ -9,7 +9,6 @@ use Rattle.uri_ops.specs.Normal.{normal_text}
 use Rattle.uri_ops.specs.Normalizers.{HasNormalText, IsNormalForm}
 use Rattle.uri_ops.specs.Ports.{PortFunction}
 use Rattle.uri_ops.specs.Texts.{IsTextOf}
-use Rattle.uri_ops.proofs.ReferenceKinds.{text_is_reference}
 use Rattle.uri_ops.proofs.NormalTexts.{normal_is_text, meaning_of-normal_text, same_normal_text}
 
 -- whether a scheme is needed makes no difference to a meaning
@@ -26,9 +25,6 @@ module _ (kind wide : Kind) (reference : wide ≡ record kind { needs_scheme = f
 
   pub normal_is_of_kind : IsTextOf kind normal
   normal_is_of_kind = subst (IsTextOf kind) (sym is_normal) (normal_is_text kind ports sets text source)
-
-  pub normal_is_reference : (text : List ℕ) → text ≡ normal → IsTextOf wide text
-  normal_is_reference t e = text_is_reference kind wide normal t reference e normal_is_of_kind
 
   normal_meaning : meaning_of kind ports normal ≡ meaning_of kind ports text
   normal_meaning = ap (meaning_of kind ports) is_normal ∙ meaning_of-normal_text kind ports sets text source

@@ -63,10 +63,6 @@ module _ (set : TableSet) (lacks : LacksPercent set) where
   unfolding reprinted
   read-reprinted text e = read-print_read set text (printable_part text e)
 
-  pub reprinted-reprinted : (text : List ℕ) → is_part set text ≡ true → reprinted set (reprinted set text) ≡ reprinted set text
-  unfolding reprinted
-  reprinted-reprinted text e = ap print (read-reprinted text e)
-
   pub token_bytes-reprinted : (text : List ℕ) → is_part set text ≡ true → token_bytes (tokens (reprinted set text)) ≡ token_bytes (tokens text)
   token_bytes-reprinted text e = ap token_bytes (tokens-reprinted text e) ∙ token_bytes-read set text
 

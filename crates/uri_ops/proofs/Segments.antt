@@ -98,11 +98,6 @@ pub cleaned_append : (xs : List (List ℕ)) (y : List ℕ) (ys : List (List ℕ)
 unfolding cleaned
 cleaned_append xs y ys = ap (λ t. t ++ closing (xs ++ y ∷ ys)) (steps_append [] xs (y ∷ ys)) ∙ ap (λ t. steps (steps [] xs) (y ∷ ys) ++ t) (closing_append xs y ys)
 
--- an empty segment at the end is kept
-pub steps_empty : (output : List (List ℕ)) → steps output ([] ∷ []) ≡ output ++ [] ∷ []
-unfolding steps step_of turn
-steps_empty output = refl
-
 pub cleaned_closed : (xs : List (List ℕ)) → cleaned (xs ++ [] ∷ []) ≡ steps [] xs ++ [] ∷ []
 unfolding steps step_of turn closing
 cleaned_closed xs = cleaned_append xs [] [] ∙ append-nil (steps [] xs ++ [] ∷ [])
@@ -228,16 +223,6 @@ unfolding cleaned
 cleaned_parent s rest =
     cleaned_closed (parent (s ∷ rest))
     ∙ ap (λ t. t ++ [] ∷ []) (steps_parent [] s rest ∙ sym (parent_plain (cleaned (s ∷ rest)) (cleaned_is_plain (s ∷ rest))))
-
--- underflow
-sunk_or : (single double before : Bool) (output : List (List ℕ)) → sunk single double before output ≡ (before || sunk single double false output)
-unfolding sunk
-sunk_or true double true output = refl
-sunk_or true double false output = refl
-sunk_or false true true output = refl
-sunk_or false true false output = refl
-sunk_or false false true output = refl
-sunk_or false false false output = refl
 
 sunk_true : (single double : Bool) (output : List (List ℕ)) → sunk single double true output ≡ true
 unfolding sunk

@@ -11,7 +11,7 @@ ghost use Rattle.uri_ops.specs.declared.normalize.NormalizeError.TheVariants.{Pa
 
 use crate::default_port::{DefaultPort, SchemeDefaults};
 use crate::normal_text::push_normal;
-use crate::traits::{RiMaybeRef, positions_in};
+use crate::traits::{RiMaybeRef, owned};
 use std::alloc::{AllocError, Global};
 use thiserror::Error;
 use uri_parts::core_text::CoreText;
@@ -148,8 +148,7 @@ impl<P: DefaultPort> Normalizer<P> {
         if made.underflows && !self.allow_path_underflow {
             return Err(NormalizeError::PathUnderflow);
         }
-        let positions = positions_in::<R::Rules>(made.text.as_str());
-        Ok(R::make_owned(made.text, positions))
+        Ok(owned::<R>(made.text))
     }
 }
 

@@ -21,7 +21,7 @@ use crate::default_port::DefaultPort;
 use crate::dot_segments::{is_double_dot, last_slash, push_without_dot_segments};
 use crate::normalize::{Normalizer, normal_form};
 use crate::slashes::{begins_with_slash, begins_with_two_slashes};
-use crate::traits::{RefOf, Ri, RiMaybeRef, core_of, positions_in};
+use crate::traits::{RefOf, Ri, RiMaybeRef, core_of, owned};
 use std::alloc::{AllocError, Global};
 use thiserror::Error;
 
@@ -377,8 +377,7 @@ pub fn resolved<B: Ri, Q: RefOf<B>>(
         (IsErrorOfMeanings B.kind Q.kind (B.text base.now) (Q.text reference.now)) }
 {
     let text = resolved_text(alloc, base, reference, allow_path_underflow)?;
-    let positions = positions_in::<B::Rules>(text.as_str());
-    Ok(B::make_owned(text, positions))
+    Ok(owned::<B>(text))
 }
 
 /// The target of a reference against a base, where dot segments may underflow (RFC 3986, section
@@ -504,7 +503,6 @@ impl<R: Ri> Resolver<R> {
         let target = resolved_text(alloc, &self.base, reference, true)?;
         let core = core_of::<R::Rules>(target.as_str());
         let made = normal_form(alloc, core, &normalizer.ports)?;
-        let positions = positions_in::<R::Rules>(made.text.as_str());
-        Ok(R::make_owned(made.text, positions))
+        Ok(owned::<R>(made.text))
     }
 }

@@ -49,7 +49,13 @@ pub trait RiMaybeRef {
     type FragmentE: Encoder;
 
     #[doc(hidden)]
-    type Rules: Encoders;
+    type Rules: Encoders<
+        UserinfoE = Self::UserinfoE,
+        RegNameE = Self::RegNameE,
+        PathE = Self::PathE,
+        QueryE = Self::QueryE,
+        FragmentE = Self::FragmentE,
+    >;
 
     ghost kind: { Kind };
 
@@ -96,37 +102,28 @@ pub trait RiMaybeRef {
     final fn authority(&self) -> Option<Authority<'_, Self::UserinfoE, Self::RegNameE>>
         ensures { option_map authority_text result ≡ (components (text self.now)).authority }
     {
-        match self.core().authority() {
-            Some(authority) => Some(authority.over_same_sets()),
-            None => None,
-        }
+        self.core().authority()
     }
 
     /// The path, which may be empty (RFC 3986, section 3.3).
     final fn path(&self) -> EStr<'_, Self::PathE>
         ensures { text_of result ≡ (components (text self.now)).path }
     {
-        EStr::new_unchecked(self.core().path().as_str())
+        self.core().path()
     }
 
     /// The query without its `?`, if there is one (RFC 3986, section 3.4).
     final fn query(&self) -> Option<EStr<'_, Self::QueryE>>
         ensures { option_map text_of result ≡ (components (text self.now)).query }
     {
-        match self.core().query() {
-            Some(query) => Some(EStr::new_unchecked(query.as_str())),
-            None => None,
-        }
+        self.core().query()
     }
 
     /// The fragment without its `#`, if there is one (RFC 3986, section 3.5).
     final fn fragment(&self) -> Option<EStr<'_, Self::FragmentE>>
         ensures { option_map text_of result ≡ (components (text self.now)).fragment }
     {
-        match self.core().fragment() {
-            Some(fragment) => Some(EStr::new_unchecked(fragment.as_str())),
-            None => None,
-        }
+        self.core().fragment()
     }
 
     ghost known: { kind ≡ known_kind kind.path.ucschar kind.needs_scheme };
@@ -134,16 +131,6 @@ pub trait RiMaybeRef {
     ghost rules_of_kind: { Self.Rules.kind ≡ record kind { needs_scheme = false } };
 
     ghost component_sets: { HasComponentSets kind };
-
-    ghost userinfo_set: { Self.UserinfoE.set ≡ kind.userinfo };
-
-    ghost reg_name_set: { Self.RegNameE.set ≡ kind.reg_name };
-
-    ghost path_set: { Self.PathE.set ≡ kind.path };
-
-    ghost query_set: { Self.QueryE.set ≡ kind.query };
-
-    ghost fragment_set: { Self.FragmentE.set ≡ kind.fragment };
 }
 
 /// A kind whose `Owned` is of the kind as well.
@@ -201,7 +188,7 @@ pub fn with_fragment<R: RiMaybeRef>(
 }
 
 /// Where the components lie of a text that is known to be of the kind.
-pub(crate) fn positions_in<K: Rules>(text: &str) -> Positions
+fn positions_in<K: Rules>(text: &str) -> Positions
     requires { IsOfKind K.kind text.now }
     ensures { AreAt text.now result }
 {

@@ -27,10 +27,6 @@ flip a b e = eq-eqb a b (sym (eqb-true b a e))
 flip_false : (a b : ℕ) → eqb b a ≡ false → eqb a b ≡ false
 flip_false a b e = ne_eqb a b (λ d. both_ways _ e (eq-eqb b a (sym d)))
 
-pub is_end_cons : (b : ℕ) (rest : List ℕ) → is_end (b ∷ rest) ≡ false
-unfolding is_end
-is_end_cons b rest = refl
-
 pub hash : (b : ℕ) → is_one_of (codes "#") b ≡ eqb 35 b
 hash b = or_false _
 

@@ -126,9 +126,6 @@ module _ (text : List ℕ) (p : Positions) (at : AreAt text p) (mark : ℕ) (her
   whole : text ≡ before_hash (components text) ++ fragment_text (components text).fragment
   whole = before_hash-append text (components text) (IsSplitOf-components text)
 
-  pub mark_within : mark ≤ length text
-  mark_within = omega (arith, mark_at, ap length whole, length-append (before_hash (components text)) (fragment_text (components text).fragment))
-
   pub mark_boundary : IsCharBoundary text mark
   mark_boundary =
       let c = components text in

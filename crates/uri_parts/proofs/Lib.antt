@@ -33,5 +33,4 @@ pub mod Hosts
 pub mod Parsed
 pub mod LiteralTexts
 pub mod Authority
-pub mod Literals
 mod AuthorityRows

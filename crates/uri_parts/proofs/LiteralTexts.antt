@@ -13,6 +13,7 @@ use Rattle.uri_pct.specs.Sets.{is_one_of, hexdig_set, ipv_future_set}
 use Rattle.uri_pct.specs.Tokens.{is_valid_for}
 use Rattle.uri_parts.specs.Components.{starts, before_any, from_any}
 use Rattle.uri_parts.specs.Hosts.{ipv6_value, is_ipv_future, is_future_address}
+use Rattle.uri_parts.specs.AuthorityReading.{is_literal}
 use Rattle.uri_parts.specs.Literals.{literal_before, reads_literal, literal_length}
 
 same_test : (mark c : ℕ) → eqb c mark ≡ is_one_of (mark ∷ []) c
@@ -88,20 +89,11 @@ module _ (rest : List ℕ) (inside : position_or_len (λ c. eqb c 93) rest < len
   closed : starts 93 (from_any (codes "]") rest) ≡ true
   closed = ap (starts 93) (from_at 93 rest inside)
 
-  reads_at : reads_literal rest ≡ (is_some (ipv6_value address) || is_ipv_future address)
-  unfolding reads_literal
+  pub reads_at : reads_literal rest ≡ is_literal address
+  unfolding reads_literal is_literal
   reads_at =
       ap (λ t. t && (is_some (ipv6_value (literal_before rest)) || is_ipv_future (literal_before rest))) closed
       ∙ ap (λ t. is_some (ipv6_value t) || is_ipv_future t) address_is
-
-  pub reads_ipv6 : (segments : List ℕ) → ipv6_value address ≡ Some segments → true ≡ reads_literal rest
-  reads_ipv6 segments e = sym (reads_at ∙ ap (λ o. is_some o || is_ipv_future address) e)
-
-  pub reads_future : is_ipv_future address ≡ true → true ≡ reads_literal rest
-  reads_future e = sym (reads_at ∙ or_right _ _ e)
-
-  pub reads_neither : ipv6_value address ≡ None → is_ipv_future address ≡ false → false ≡ reads_literal rest
-  reads_neither n e = sym (reads_at ∙ ap (λ o. is_some o || is_ipv_future address) n ∙ e)
 
   pub literal_end : (start : ℕ) → start + length address + 1 ≡ start + literal_length rest
   unfolding literal_length

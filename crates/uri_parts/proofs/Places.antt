@@ -107,12 +107,6 @@ end_mark text begins = Begins-more (codes "?#") (codes ":/?#") text (λ c e. gri
 pub hash_mark : (text : List ℕ) → Begins (codes "#") text → Begins (codes ":/?#") text
 hash_mark text begins = Begins-more (codes "#") (codes ":/?#") text (λ c e. grind (arith, nat_tests)) begins
 
--- the scheme
-scheme_at : (text : List ℕ) (scheme : Option (List ℕ)) (rest : List ℕ) → text ≡ scheme_text scheme ++ rest → IsUtf8 text → IfSome (option_map length scheme) (λ end. LiesAt text 0 end scheme)
-scheme_at text None rest whole utf8 = tt
-scheme_at text (Some s) rest whole utf8 =
-    LiesAt-between text [] s (58 ∷ rest) 0 (length s) (whole ∙ append_assoc s (codes ":") rest) refl (sym (zero-add (length s))) (IsCharBoundary-start text utf8) refl
-
 -- the authority
 authority_lies : (text : List ℕ) (scheme : Option (List ℕ)) (a path behind : List ℕ) → text ≡ scheme_text scheme ++ (authority_text (Some a) ++ (path ++ behind)) → IsUtf8 text
     → IsRooted path → Begins (codes "?#") behind → LiesAt text (marked_length 1 scheme + 2) (marked_length 1 scheme + 2 + length a) (Some a)
@@ -231,13 +225,6 @@ pub path_place : (text : List ℕ) (p : Positions) → IsUtf8 text → AreAt tex
 path_place text p utf8 at =
     let Lies : Positions → Type 0 = λ q. LiesAt text q.path_start q.path_end (Some (components text).path) in
     subst Lies (sym at) (path_at text (components text) (IsSplitOf-components text) utf8)
-
-pub scheme_place : (text : List ℕ) (p : Positions) → IsUtf8 text → AreAt text p → (end : ℕ) → p.scheme_end ≡ Some end → LiesAt text 0 end (components text).scheme
-scheme_place text p utf8 at end here =
-    let c = components text in
-    let rest : List ℕ = authority_text c.authority ++ (c.path ++ query_text c.query c.fragment) in
-    let found = sym (ap (λ (q : Positions). q.scheme_end) at) ∙ here in
-    MatchOption-at_some (Unit {0}) (λ end. LiesAt text 0 end c.scheme) end found (scheme_at text c.scheme rest (sym (IsSplitOf-components text).whole) utf8)
 
 pub authority_place : (text : List ℕ) (p : Positions) → IsUtf8 text → AreAt text p → (a : AuthorityPositions) → p.authority ≡ Some a → LiesAt text a.start a.end (components text).authority
 authority_place text p utf8 at a here =

@@ -1,7 +1,6 @@
 pub mod Addresses
 pub mod Appending
 pub mod Authority
-pub mod Authorities
 pub mod AuthorityReading
 pub mod AuthorityTexts
 pub mod Components

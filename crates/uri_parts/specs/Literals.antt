@@ -6,11 +6,8 @@ use Rattle.uri_parts.specs.declared.error.ParseErrorKind.{ParseErrorKind}
 use Rattle.uri_parts.specs.declared.error.ParseErrorKind.TheVariants.{InvalidPctEncodedOctet}
 use Rattle.uri_parts.specs.declared.error.ParseErrorKind.TheVariants.{UnexpectedChar}
 use Rattle.uri_parts.specs.declared.error.ParseErrorKind.TheVariants.{InvalidIpv6Addr}
-use Rattle.uri_parts.specs.declared.literal.Literal.{Literal}
-use Rattle.uri_parts.specs.declared.literal.Literal.TheVariants as Lit
-use Rattle.uri_parts.specs.Addresses.{ipv6_segments}
 use Rattle.uri_parts.specs.Components.{starts, before_any, from_any}
-use Rattle.uri_parts.specs.Hosts.{HostKind, Ipv6, IpvFuture, ipv6_value, is_ipv_future}
+use Rattle.uri_parts.specs.Hosts.{ipv6_value, is_ipv_future}
 
 -- the text before the first `]`
 abbrev pub literal_before : List ℕ → List ℕ
@@ -24,10 +21,6 @@ reads_literal rest = starts 93 (from_any (codes "]") rest)
 -- the length of both
 unfoldable pub literal_length : List ℕ → ℕ
 literal_length rest = length (literal_before rest) + 1
-
-abbrev pub kind_of_literal : Literal → HostKind
-kind_of_literal (Lit.Ipv6 address) = Ipv6 (ipv6_segments address)
-kind_of_literal Lit.IpvFuture = IpvFuture
 
 -- an IPv6 address is refused where it begins
 abbrev pub IsLiteralFault : ℕ → ParseErrorKind → ℕ → Type 0

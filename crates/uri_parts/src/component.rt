@@ -60,16 +60,6 @@ impl<'a, U: Encoder, R: Encoder> Authority<'a, U, R> {
         }
     }
 
-    /// The same authority, over encoders of the same sets.
-    #[doc(hidden)]
-    pub fn over_same_sets<V: Encoder, N: Encoder>(self) -> Authority<'a, V, N>
-        requires users { U.set ≡ V.set }
-        requires names { R.set ≡ N.set }
-        ensures { authority_text result ≡ authority_text self.entry }
-    {
-        Authority::new_unchecked(self.text, self.host_start, self.host_end)
-    }
-
     /// The empty authority: an empty host alone.
     pub const EMPTY: Authority<'static, U, R> = Self::new_empty();
 

@@ -8,7 +8,7 @@ ghost use Rattle.uri_parts.specs.Readers.{text_of};
 
 use crate::error::ParseError;
 use crate::grammar::Grammar;
-use crate::literal::read_literal;
+use crate::literal::literal_end;
 use crate::reader::Reader;
 use uri_pct::table::DIGIT;
 
@@ -21,7 +21,7 @@ fn pass_literal(reader: &mut Reader<'_>) -> Result<(), ParseError>
     if !reader.skip(b'[') {
         return Err(reader.unexpected());
     }
-    let (_, end) = read_literal(reader.text(), reader.position())?;
+    let end = literal_end(reader.text(), reader.position())?;
     *reader = Reader::at(reader.text(), end);
     Ok(())
 }

@@ -7,8 +7,8 @@ ghost use Rattle.uri_parts.specs.AuthorityReading.{reads_host_and_port, reads_wh
 ghost use Rattle.uri_parts.specs.Positions.{host_start_of, host_end_of};
 
 use crate::grammar::Grammar;
-use crate::literal::is_ipv_future;
-use crate::net::{Ipv4Addr, Ipv6Addr};
+use crate::literal::is_literal;
+use crate::net::Ipv4Addr;
 use crate::slicing::{after_mark, cut_before};
 use uri_pct::table::{DIGIT, Table};
 
@@ -18,15 +18,6 @@ use uri_pct::table::{DIGIT, Table};
 pub struct HostPlaces {
     pub start: usize,
     pub end: usize,
-}
-
-/// Whether a text may stand between the brackets of a host.
-#[doc(hidden)]
-#[tactic(auto, unfolding(crate::specs::AuthorityReading::is_literal))]
-pub fn is_literal(text: &str) -> bool
-    ensures { result ≡ is_literal text.now }
-{
-    Ipv6Addr::read(text).is_some() || is_ipv_future(text)
 }
 
 /// Whether a text is a host in no brackets.

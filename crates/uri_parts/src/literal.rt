@@ -7,22 +7,12 @@ ghost use Rattle.uri_pct.specs.Tables.{set_of};
 ghost use Rattle.uri_pct.specs.Tokens.{is_valid_for};
 ghost use Rattle.uri_parts.specs.Components.{starts};
 ghost use Rattle.uri_parts.specs.Hosts as Hosts;
-ghost use Rattle.uri_parts.specs.Hosts.{literal_kind, ipv6_value};
-ghost use Rattle.uri_parts.specs.Literals.{IsLiteralRefusal, reads_literal, literal_before};
-ghost use Rattle.uri_parts.specs.Literals.{literal_length, kind_of_literal};
+ghost use Rattle.uri_parts.specs.AuthorityReading.{is_literal};
+ghost use Rattle.uri_parts.specs.Literals.{IsLiteralRefusal, reads_literal, literal_length};
 
 use crate::error::{ParseError, ParseErrorKind};
 use crate::net::Ipv6Addr;
 use uri_pct::table::{HEXDIG, IPV_FUTURE, Table};
-
-/// An address that stands in brackets as a host.
-#[derive(Clone, Copy, Debug)]
-pub enum Literal {
-    /// An IPv6 address.
-    Ipv6(Ipv6Addr),
-    /// An address of a later version.
-    IpvFuture,
-}
 
 /// Whether this ASCII character stands at `index`.
 #[tactic(auto, using(crate::proofs::Next::starts_at))]
@@ -205,24 +195,26 @@ fn refusal(text: &str, start: usize) -> ParseError
     }
 }
 
-/// The address that stands at `start`, behind a `[`, and where the `]` behind it ends; or why there
-/// is none.
-pub fn read_literal(text: &str, start: usize) -> Result<(Literal, usize), ParseError>
+/// Whether a text may stand between the brackets of a host.
+#[tactic(auto, unfolding(crate::specs::AuthorityReading::is_literal))]
+pub(crate) fn is_literal(text: &str) -> bool
+    ensures { result ≡ is_literal text.now }
+{
+    Ipv6Addr::read(text).is_some() || is_ipv_future(text)
+}
+
+/// Where the address that stands at `start`, behind a `[`, and the `]` behind it end; or why there is
+/// none.
+pub(crate) fn literal_end(text: &str, start: usize) -> Result<usize, ParseError>
     requires { IsCharBoundary text.now start }
     ensures accepts { is_ok result ≡ reads_literal (drop start text.now) }
-    ensures kind { IfOk result (λ r.
-        kind_of_literal r.0 ≡ literal_kind (ipv6_value (literal_before (drop start text.now)))) }
-    ensures end { IfOk result (λ r. r.1 ≡ start + literal_length (drop start text.now)) }
-    ensures boundary { IfOk result (λ r. IsCharBoundary text.now r.1) }
+    ensures end { IfOk result (λ end. end ≡ start + literal_length (drop start text.now)) }
+    ensures boundary { IfOk result (λ end. IsCharBoundary text.now end) }
     ensures err { IfErr result (IsLiteralRefusal text.now start) }
 {
     if let Some((address, _)) = text[start..].split_once(']') {
-        let end = start + address.len() + 1;
-        if let Some(numbers) = Ipv6Addr::read(address) {
-            return Ok((Literal::Ipv6(numbers), end));
-        }
-        if is_ipv_future(address) {
-            return Ok((Literal::IpvFuture, end));
+        if is_literal(address) {
+            return Ok(start + address.len() + 1);
         }
     }
     Err(refusal(text, start))

@@ -1,7 +1,8 @@
+use Rattle.std.proofs.Common.{ap, ◌∙◌}
 use Rattle.uri_ops.proofs.BuilderKinds.{allowed_authority}
 use Rattle.uri_ops.proofs.build.Builder.authority.Goals as goal
 
 pub with_authority-requires-clause-rule : goal.with_authority-requires-clause-rule
 with_authority-requires-clause-rule g c = λ e.
-    allowed_authority g.R.RiMaybeRef.kind c.taken.result g.met.R.RiMaybeRef.known (c.taken.ensures.of_kind e) g.R.UserinfoE.Encoder.set g.R.RegNameE.Encoder.set g.met.R.RiMaybeRef.userinfo_set g.met.R.RiMaybeRef.reg_name_set
+    allowed_authority g.R.RiMaybeRef.kind c.taken.result g.met.R.RiMaybeRef.known (c.taken.ensures.of_kind e) g.R.UserinfoE.Encoder.set g.R.RegNameE.Encoder.set (g.met.R.Rules.Encoders.userinfo_set ∙ ap (λ kind. kind.userinfo) g.met.R.RiMaybeRef.rules_of_kind) (g.met.R.Rules.Encoders.reg_name_set ∙ ap (λ kind. kind.reg_name) g.met.R.RiMaybeRef.rules_of_kind)
     c.as_str.result.now c.as_str.ensures.valid

@@ -1,17 +1,11 @@
 use Rattle.std.proofs.Common.{subst, sym, string_bytes}
 use Rattle.uri_parts.specs.CoreTexts.{core_text}
 use Rattle.uri_ops.specs.Normalizers.{IsNormalForm, ports_of}
-use Rattle.uri_ops.proofs.NormalForms.{normal_is_of_kind, normal_is_reference, normal_form}
+use Rattle.uri_ops.proofs.NormalForms.{normal_is_of_kind, normal_form}
 use Rattle.uri_ops.proofs.normalize.Normalizer.normalize.Goals as goal
 
-pub positions_in-positions-requires : goal.positions_in-positions-requires
-positions_in-positions-requires g c =
-    (normal_is_reference g.R.RiMaybeRef.kind g.R.Rules.Rules.kind g.met.R.RiMaybeRef.rules_of_kind g.met.R.RiMaybeRef.component_sets (g.P.DefaultPort.port_of (ports_of c.args.self.now))
-    (core_text c.core.result) (g.R.RiMaybeRef.text c.args.value.now) (string_bytes c.in_ok-made.made.text)
-    c.core.ensures.text c.normal_form.ensures.utf8 c.core.ensures.of_kind c.in_ok-made.ensures.text c.as_str.result.now c.as_str.ensures.value).grammar
-
-pub make_owned-requires-clause-of_kind : goal.make_owned-requires-clause-of_kind
-make_owned-requires-clause-of_kind g c =
+pub owned-requires : goal.owned-requires
+owned-requires g c =
     (normal_is_of_kind g.R.RiMaybeRef.kind g.R.Rules.Rules.kind g.met.R.RiMaybeRef.rules_of_kind g.met.R.RiMaybeRef.component_sets (g.P.DefaultPort.port_of (ports_of c.args.self.now))
     (core_text c.core.result) (g.R.RiMaybeRef.text c.args.value.now) (string_bytes c.in_ok-made.made.text)
     c.core.ensures.text c.normal_form.ensures.utf8 c.core.ensures.of_kind c.in_ok-made.ensures.text).grammar
@@ -19,7 +13,7 @@ make_owned-requires-clause-of_kind g c =
 pub returns-clause-normal : goal.returns-clause-normal
 returns-clause-normal g c =
     let ports = g.P.DefaultPort.port_of (ports_of c.args.self.now) in
-    subst (IsNormalForm g.R.RiMaybeRef.kind ports (g.R.RiMaybeRef.text c.args.value.now)) (sym c.make_owned.ensures)
+    subst (IsNormalForm g.R.RiMaybeRef.kind ports (g.R.RiMaybeRef.text c.args.value.now)) (sym c.owned.ensures)
     (normal_form g.R.RiMaybeRef.kind g.R.Rules.Rules.kind g.met.R.RiMaybeRef.rules_of_kind g.met.R.RiMaybeRef.component_sets ports
     (core_text c.core.result) (g.R.RiMaybeRef.text c.args.value.now) (string_bytes c.in_ok-made.made.text)
     c.core.ensures.text c.normal_form.ensures.utf8 c.core.ensures.of_kind c.in_ok-made.ensures.text)

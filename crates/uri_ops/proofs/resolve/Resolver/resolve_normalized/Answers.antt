@@ -5,7 +5,7 @@ use Rattle.uri_ops.specs.Normalizers.{ports_of}
 use Rattle.uri_ops.specs.NormalTargets.{IsNormalTarget, IsRefusedAlike}
 use Rattle.uri_ops.specs.Resolvers.{base_of}
 use Rattle.uri_ops.specs.declared.resolve.ResolveError.TheVariants.{OutOfMemory}
-use Rattle.uri_ops.proofs.NormalForms.{normal_is_of_kind, normal_is_reference, normal_form}
+use Rattle.uri_ops.proofs.NormalForms.{normal_is_of_kind, normal_form}
 use Rattle.uri_ops.proofs.NormalTargets.{err_from, normal_target, refusal}
 use Rattle.uri_ops.proofs.ReferenceKinds.{text_is_reference}
 use Rattle.uri_ops.proofs.resolve.Resolver.resolve_normalized.Goals as goal
@@ -38,14 +38,8 @@ returns-in_err-made-clause-refusal g c =
     c.resolved_text.ensures.base c.resolved_text.ensures.reference OutOfMemory (ap is_ok c.in_ok-target.ensures.target.0)))
     c.from_residual-in_err-made.ensures.1
 
-pub positions_in-positions-requires : goal.positions_in-positions-requires
-positions_in-positions-requires g c =
-    (normal_is_reference g.R.RiMaybeRef.kind g.R.Rules.Rules.kind g.met.R.RiMaybeRef.rules_of_kind g.met.R.RiMaybeRef.component_sets (g.P.DefaultPort.port_of (ports_of c.args.normalizer.now))
-    (core_text c.core_of-core.result) (string_bytes c.in_ok-target.target) (string_bytes c.in_ok-made.made.text)
-    (c.core_of-core.ensures ∙ c.as_str.ensures.value) c.normal_form.ensures.utf8 c.in_ok-target.ensures.of_kind.grammar c.in_ok-made.ensures.text c.as_str-2.result.now c.as_str-2.ensures.value).grammar
-
-pub make_owned-requires-clause-of_kind : goal.make_owned-requires-clause-of_kind
-make_owned-requires-clause-of_kind g c =
+pub owned-requires : goal.owned-requires
+owned-requires g c =
     (normal_is_of_kind g.R.RiMaybeRef.kind g.R.Rules.Rules.kind g.met.R.RiMaybeRef.rules_of_kind g.met.R.RiMaybeRef.component_sets (g.P.DefaultPort.port_of (ports_of c.args.normalizer.now))
     (core_text c.core_of-core.result) (string_bytes c.in_ok-target.target) (string_bytes c.in_ok-made.made.text)
     (c.core_of-core.ensures ∙ c.as_str.ensures.value) c.normal_form.ensures.utf8 c.in_ok-target.ensures.of_kind.grammar c.in_ok-made.ensures.text).grammar
@@ -56,7 +50,7 @@ returns-clause-normal g c =
     let ports = g.P.DefaultPort.port_of (ports_of c.args.normalizer.now) in
     let base = g.R.RiMaybeRef.text (base_of c.args.self.now) in
     let reference = g.Q.RiMaybeRef.text c.args.reference.now in
-    subst (IsNormalTarget kind g.Q.RiMaybeRef.kind ports base reference) (sym c.make_owned.ensures)
+    subst (IsNormalTarget kind g.Q.RiMaybeRef.kind ports base reference) (sym c.owned.ensures)
     (normal_target kind g.Q.RiMaybeRef.kind g.met.R.RiMaybeRef.component_sets g.met.R.Ri.needs_scheme g.met.Q.RefOf.same_tables ports base reference
     c.resolved_text.ensures.base c.resolved_text.ensures.reference (string_bytes c.in_ok-target.target) (string_bytes c.in_ok-made.made.text) c.in_ok-target.ensures.target.0
     (normal_form kind g.R.Rules.Rules.kind g.met.R.RiMaybeRef.rules_of_kind g.met.R.RiMaybeRef.component_sets ports
