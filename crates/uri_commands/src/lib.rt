@@ -7,3 +7,4 @@ mod normal;
 mod refusal;
 pub mod run;
 mod target;
+mod told;
