@@ -11,7 +11,7 @@ use Rattle.uri_commands.specs.declared.command.BaseName.{BaseName}
 use Rattle.uri_commands.specs.declared.command.KindName.{KindName}
 use Rattle.uri_commands.specs.declared.refusal.Refusal.{Refusal}
 use Rattle.uri_commands.specs.declared.refusal.Refusal.TheVariants.{OutputFailed}
-use Rattle.uri_commands.proofs.Refusals.{refused_with}
+use Rattle.uri_commands.proofs.Refusals.{refused_with, refused_as}
 
 pub parse_failed : {A : Type 0} (name : KindName) (text : List ℕ) (result : Result A Refusal) → IsOfKind (kind_of name) text
     → IsErrAnd result (λ why. why ≡ OutputFailed) → IfErr result (IsRefusalOf (Parse name text))
@@ -20,14 +20,14 @@ parse_failed name text result is given =
     (component_lines (components text), ap (λ b. if b then Some (component_lines (components text)) else None) is)
 
 pub normalize_failed : {A : Type 0} (name : KindName) (text : List ℕ) (result : Result A Refusal) → IsOfKind (kind_of name) text
-    → IsErrAnd result (λ why. why ≡ OutputFailed) → IfErr result (IsRefusalOf (Normalize name text))
+    → IfErr result (λ why. why ≡ OutputFailed) → IfErr result (IsRefusalOf (Normalize name text))
 normalize_failed name text result is given =
     let lines = normal_form_of (kind_of name) text ++ codes "\n" in
-    refused_with (IsRefusalOf (Normalize name text)) result OutputFailed given
+    refused_as (IsRefusalOf (Normalize name text)) result OutputFailed given
     (lines, ap (λ b. if b then Some lines else None) is)
 
 pub resolve_failed : {A : Type 0} (name : BaseName) (base reference target : List ℕ) (result : Result A Refusal)
     → IsOfKind (kind_of_base name) base → IsOfKind (kind_of_references name) reference → target_text base reference ≡ Some target
-    → IsErrAnd result (λ why. why ≡ OutputFailed) → IfErr result (IsRefusalOf (Resolve name base reference))
+    → IfErr result (λ why. why ≡ OutputFailed) → IfErr result (IsRefusalOf (Resolve name base reference))
 resolve_failed name base reference target result b r t given =
-    refused_with (IsRefusalOf (Resolve name base reference)) result OutputFailed given (target ++ codes "\n", cc (b, r, t))
+    refused_as (IsRefusalOf (Resolve name base reference)) result OutputFailed given (target ++ codes "\n", cc (b, r, t))

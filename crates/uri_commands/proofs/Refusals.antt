@@ -13,6 +13,10 @@ pub refused_with : {A B : Type 0} (P : B → Type 0) (result : Result A B) (e : 
 refused_with P (Ok a) e is p = tt
 refused_with P (Err x) e is p = subst P (sym is) p
 
+pub refused_as : {A B : Type 0} (P : B → Type 0) (result : Result A B) (e : B) → IfErr result (λ x. x ≡ e) → P e → IfErr result P
+refused_as P (Ok a) e is p = tt
+refused_as P (Err x) e is p = subst P (sym is) p
+
 -- the refusal of a text, as it is told
 pub text_refused : {A B : Type 0} (P : B → Type 0) (told : ParseError → B) (name named : KindName) (text : List ℕ) (result : Result A B) (e : ParseError)
     → ((x : ParseError) → IsErrorOf (kind_of name) text x → P (told x))

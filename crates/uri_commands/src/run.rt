@@ -1,5 +1,5 @@
 //! The program, over any two writers.
-ghost use Rattle.std.specs.Prelude.{◌≡◌, ◌↔◌, ◌≤◌, IsOk, IfOk, IfErr, OnOk, None, Some, List, ℕ};
+ghost use Rattle.std.specs.Prelude.{◌≡◌, ◌↔◌, ◌≤◌, ◌++◌, IsOk, IfOk, IfErr, OnOk, None, Some, List, codes, ℕ};
 ghost use Rattle.std.specs.Io.KnownBytes.{Appends, Keeps};
 ghost use Rattle.uri_commands.specs.Commands.{Command as Asked, Parse, Normalize, Resolve, IsCommand, Prints, kind_of, words_of, output_of, texts};
 ghost use Rattle.uri_commands.specs.Asked.{asked};
@@ -7,6 +7,7 @@ ghost use Rattle.uri_commands.specs.Fronts.{AppendsFront};
 ghost use Rattle.uri_commands.specs.Refusals.{IsErrorOf, IsRefusalOf, error_line, usage_line};
 ghost use Rattle.uri_commands.specs.Texts.{components_in};
 ghost use Rattle.uri_commands.specs.declared.refusal.Refusal.{Refusal};
+ghost use Rattle.uri_commands.specs.declared.refusal.Refusal.TheVariants.{OutputFailed};
 ghost use Rattle.fluent_uri.specs.Components.{components};
 ghost use Rattle.fluent_uri.specs.Grammar.{IsOfKind};
 
@@ -91,7 +92,7 @@ fn normalize<O: Write>(
         → Keeps (O.contents out.old) (O.contents out.new) }
 {
     let normal = normal_form(alloc, kind, text)?;
-    Ok(writeln!(out, "{normal}")?)
+    print_line(out, normal.as_str())
 }
 
 fn resolve<O: Write>(
@@ -108,7 +109,15 @@ fn resolve<O: Write>(
         → Keeps (O.contents out.old) (O.contents out.new) }
 {
     let target = target(alloc, kind, base, reference)?;
-    Ok(writeln!(out, "{target}")?)
+    print_line(out, target.as_str())
+}
+
+fn print_line<O: Write>(out: &mut O, text: &str) -> Result<(), Refusal>
+    ensures printed { OnOk result
+        (Appends (O.contents out.old) (O.contents out.new) (text.now ++ codes "\n")) }
+    ensures failed { IfErr result (λ why. why ≡ OutputFailed) }
+{
+    Ok(writeln!(out, "{text}")?)
 }
 
 fn read(kind: KindName, text: &str) -> Result<Texts<'_>, ParseError>

@@ -1,7 +1,7 @@
 use Rattle.uri_commands.proofs.Outputs.{resolve_failed}
 use Rattle.uri_commands.proofs.run.resolve.Goals as goal
 
-pub returns-in_err-writeln-clause-refused : goal.returns-in_err-writeln-clause-refused
-returns-in_err-writeln-clause-refused g c =
-    let of_kind = c.in_ok-target.ensures in
-    resolve_failed c.args.kind c.args.base.now c.args.reference.now _ c.from_residual-in_err-writeln.result of_kind.base of_kind.reference of_kind.target c.from_residual-in_err-writeln.ensures.1
+pub returns-clause-refused : goal.returns-clause-refused
+returns-clause-refused g c =
+    let target = c.in_ok-target.ensures in
+    resolve_failed c.args.kind c.args.base.now c.args.reference.now _ c.print_line.result target.base target.reference target.target c.print_line.ensures.failed
