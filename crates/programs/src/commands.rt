@@ -1,9 +1,12 @@
 //! What `uritool` prints for given words, and the status that it ends with.
-use crate::writers::Takes;
-use checks::equal;
+use crate::writers::{Slow, Takes};
+use checks::{equal, prints};
+use fluent_uri::UriRef;
+use fluent_uri::resolve::ResolveError;
 use std::alloc::{AllocError, Global};
 use std::io::Write;
 use std::process::Abort;
+use uri_commands::refusal::Refusal;
 use uri_commands::run::run;
 
 const USAGE: &str =
@@ -185,6 +188,34 @@ fn says_why_words_are_refused(rt: HostRuntime) {
     }
 }
 
+/// A text for each kind of fault.
+const FAULTS: &[&str] = &["a b", "text%a", "//[:]"];
+
+const RESOLVE_ERRORS: &[ResolveError] = &[
+    ResolveError::BaseWithFragment,
+    ResolveError::InvalidReferenceAgainstOpaqueBase,
+    ResolveError::PathUnderflow,
+    ResolveError::OutOfMemory,
+];
+
+#[test]
+fn says_what_the_errors_say(rt: HostRuntime) {
+    let alloc = rt.alloc();
+    for &text in FAULTS {
+        let error = UriRef::<&str>::parse(text).err().expect(&rt, text);
+        let said = format!(in alloc; "{error}").expect(&rt, "memory");
+        prints(alloc, &Refusal::Text(error), said.as_str()).expect(&rt, text);
+        let said = format!(in alloc; "base: {error}").expect(&rt, "memory");
+        prints(alloc, &Refusal::Base(error), said.as_str()).expect(&rt, text);
+        let said = format!(in alloc; "reference: {error}").expect(&rt, "memory");
+        prints(alloc, &Refusal::Reference(error), said.as_str()).expect(&rt, text);
+    }
+    for &error in RESOLVE_ERRORS {
+        let said = format!(in alloc; "{error}").expect(&rt, "memory");
+        prints(alloc, &Refusal::Target(error), said.as_str()).expect(&rt, "target");
+    }
+}
+
 /// Words that are no command.
 const OTHERS: &[&[&str]] = &[
     &[],
@@ -248,4 +279,14 @@ fn ends_alike_without_errors_shown(rt: HostRuntime) {
     }
     let status = run_words(alloc, WHOLE, &mut Takes(0), &mut Takes(0));
     equal(status.expect(&rt, "memory"), 1).expect(&rt, "status");
+}
+
+#[test]
+fn goes_on_after_short_and_interrupted_writes(rt: HostRuntime) {
+    let alloc = rt.alloc();
+    let mut err = Slow { taken: Vec::new(alloc), is_interrupted: false };
+    let status = run_words(alloc, &["parse", "uri", "foo"], &mut Vec::new(alloc), &mut err);
+    equal(status.expect(&rt, "memory"), 1).expect(&rt, "status");
+    let line = b"error: unexpected character at index 3\n".as_slice();
+    equal(err.taken.as_slice(), line).expect(&rt, "error output");
 }

@@ -18,3 +18,24 @@ impl Write for Takes {
         Ok(())
     }
 }
+
+/// Takes one byte a write, and is interrupted before each.
+#[derive(Drop)]
+pub struct Slow {
+    pub taken: Vec<u8>,
+    pub is_interrupted: bool,
+}
+
+impl Write for Slow {
+    fn write(&mut self, buf: &[u8]) -> io::Result<usize> {
+        self.is_interrupted = !self.is_interrupted;
+        if self.is_interrupted {
+            return Err(io::Error::from(ErrorKind::Interrupted));
+        }
+        self.taken.write(&buf[..buf.len().min(1)])
+    }
+
+    fn flush(&mut self) -> io::Result<()> {
+        Ok(())
+    }
+}

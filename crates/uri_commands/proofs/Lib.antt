@@ -1,3 +1,6 @@
 pub mod Commands
 pub mod NormalForms
 pub mod Targets
+pub mod Fronts
+pub mod Refusals
+pub mod Outputs

@@ -1,5 +1,6 @@
 -- What the words of a command line ask for, and what is printed then.
 use Rattle.std.specs.Prelude.{◌≡◌, ℕ, ◌&&◌, List, [], ◌∷◌, ◌++◌, codes, map, String, string_bytes, Option, Some, None, option_map, if◌then◌else◌}
+use Rattle.std.specs.Io.KnownBytes.{Appends}
 use Rattle.std.specs.Result.{result_ok}
 use Rattle.fluent_uri.specs.Components.{components}
 use Rattle.fluent_uri.specs.Grammar.{Kind, uri, uri_ref, iri, iri_ref, is_of_kind}
@@ -72,3 +73,7 @@ texts words = map string_bytes words
 
 abbrev pub IsCommand : List (List ℕ) → Type 0
 IsCommand words = (command : Command) × (words ≡ words_of command)
+
+-- known bytes grow by what is printed for it
+abbrev pub Prints : Option (List ℕ) → Option (List ℕ) → Command → Type 0
+Prints old new command = (lines : List ℕ) × (output_of command ≡ Some lines) × Appends old new lines

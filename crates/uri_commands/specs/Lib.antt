@@ -2,9 +2,13 @@ pub mod Lines
 pub mod Texts
 pub mod Commands
 pub mod Asked
+pub mod Refusals
+pub mod Fronts
 pub use Rattle.fluent_uri.specs.Components
+pub use Rattle.fluent_uri.specs.Errors
 pub use Rattle.fluent_uri.specs.Grammar
 pub use Rattle.fluent_uri.specs.Meaning
 pub use Rattle.fluent_uri.specs.Normal
+pub use Rattle.fluent_uri.specs.Resolving
 pub use Rattle.fluent_uri.specs.SchemePorts
 pub use Rattle.fluent_uri.specs.Target

@@ -4,6 +4,7 @@
 mod command;
 mod lines;
 mod normal;
-mod refusal;
+pub mod refusal;
 pub mod run;
 mod target;
+mod told;

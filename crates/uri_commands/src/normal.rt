@@ -1,7 +1,8 @@
 //! The normal form of a text of a kind (RFC 3986, section 6.2.2).
-ghost use Rattle.std.specs.Prelude.{◌≡◌, IfOk, string_bytes};
+ghost use Rattle.std.specs.Prelude.{◌≡◌, IfOk, IfErr, string_bytes};
 ghost use Rattle.fluent_uri.specs.Grammar.{IsOfKind};
-ghost use Rattle.uri_commands.specs.Commands.{kind_of, normal_form_of};
+ghost use Rattle.uri_commands.specs.Commands.{Normalize, kind_of, normal_form_of};
+ghost use Rattle.uri_commands.specs.Refusals.{IsRefusalOf};
 
 use crate::command::KindName;
 use crate::refusal::Refusal;
@@ -16,6 +17,7 @@ use std::alloc::Global;
 #[tactic(auto, using(crate::proofs::NormalForms::normal_form_is))]
 pub fn normal_form(alloc: Global, kind: KindName, text: &str) -> Result<String, Refusal>
     ensures of_kind { IfOk result (λ _. IsOfKind (kind_of kind) text.now) }
+    ensures refused { IfErr result (IsRefusalOf (Normalize kind text.now)) }
     ensures normal { IfOk result (λ normal. string_bytes normal ≡ normal_form_of (kind_of kind) text.now) }
 {
     Ok(match kind {

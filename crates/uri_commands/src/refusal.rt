@@ -1,27 +1,119 @@
-//! Why a command has no answer.
-use fluent_uri::ParseError;
-use fluent_uri::resolve::ResolveError;
-use std::alloc::AllocError;
-use thiserror::Error;
+//! Why a command is refused.
+ghost use Rattle.std.specs.Prelude.{◌≡◌, IfOk, OnOk};
+ghost use Rattle.std.specs.Io.KnownBytes.{Appends};
+ghost use Rattle.uri_commands.specs.Fronts.{AppendsFront};
+ghost use Rattle.uri_commands.specs.Refusals.{error_line, fault_text, resolve_error_text};
 
-/// Why a command has no answer; it is printed behind `error: `.
-#[derive(Clone, Copy, Debug, Error)]
+use crate::told::put;
+use arrayvec::ArrayString;
+use fluent_uri::resolve::ResolveError;
+use fluent_uri::{ParseError, ParseErrorKind};
+use std::alloc::AllocError;
+use std::fmt::{self, Display, Write};
+use std::io::{self, ErrorKind};
+
+/// The longest line has 119 bytes, that of a reference against an opaque base.
+const LINE_CAPACITY: usize = 128;
+
+/// Why a command has no answer.
+#[derive(Clone, Copy)]
 pub enum Refusal {
     /// The text is not of the kind.
-    #[error(transparent)]
     Text(ParseError),
     /// The base is not of its kind.
-    #[error("base: {0}")]
     Base(ParseError),
     /// The reference is not of its kind.
-    #[error("reference: {0}")]
     Reference(ParseError),
     /// The reference has no target against the base.
-    #[error(transparent)]
     Target(ResolveError),
     /// Memory was refused.
-    #[error("out of memory")]
     OutOfMemory,
+    /// The output took less than the answer.
+    OutputFailed,
+}
+
+impl Refusal {
+    /// Writes the line that tells it. Where the writer fails, it got a front of the line.
+    pub fn tell<E: io::Write>(self, err: &mut E) -> io::Result<()>
+        ensures whole { OnOk result
+            (Appends (E.contents err.old) (E.contents err.new) (error_line self)) }
+        ensures front { AppendsFront (E.contents err.old) (E.contents err.new) (error_line self) }
+    {
+        match self.line() {
+            Ok(line) => put(err, line.as_str()),
+            Err(_) => Err(io::Error::from(ErrorKind::Other)),
+        }
+    }
+
+    fn line(self) -> Result<ArrayString<LINE_CAPACITY>, fmt::Error>
+        ensures { IfOk result (λ line. line.bytes ≡ error_line self) }
+    {
+        let mut line = ArrayString::new();
+        writeln!(line, "error: {self}")?;
+        Ok(line)
+    }
+}
+
+/// Prints the message, which stands behind `error: `.
+impl Display for Refusal {
+    ghost use Rattle.std.specs.Prelude.{Some};
+    ghost use Rattle.uri_commands.specs.Refusals.{message};
+
+    ghost output = { λ why. Some (message why) };
+
+    fn fmt<W: fmt::Write>(&self, f: &mut fmt::Formatter<W>) -> fmt::Result {
+        match *self {
+            Refusal::Text(error) => write!(f, "{}", Fault(error)),
+            Refusal::Base(error) => write!(f, "base: {}", Fault(error)),
+            Refusal::Reference(error) => write!(f, "reference: {}", Fault(error)),
+            Refusal::Target(error) => write!(f, "{}", resolve_message(error)),
+            Refusal::OutOfMemory => write!(f, "out of memory"),
+            Refusal::OutputFailed => write!(f, "output failed"),
+        }
+    }
+}
+
+/// What the parser refused.
+#[derive(Clone, Copy)]
+struct Fault(ParseError);
+
+impl Display for Fault {
+    ghost use Rattle.std.specs.Prelude.{Some};
+    ghost use Rattle.uri_commands.specs.Refusals.{error_text};
+
+    ghost output = { λ fault. Some (error_text fault.0) };
+
+    fn fmt<W: fmt::Write>(&self, f: &mut fmt::Formatter<W>) -> fmt::Result {
+        write!(
+            f,
+            "{} at index {}",
+            fault_message(self.0.kind()),
+            self.0.index()
+        )
+    }
+}
+
+fn fault_message(kind: ParseErrorKind) -> &'static str
+    ensures { result.now ≡ fault_text kind }
+{
+    match kind {
+        ParseErrorKind::InvalidPctEncodedOctet => "invalid percent-encoded octet",
+        ParseErrorKind::UnexpectedChar => "unexpected character",
+        ParseErrorKind::InvalidIpv6Addr => "invalid IPv6 address",
+    }
+}
+
+fn resolve_message(error: ResolveError) -> &'static str
+    ensures { result.now ≡ resolve_error_text error }
+{
+    match error {
+        ResolveError::BaseWithFragment => "base should not have fragment",
+        ResolveError::InvalidReferenceAgainstOpaqueBase => {
+            "when base has a rootless path and no authority, reference should either have scheme, be empty or start with '#'"
+        }
+        ResolveError::PathUnderflow => "underflow occurred in path resolution",
+        ResolveError::OutOfMemory => "out of memory",
+    }
 }
 
 impl From<ParseError> for Refusal {
@@ -54,5 +146,16 @@ impl From<ResolveError> for Refusal {
 
     fn from(error: ResolveError) -> Refusal {
         Refusal::Target(error)
+    }
+}
+
+impl From<io::Error> for Refusal {
+    ghost use Rattle.std.specs.Prelude.{◌≡◌};
+    ghost use Rattle.uri_commands.specs.declared.refusal.Refusal.TheVariants.{OutputFailed};
+
+    ghost from_gives = { λ _ refusal. refusal ≡ OutputFailed };
+
+    fn from(_: io::Error) -> Refusal {
+        Refusal::OutputFailed
     }
 }

@@ -1,9 +1,13 @@
 //! The program, over any two writers.
-ghost use Rattle.std.specs.Prelude.{◌≡◌, ◌↔◌, ◌≤◌, IsOk, IfOk, None, Some, List, ℕ};
+ghost use Rattle.std.specs.Prelude.{◌≡◌, ◌↔◌, ◌≤◌, ◌++◌, IsOk, IfOk, IfErr, OnOk, None, Some, List, codes, ℕ};
 ghost use Rattle.std.specs.Io.KnownBytes.{Appends, Keeps};
-ghost use Rattle.uri_commands.specs.Commands.{Command as Asked, Parse, Normalize, Resolve, IsCommand, kind_of, words_of, output_of, texts};
+ghost use Rattle.uri_commands.specs.Commands.{Command as Asked, Parse, Normalize, Resolve, IsCommand, Prints, kind_of, words_of, output_of, texts};
 ghost use Rattle.uri_commands.specs.Asked.{asked};
+ghost use Rattle.uri_commands.specs.Fronts.{AppendsFront};
+ghost use Rattle.uri_commands.specs.Refusals.{IsErrorOf, IsRefusalOf, error_line, usage_line};
 ghost use Rattle.uri_commands.specs.Texts.{components_in};
+ghost use Rattle.uri_commands.specs.declared.refusal.Refusal.{Refusal};
+ghost use Rattle.uri_commands.specs.declared.refusal.Refusal.TheVariants.{OutputFailed};
 ghost use Rattle.fluent_uri.specs.Components.{components};
 ghost use Rattle.fluent_uri.specs.Grammar.{IsOfKind};
 
@@ -12,17 +16,16 @@ use crate::lines::Texts;
 use crate::normal::normal_form;
 use crate::refusal::Refusal;
 use crate::target::target;
+use crate::told::tell_usage;
 use fluent_uri::{Iri, IriRef, ParseError, Uri, UriRef};
 use std::alloc::Global;
-use std::io::{self, Write};
-
-const USAGE: &str =
-    "usage: uritool parse KIND TEXT | normalize KIND TEXT | resolve uri|iri BASE REF";
+use std::io::Write;
 
 /// Does what the words ask for, and answers the exit status.
 ///
-/// 0: `out` got the answer. 1: it is refused, or `out` failed, and `err` got a line that begins `error: `.
-/// 2: the words are no command, and `err` got the usage line. A failing `err` changes no status.
+/// 0: `out` got the answer. 1: it is refused, or `out` failed, and `err` got `error: `, why, and a
+/// newline. 2: the words are no command, and `err` got the usage line. A failing `err` changes no
+/// status; it got a front of the line, and nothing else.
 pub fn run<O: Write, E: Write>(alloc: Global, words: &[String], out: &mut O, err: &mut E) -> u8
     ensures answered { result ≡ 0 → (command : Asked) × (lines : List ℕ)
         × (texts words.now ≡ words_of command) × (output_of command ≡ Some lines)
@@ -33,111 +36,94 @@ pub fn run<O: Write, E: Write>(alloc: Global, words: &[String], out: &mut O, err
     ensures usage { (result ≡ 2) ↔ ¬ IsCommand (texts words.now) }
     ensures usage_keeps { result ≡ 2 → Keeps (O.contents out.old) (O.contents out.new) }
     ensures status { result ≤ 2 }
+    ensures told { result ≡ 1 → (command : Asked) × (why : Refusal)
+        × (texts words.now ≡ words_of command) × IsRefusalOf command why
+        × AppendsFront (E.contents err.old) (E.contents err.new) (error_line why) }
+    ensures usage_told { result ≡ 2
+        → AppendsFront (E.contents err.old) (E.contents err.new) usage_line }
 {
-    match Command::from_words(words) {
-        Some(command) => execute(alloc, command, out, err),
-        None => {
-            let _ = writeln!(err, "{USAGE}");
-            2
-        }
-    }
-}
-
-fn execute<O: Write, E: Write>(alloc: Global, command: Command<'_>, out: &mut O, err: &mut E) -> u8
-    ensures answered { result ≡ 0 → (lines : List ℕ) × (output_of (asked command.entry) ≡ Some lines)
-        × Appends (O.contents out.old) (O.contents out.new) lines
-        × Keeps (E.contents err.old) (E.contents err.new) }
-    ensures refused { output_of (asked command.entry) ≡ None
-        → (result ≡ 1) × Keeps (O.contents out.old) (O.contents out.new) }
-    ensures status { result ≤ 1 }
-{
-    match command {
-        Command::Parse(kind, text) => parse(kind, text, out, err),
-        Command::Normalize(kind, text) => normalize(alloc, kind, text, out, err),
-        Command::Resolve(kind, base, reference) => resolve(alloc, kind, base, reference, out, err),
-    }
-}
-
-fn parse<O: Write, E: Write>(kind: KindName, text: &str, out: &mut O, err: &mut E) -> u8
-    ensures answered { result ≡ 0 → (lines : List ℕ) × (output_of (Parse kind text.now) ≡ Some lines)
-        × Appends (O.contents out.old) (O.contents out.new) lines
-        × Keeps (E.contents err.old) (E.contents err.new) }
-    ensures refused { output_of (Parse kind text.now) ≡ None
-        → (result ≡ 1) × Keeps (O.contents out.old) (O.contents out.new) }
-    ensures status { result ≤ 1 }
-{
-    match read(kind, text) {
-        Ok(texts) => written(texts.write_lines(out), err),
-        Err(error) => refused(error.into(), err),
-    }
-}
-
-fn normalize<O: Write, E: Write>(
-    alloc: Global,
-    kind: KindName,
-    text: &str,
-    out: &mut O,
-    err: &mut E,
-) -> u8
-    ensures answered { result ≡ 0 → (lines : List ℕ) × (output_of (Normalize kind text.now) ≡ Some lines)
-        × Appends (O.contents out.old) (O.contents out.new) lines
-        × Keeps (E.contents err.old) (E.contents err.new) }
-    ensures refused { output_of (Normalize kind text.now) ≡ None
-        → (result ≡ 1) × Keeps (O.contents out.old) (O.contents out.new) }
-    ensures status { result ≤ 1 }
-{
-    match normal_form(alloc, kind, text) {
-        Ok(normal) => written(writeln!(out, "{normal}"), err),
-        Err(why) => refused(why, err),
-    }
-}
-
-fn resolve<O: Write, E: Write>(
-    alloc: Global,
-    kind: BaseName,
-    base: &str,
-    reference: &str,
-    out: &mut O,
-    err: &mut E,
-) -> u8
-    ensures answered { result ≡ 0 → (lines : List ℕ) × (output_of (Resolve kind base.now reference.now) ≡ Some lines)
-        × Appends (O.contents out.old) (O.contents out.new) lines
-        × Keeps (E.contents err.old) (E.contents err.new) }
-    ensures refused { output_of (Resolve kind base.now reference.now) ≡ None
-        → (result ≡ 1) × Keeps (O.contents out.old) (O.contents out.new) }
-    ensures status { result ≤ 1 }
-{
-    match target(alloc, kind, base, reference) {
-        Ok(target) => written(writeln!(out, "{target}"), err),
-        Err(refusal) => refused(refusal, err),
-    }
-}
-
-/// The status of a command whose answer was written, or could not be.
-fn written<E: Write>(outcome: io::Result<()>, err: &mut E) -> u8
-    ensures answered { result ≡ 0 → IsOk outcome × Keeps (E.contents err.old) (E.contents err.new) }
-    ensures status { result ≤ 1 }
-{
-    match outcome {
+    let Some(command) = Command::from_words(words) else {
+        let _ = tell_usage(err);
+        return 2;
+    };
+    match answer(alloc, command, out) {
         Ok(()) => 0,
-        Err(_) => {
-            let _ = writeln!(err, "error: output failed");
+        Err(why) => {
+            let _ = why.tell(err);
             1
         }
     }
 }
 
-/// The status of a command that has no answer.
-fn refused<E: Write>(why: Refusal, err: &mut E) -> u8
-    ensures { result ≡ 1 }
+fn answer<O: Write>(alloc: Global, command: Command<'_>, out: &mut O) -> Result<(), Refusal>
+    ensures answered { OnOk result
+        (Prints (O.contents out.old) (O.contents out.new) (asked command.entry)) }
+    ensures refused { IfErr result (IsRefusalOf (asked command.entry)) }
+    ensures keeps { output_of (asked command.entry) ≡ None
+        → Keeps (O.contents out.old) (O.contents out.new) }
 {
-    let _ = writeln!(err, "error: {why}");
-    1
+    match command {
+        Command::Parse(kind, text) => parse(kind, text, out),
+        Command::Normalize(kind, text) => normalize(alloc, kind, text, out),
+        Command::Resolve(kind, base, reference) => resolve(alloc, kind, base, reference, out),
+    }
+}
+
+fn parse<O: Write>(kind: KindName, text: &str, out: &mut O) -> Result<(), Refusal>
+    ensures answered { OnOk result
+        (Prints (O.contents out.old) (O.contents out.new) (Parse kind text.now)) }
+    ensures refused { IfErr result (IsRefusalOf (Parse kind text.now)) }
+    ensures keeps { output_of (Parse kind text.now) ≡ None
+        → Keeps (O.contents out.old) (O.contents out.new) }
+{
+    Ok(read(kind, text)?.write_lines(out)?)
+}
+
+fn normalize<O: Write>(
+    alloc: Global,
+    kind: KindName,
+    text: &str,
+    out: &mut O,
+) -> Result<(), Refusal>
+    ensures answered { OnOk result
+        (Prints (O.contents out.old) (O.contents out.new) (Normalize kind text.now)) }
+    ensures refused { IfErr result (IsRefusalOf (Normalize kind text.now)) }
+    ensures keeps { output_of (Normalize kind text.now) ≡ None
+        → Keeps (O.contents out.old) (O.contents out.new) }
+{
+    let normal = normal_form(alloc, kind, text)?;
+    print_line(out, normal.as_str())
+}
+
+fn resolve<O: Write>(
+    alloc: Global,
+    kind: BaseName,
+    base: &str,
+    reference: &str,
+    out: &mut O,
+) -> Result<(), Refusal>
+    ensures answered { OnOk result
+        (Prints (O.contents out.old) (O.contents out.new) (Resolve kind base.now reference.now)) }
+    ensures refused { IfErr result (IsRefusalOf (Resolve kind base.now reference.now)) }
+    ensures keeps { output_of (Resolve kind base.now reference.now) ≡ None
+        → Keeps (O.contents out.old) (O.contents out.new) }
+{
+    let target = target(alloc, kind, base, reference)?;
+    print_line(out, target.as_str())
+}
+
+fn print_line<O: Write>(out: &mut O, text: &str) -> Result<(), Refusal>
+    ensures printed { OnOk result
+        (Appends (O.contents out.old) (O.contents out.new) (text.now ++ codes "\n")) }
+    ensures failed { IfErr result (λ why. why ≡ OutputFailed) }
+{
+    Ok(writeln!(out, "{text}")?)
 }
 
 fn read(kind: KindName, text: &str) -> Result<Texts<'_>, ParseError>
     ensures accepts { IsOk result ↔ IsOfKind (kind_of kind) text.now }
     ensures texts { IfOk result (λ texts. components_in texts ≡ components text.now) }
+    ensures error { IfErr result (IsErrorOf (kind_of kind) text.now) }
 {
     match kind {
         KindName::Uri => Ok(Texts::from(Uri::<&str>::parse(text)?)),

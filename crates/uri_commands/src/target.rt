@@ -1,11 +1,14 @@
 //! The target of a reference against a base (RFC 3986, section 5.2).
-ghost use Rattle.std.specs.Prelude.{◌≡◌, IfOk, Some, string_bytes};
+ghost use Rattle.std.specs.Prelude.{◌≡◌, IfOk, IfErr, Some, string_bytes};
+ghost use Rattle.fluent_uri.specs.Components.{components};
 ghost use Rattle.fluent_uri.specs.Grammar.{IsOfKind};
+ghost use Rattle.fluent_uri.specs.Resolving.{IsRefusalFor};
 ghost use Rattle.fluent_uri.specs.IriRefs.{iri_ref_text};
 ghost use Rattle.fluent_uri.specs.Iris.{iri_text};
 ghost use Rattle.fluent_uri.specs.UriRefs.{uri_ref_text};
 ghost use Rattle.fluent_uri.specs.Uris.{uri_text};
-ghost use Rattle.uri_commands.specs.Commands.{kind_of_base, kind_of_references, target_text};
+ghost use Rattle.uri_commands.specs.Commands.{Resolve, kind_of_base, kind_of_references, target_text};
+ghost use Rattle.uri_commands.specs.Refusals.{IsRefusalOf};
 
 use crate::command::BaseName;
 use crate::refusal::Refusal;
@@ -23,6 +26,7 @@ use std::alloc::Global;
 pub fn target(alloc: Global, kind: BaseName, base: &str, reference: &str) -> Result<String, Refusal>
     ensures base { IfOk result (λ _. IsOfKind (kind_of_base kind) base.now) }
     ensures reference { IfOk result (λ _. IsOfKind (kind_of_references kind) reference.now) }
+    ensures refused { IfErr result (IsRefusalOf (Resolve kind base.now reference.now)) }
     ensures target { IfOk result (λ target. target_text base.now reference.now ≡ Some (string_bytes target)) }
 {
     Ok(match kind {
@@ -44,7 +48,9 @@ fn uri_target(
     base: Uri<&str>,
     reference: UriRef<&str>,
 ) -> Result<Uri<String>, ResolveError>
-    ensures { IfOk result (λ target. target_text (uri_text base.entry) (uri_ref_text reference.entry) ≡ Some (uri_text target)) }
+    ensures target { IfOk result (λ target. target_text (uri_text base.entry) (uri_ref_text reference.entry) ≡ Some (uri_text target)) }
+    ensures refusal { IfErr result (IsRefusalFor
+        (components (uri_text base.entry)) (components (uri_ref_text reference.entry))) }
 {
     reference.resolve_against(alloc, &base)
 }
@@ -54,7 +60,9 @@ fn iri_target(
     base: Iri<&str>,
     reference: IriRef<&str>,
 ) -> Result<Iri<String>, ResolveError>
-    ensures { IfOk result (λ target. target_text (iri_text base.entry) (iri_ref_text reference.entry) ≡ Some (iri_text target)) }
+    ensures target { IfOk result (λ target. target_text (iri_text base.entry) (iri_ref_text reference.entry) ≡ Some (iri_text target)) }
+    ensures refusal { IfErr result (IsRefusalFor
+        (components (iri_text base.entry)) (components (iri_ref_text reference.entry))) }
 {
     reference.resolve_against(alloc, &base)
 }
