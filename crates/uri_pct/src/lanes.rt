@@ -1,5 +1,5 @@
 //! Sets of ASCII characters by their two masks, a byte at a time or sixteen.
-ghost use Rattle.std.specs.Prelude.{◌≡◌, ◌+◌, ◌≤◌, ◌/◌, ◌%◌, ℕ, true, not, length, map, slice_index};
+ghost use Rattle.std.specs.Prelude.{◌≡◌, ◌+◌, ◌≤◌, ◌<◌, ◌/◌, ◌%◌, ℕ, true, not, length, map, slice_index};
 ghost use Rattle.std.specs.Simd.Lanes.{mask_l, chunk};
 ghost use Rattle.std.specs.Int.{bit_at};
 ghost use Rattle.uri_pct.specs.ByteRuns.{IsRun, AreSpelt};
@@ -31,6 +31,19 @@ pub fn holds(words: &[u64; 4], byte: u8) -> bool
     ensures { result ≡ has_bit (slice_index words.now 0) (slice_index words.now 1) byte }
 {
     (words[(byte >> 6) as usize] >> (byte & 63)) & 1 == 1
+}
+
+/// Whether the bit of the code `byte` of ASCII is set.
+#[inline(always)]
+pub fn has(low: u64, high: u64, byte: u8) -> bool
+    requires { byte < 128 }
+    ensures { result ≡ has_bit low high byte }
+{
+    if byte < 64 {
+        (low >> byte) & 1 == 1
+    } else {
+        (high >> (byte - 64)) & 1 == 1
+    }
 }
 
 /// For each lane the byte of the masks that has its bit; the masks begin again at 128.

@@ -1,10 +1,10 @@
 //! How far a table reads a text.
-ghost use Rattle.std.specs.Prelude.{◌≡◌, ◌<◌, ◌≤◌, ◌+◌, IsTrue, false, length, drop, slice_index};
+ghost use Rattle.std.specs.Prelude.{◌≡◌, ◌<◌, ◌≤◌, ◌+◌, ◌==◌, IsTrue, false, length, drop, slice_index};
 ghost use Rattle.std.specs.Str.{IsCharBoundary};
 ghost use Rattle.uri_pct.specs.Fronts.{front, has_digits, may_go_on};
 ghost use Rattle.uri_pct.specs.Tokens.{is_valid_for};
 
-use crate::lanes::{LANES, holds, run_end, spelt_length, words};
+use crate::lanes::{LANES, has, holds, run_end, spelt_length, words};
 use crate::table::Table;
 use crate::utf8::char_at;
 
@@ -65,11 +65,37 @@ impl Table {
             return start;
         }
         let i = start + 3;
-        if bytes.len() - i < LANES {
+        if bytes.len() - i < LANES || bytes[i] >= 128 {
             return i;
         }
         let (low, high) = self.masks();
         i + spelt_length(low, high, bytes, i)
+    }
+
+    /// Where the run of ASCII characters ends that begins at `start`; `start` if the first is not
+    /// allowed. One that stands alone is passed by itself.
+    #[inline(always)]
+    fn pass_plain(&self, text: &str, start: usize) -> usize
+        requires here { IsCharBoundary text.now start }
+        requires inside { start < length text.now }
+        requires ascii { slice_index text.now start < 128 }
+        requires plain { (slice_index text.now start == 37) ≡ false }
+        ensures total { result + front (set_of self.now) (drop result text.now)
+            ≡ start + front (set_of self.now) (drop start text.now) }
+        ensures from { start ≤ result }
+        ensures boundary { IsCharBoundary text.now result }
+        ensures stop { result ≡ start → front (set_of self.now) (drop start text.now) ≡ 0 }
+    {
+        let (low, high) = self.masks();
+        let bytes = text.as_bytes();
+        if !has(low, high, bytes[start]) {
+            return start;
+        }
+        let next = start + 1;
+        if next == bytes.len() || bytes[next] == b'%' || bytes[next] >= 128 {
+            return next;
+        }
+        self.pass_ascii(text, next)
     }
 
     /// Where the character past ASCII ends that begins at `start`; `start` if it is not allowed.
@@ -116,13 +142,15 @@ impl Table {
         ensures end { result ≡ start + front (set_of self.now) (drop start text.now) }
         ensures boundary { IsCharBoundary text.now result }
     {
-        let i = self.pass_ascii(text, start);
         let bytes = text.as_bytes();
-        if i < bytes.len() && self.may_go_on(bytes[i]) {
-            self.read_on(text, i)
-        } else {
-            i
+        if start == bytes.len() {
+            return start;
         }
+        let i = self.pass_ascii(text, start);
+        if i == bytes.len() || !self.may_go_on(bytes[i]) {
+            return i;
+        }
+        self.read_on(text, i)
     }
 
     /// Where the longest piece ends that begins at `start`, whatever it is spelt by.
@@ -136,12 +164,12 @@ impl Table {
         let mut i = start;
         while i < bytes.len() {
             let byte = bytes[i];
-            let end = if byte == b'%' {
-                self.pass_octets(text, i)
-            } else if byte < 128 {
-                self.pass_ascii(text, i)
-            } else {
+            let end = if byte >= 128 {
                 self.pass_past_ascii(text, i)
+            } else if byte == b'%' {
+                self.pass_octets(text, i)
+            } else {
+                self.pass_plain(text, i)
             };
             if end == i {
                 break;
