@@ -39,11 +39,8 @@ pub fn has(low: u64, high: u64, byte: u8) -> bool
     requires { byte < 128 }
     ensures { result ≡ has_bit low high byte }
 {
-    if byte < 64 {
-        (low >> byte) & 1 == 1
-    } else {
-        (high >> (byte - 64)) & 1 == 1
-    }
+    let mask = if byte < 64 { low } else { high };
+    (mask >> (byte & 63)) & 1 == 1
 }
 
 /// For each lane the byte of the masks that has its bit; the masks begin again at 128.

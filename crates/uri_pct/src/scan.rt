@@ -92,13 +92,14 @@ impl Table {
             return start;
         }
         let next = start + 1;
-        if next == bytes.len() || bytes[next] == b'%' || bytes[next] >= 128 {
+        if next < bytes.len() && bytes[next] >= 128 {
             return next;
         }
         self.pass_ascii(text, next)
     }
 
-    /// Where the character past ASCII ends that begins at `start`; `start` if it is not allowed.
+    /// Where the run of characters past ASCII ends that begins at `start`; `start` if the first is
+    /// not allowed.
     #[inline(always)]
     fn pass_past_ascii(&self, text: &str, start: usize) -> usize
         requires here { IsCharBoundary text.now start }
@@ -110,12 +111,16 @@ impl Table {
         ensures boundary { IsCharBoundary text.now result }
         ensures stop { result ≡ start → front (set_of self.now) (drop start text.now) ≡ 0 }
     {
-        let ch = char_at(text, start);
-        if self.allows_past_ascii(ch) {
-            start + ch.len_utf8()
-        } else {
-            start
+        let bytes = text.as_bytes();
+        let mut i = start;
+        while i < bytes.len() && bytes[i] >= 128 {
+            let ch = char_at(text, i);
+            if !self.allows_past_ascii(ch) {
+                break;
+            }
+            i += ch.len_utf8();
         }
+        i
     }
 
     /// Whether the table allows octets, or characters past ASCII, and the byte begins one.

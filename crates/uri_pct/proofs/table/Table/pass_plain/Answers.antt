@@ -15,8 +15,8 @@ returns-then-not-has-clause-stop c e =
     let outside : set.ascii (get_or bs i 0) ≡ false = sym (ap (λ f. f (get_or bs i 0)) c.masks-low.ensures) ∙ sym c.has.ensures ∙ c.if-not-has.true in
     rw (← same) (front-stop set bs i (rw same c.requires.inside) (rw same c.requires.ascii) (rw same c.requires.plain) outside)
 
-pub returns-then-next-bytes-clause-total : goal.returns-then-next-bytes-clause-total
-returns-then-next-bytes-clause-total c =
+pub returns-then-bytes-next-ge128-clause-total : goal.returns-then-bytes-next-ge128-clause-total
+returns-then-bytes-next-ge128-clause-total c =
     let set = set_of c.args.self.now in
     let bs = c.as_bytes-bytes.result.now in
     let i = c.args.start in
@@ -25,8 +25,8 @@ returns-then-next-bytes-clause-total c =
     let e : front set (drop i bs) ≡ front set (drop (i + 1) bs) + 1 = front-char set (lacks_percent c.args.self.now) bs i (rw same c.requires.inside) (rw same c.requires.ascii) inside in
     rw (← same) (omega (arith, e))
 
-pub returns-then-next-bytes-clause-boundary : goal.returns-then-next-bytes-clause-boundary
-returns-then-next-bytes-clause-boundary c = IsCharBoundary-after_ascii c.args.text.now c.args.start c.utf8.text c.requires.inside c.requires.ascii
+pub returns-then-bytes-next-ge128-clause-boundary : goal.returns-then-bytes-next-ge128-clause-boundary
+returns-then-bytes-next-ge128-clause-boundary c = IsCharBoundary-after_ascii c.args.text.now c.args.start c.utf8.text c.requires.inside c.requires.ascii
 
 pub returns-clause-total : goal.returns-clause-total
 returns-clause-total c =
