@@ -1,5 +1,5 @@
 //! How far a table reads a text.
-ghost use Rattle.std.specs.Prelude.{◌≡◌, ◌<◌, ◌≤◌, ◌+◌, ◌==◌, IsTrue, false, length, drop, slice_index};
+ghost use Rattle.std.specs.Prelude.{◌≡◌, ◌<◌, ◌≤◌, ◌+◌, IsTrue, false, true, length, drop, slice_index};
 ghost use Rattle.std.specs.Str.{IsCharBoundary};
 ghost use Rattle.uri_pct.specs.Fronts.{front, has_digits, may_go_on};
 ghost use Rattle.uri_pct.specs.Tokens.{is_valid_for};
@@ -47,80 +47,40 @@ impl Table {
         i
     }
 
-    /// Where the octet ends that begins at `start`, with what the table allows of the sixteen bytes
-    /// behind it, as far as that is ASCII; `start` if no octet begins there or none is allowed.
+    /// Where the characters and octets behind an octet end that sixteen bytes hold whole; `start`
+    /// where fewer are left, or no ASCII is next.
     #[inline(always)]
-    fn pass_octets(&self, text: &str, start: usize) -> usize
+    fn pass_block(&self, text: &str, start: usize) -> usize
+        requires octets { (set_of self.now).pct_encoded ≡ true }
         requires here { IsCharBoundary text.now start }
-        requires inside { start < length text.now }
-        requires percent { slice_index text.now start ≡ 37 }
         ensures total { result + front (set_of self.now) (drop result text.now)
             ≡ start + front (set_of self.now) (drop start text.now) }
         ensures from { start ≤ result }
         ensures boundary { IsCharBoundary text.now result }
-        ensures stop { result ≡ start → front (set_of self.now) (drop start text.now) ≡ 0 }
     {
         let bytes = text.as_bytes();
-        if !self.allows_pct_encoded() || !begins_octet(bytes, start) {
+        if bytes.len() - start < LANES || bytes[start] >= 128 {
             return start;
         }
-        let i = start + 3;
-        if bytes.len() - i < LANES || bytes[i] >= 128 {
-            return i;
-        }
         let (low, high) = self.masks();
-        i + spelt_length(low, high, bytes, i)
+        start + spelt_length(low, high, bytes, start)
     }
 
-    /// Where the run of ASCII characters ends that begins at `start`; `start` if the first is not
-    /// allowed. One that stands alone is passed by itself.
+    /// Where the run of ASCII characters ends that begins at `start`; no lanes are read where it is
+    /// empty since a character past ASCII is next.
     #[inline(always)]
     fn pass_plain(&self, text: &str, start: usize) -> usize
-        requires here { IsCharBoundary text.now start }
-        requires inside { start < length text.now }
-        requires ascii { slice_index text.now start < 128 }
-        requires plain { (slice_index text.now start == 37) ≡ false }
+        requires { IsCharBoundary text.now start }
         ensures total { result + front (set_of self.now) (drop result text.now)
             ≡ start + front (set_of self.now) (drop start text.now) }
         ensures from { start ≤ result }
         ensures boundary { IsCharBoundary text.now result }
-        ensures stop { result ≡ start → front (set_of self.now) (drop start text.now) ≡ 0 }
     {
-        let (low, high) = self.masks();
         let bytes = text.as_bytes();
-        if !has(low, high, bytes[start]) {
+        if start < bytes.len() && bytes[start] >= 128 {
             return start;
         }
-        let next = start + 1;
-        if next < bytes.len() && bytes[next] >= 128 {
-            return next;
-        }
-        self.pass_ascii(text, next)
-    }
-
-    /// Where the run of characters past ASCII ends that begins at `start`; `start` if the first is
-    /// not allowed.
-    #[inline(always)]
-    fn pass_past_ascii(&self, text: &str, start: usize) -> usize
-        requires here { IsCharBoundary text.now start }
-        requires inside { start < length text.now }
-        requires past { 128 ≤ slice_index text.now start }
-        ensures total { result + front (set_of self.now) (drop result text.now)
-            ≡ start + front (set_of self.now) (drop start text.now) }
-        ensures from { start ≤ result }
-        ensures boundary { IsCharBoundary text.now result }
-        ensures stop { result ≡ start → front (set_of self.now) (drop start text.now) ≡ 0 }
-    {
-        let bytes = text.as_bytes();
-        let mut i = start;
-        while i < bytes.len() && bytes[i] >= 128 {
-            let ch = char_at(text, i);
-            if !self.allows_past_ascii(ch) {
-                break;
-            }
-            i += ch.len_utf8();
-        }
-        i
+        self.pass_ascii(text, start)
     }
 
     /// Whether the table allows octets, or characters past ASCII, and the byte begins one.
@@ -151,6 +111,9 @@ impl Table {
         if start == bytes.len() {
             return start;
         }
+        if self.allows_some_past_ascii() && bytes[start] >= 128 {
+            return self.read_on(text, start);
+        }
         let i = self.pass_ascii(text, start);
         if i == bytes.len() || !self.may_go_on(bytes[i]) {
             return i;
@@ -165,21 +128,28 @@ impl Table {
         ensures end { result ≡ start + front (set_of self) (drop start text.now) }
         ensures boundary { IsCharBoundary text.now result }
     {
+        let (low, high) = self.masks();
         let bytes = text.as_bytes();
         let mut i = start;
         while i < bytes.len() {
             let byte = bytes[i];
-            let end = if byte >= 128 {
-                self.pass_past_ascii(text, i)
+            if byte >= 128 {
+                let ch = char_at(text, i);
+                if !self.allows_past_ascii(ch) {
+                    break;
+                }
+                i += ch.len_utf8();
             } else if byte == b'%' {
-                self.pass_octets(text, i)
+                if !self.allows_pct_encoded() || !begins_octet(bytes, i) {
+                    break;
+                }
+                i = self.pass_block(text, i + 3);
             } else {
-                self.pass_plain(text, i)
-            };
-            if end == i {
-                break;
+                if !has(low, high, byte) {
+                    break;
+                }
+                i = self.pass_plain(text, i + 1);
             }
-            i = end;
         }
         i
     }
