@@ -25,8 +25,6 @@ impl Table {
 
     /// Where the run of ASCII characters ends that begins at `start` and that the table allows,
     /// both as byte offsets.
-    ///
-    /// Where a character past ASCII is next and might be allowed, no lanes are read for nothing.
     #[inline(always)]
     #[doc(hidden)]
     pub fn pass_ascii(&self, text: &str, start: usize) -> usize
@@ -36,11 +34,8 @@ impl Table {
         ensures boundary { IsCharBoundary text.now result }
         ensures stop { result < length text.now → (set_of self.now).ascii (slice_index text.now result) ≡ false }
     {
-        let bytes = text.as_bytes();
-        if self.allows_some_past_ascii() && start < bytes.len() && bytes[start] >= 128 {
-            return start;
-        }
         let (low, high) = self.masks();
+        let bytes = text.as_bytes();
         if bytes.len() >= LANES {
             return run_end(low, high, bytes, start);
         }
@@ -71,6 +66,23 @@ impl Table {
         start + spelt_length(low, high, bytes, start)
     }
 
+    /// Where the run of ASCII characters ends that begins at `start`; no lanes are read where it is
+    /// empty since a character past ASCII is next.
+    #[inline(always)]
+    fn pass_plain(&self, text: &str, start: usize) -> usize
+        requires { IsCharBoundary text.now start }
+        ensures total { result + front (set_of self.now) (drop result text.now)
+            ≡ start + front (set_of self.now) (drop start text.now) }
+        ensures from { start ≤ result }
+        ensures boundary { IsCharBoundary text.now result }
+    {
+        let bytes = text.as_bytes();
+        if start < bytes.len() && bytes[start] >= 128 {
+            return start;
+        }
+        self.pass_ascii(text, start)
+    }
+
     /// Whether the table allows octets, or characters past ASCII, and the byte begins one.
     #[tactic(auto, using(std::proofs::lemmas::Bool::Decides::nat_tests), unfolding(crate::specs::Fronts::may_go_on))]
     #[inline(always)]
@@ -96,7 +108,7 @@ impl Table {
         ensures boundary { IsCharBoundary text.now result }
     {
         let bytes = text.as_bytes();
-        if start >= bytes.len() {
+        if start == bytes.len() {
             return start;
         }
         let i = self.pass_ascii(text, start);
@@ -133,7 +145,7 @@ impl Table {
                 if !has(low, high, byte) {
                     break;
                 }
-                i = self.pass_ascii(text, i + 1);
+                i = self.pass_plain(text, i + 1);
             }
         }
         i

@@ -1,11 +1,11 @@
-use Rattle.std.proofs.Common.{◌≡◌, ◌<◌, ◌≤◌, ◌∙◌, true, get_or, slice_index, arith, ap, subst, sym}
+use Rattle.std.proofs.Common.{◌≡◌, ◌<◌, ◌∙◌, true, get_or, slice_index, arith, ap, subst, sym}
 use Rattle.std.proofs.lemmas.Str.{IsCharBoundary-after_ascii}
 use Rattle.uri_pct.specs.ByteRuns.{IsRun}
 use Rattle.uri_pct.specs.Masks.{has_bit}
 use Rattle.uri_pct.specs.Tables.{set_of}
 use Rattle.uri_pct.proofs.AsciiRuns.{run_read}
 use Rattle.uri_pct.proofs.Fronts.{front-char}
-use Rattle.uri_pct.proofs.Masks.{bit_ascii, has_no_bit}
+use Rattle.uri_pct.proofs.Masks.{bit_ascii}
 use Rattle.uri_pct.proofs.Percent.{lacks_percent}
 use Rattle.uri_pct.proofs.table.Table.pass_ascii.Goals as goal
 
@@ -33,8 +33,3 @@ loop-i-preserved c =
     let below : get_or bs i 0 < 128 = bit_ascii _ _ _ allowed in
     let e = front-char (set_of table) (lacks_percent table) bs i (omega arith) below allowed in
     record { from = omega arith; boundary = IsCharBoundary-after_ascii bs i c.as_bytes-bytes.ensures.utf8 (omega arith) below; total = omega arith }
-
-pub returns-then-bytes-start-ge128-clause-stop : goal.returns-then-bytes-start-ge128-clause-stop
-returns-then-bytes-start-ge128-clause-stop c inside =
-    let past : 128 ≤ get_or c.args.text.now c.args.start 0 = rw (← c.as_bytes-bytes.ensures.value) c.if-bytes-start-ge128.true in
-    has_no_bit c.args.self.now.low c.args.self.now.high _ past

@@ -48,20 +48,20 @@ loop-i-preserved-then-byte-eq37 c =
     let more : end + front set (drop end bs) ≡ i + 3 + front set (drop (i + 3) bs) = rw same c.pass_block-i.ensures.total in
     record { boundary = rw same c.pass_block-i.ensures.boundary; total = more ∙ e ∙ c.loop-i.invariant.total }
 
-pub pass_ascii-i-requires : goal.pass_ascii-i-requires
-pass_ascii-i-requires c = rw (← c.as_bytes-bytes.ensures.value) (IsCharBoundary-after_ascii c.as_bytes-bytes.result.now c.loop-i.i c.as_bytes-bytes.ensures.utf8 c.loop-i-test.true (omega (arith, c.if-byte-ge128.false)))
+pub pass_plain-i-requires : goal.pass_plain-i-requires
+pass_plain-i-requires c = rw (← c.as_bytes-bytes.ensures.value) (IsCharBoundary-after_ascii c.as_bytes-bytes.result.now c.loop-i.i c.as_bytes-bytes.ensures.utf8 c.loop-i-test.true (omega (arith, c.if-byte-ge128.false)))
 
 pub loop-i-preserved : goal.loop-i-preserved
 loop-i-preserved c =
     let set = set_of c.args.self in
     let bs = c.as_bytes-bytes.result.now in
     let i = c.loop-i.i in
-    let end = c.pass_ascii-i.result in
+    let end = c.pass_plain-i.result in
     let same : bs ≡ c.args.text.now = c.as_bytes-bytes.ensures.value in
     let inside : set.ascii (get_or bs i 0) ≡ true = sym (ap (λ f. f (get_or bs i 0)) c.masks-low.ensures) ∙ sym c.has.ensures ∙ c.if-not-has.false in
     let e : front set (drop i bs) ≡ front set (drop (i + 1) bs) + 1 = front-char set (lacks_percent c.args.self) bs i c.loop-i-test.true (omega (arith, c.if-byte-ge128.false)) inside in
-    let more : end + front set (drop end bs) ≡ i + 1 + front set (drop (i + 1) bs) = rw same c.pass_ascii-i.ensures.total in
-    record { boundary = rw same c.pass_ascii-i.ensures.boundary; total = omega (arith, more, e, c.loop-i.invariant.total) }
+    let more : end + front set (drop end bs) ≡ i + 1 + front set (drop (i + 1) bs) = rw same c.pass_plain-i.ensures.total in
+    record { boundary = rw same c.pass_plain-i.ensures.boundary; total = omega (arith, more, e, c.loop-i.invariant.total) }
 
 pub returns-after-loop-i-clause-end : goal.returns-after-loop-i-clause-end
 returns-after-loop-i-clause-end c =
