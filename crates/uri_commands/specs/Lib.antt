@@ -3,6 +3,7 @@ pub mod Texts
 pub mod Commands
 pub mod Asked
 pub mod Refusals
+pub mod Ends
 pub mod Fronts
 pub use Rattle.fluent_uri.specs.Components
 pub use Rattle.fluent_uri.specs.Errors

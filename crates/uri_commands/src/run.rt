@@ -3,6 +3,7 @@ ghost use Rattle.std.specs.Prelude.{◌≡◌, ◌↔◌, ◌≤◌, ◌++◌, I
 ghost use Rattle.std.specs.Io.KnownBytes.{Appends, Keeps};
 ghost use Rattle.uri_commands.specs.Commands.{Command as Asked, Parse, Normalize, Resolve, IsCommand, Prints, kind_of, words_of, output_of, texts};
 ghost use Rattle.uri_commands.specs.Asked.{asked};
+ghost use Rattle.uri_commands.specs.Ends.{IsAnswered, IsRefused, Takes};
 ghost use Rattle.uri_commands.specs.Fronts.{AppendsFront};
 ghost use Rattle.uri_commands.specs.Refusals.{IsErrorOf, IsRefusalOf, error_line, usage_line};
 ghost use Rattle.uri_commands.specs.Texts.{components_in};
@@ -19,7 +20,16 @@ use crate::target::target;
 use crate::told::tell_usage;
 use fluent_uri::{Iri, IriRef, ParseError, Uri, UriRef};
 use std::alloc::Global;
-use std::io::Write;
+use std::io::{self, Write};
+
+/// How a command ended.
+#[derive(Drop)]
+pub struct Ended {
+    /// The exit status.
+    pub status: u8,
+    /// Whether the error output took what it was told.
+    pub told: io::Result<()>,
+}
 
 /// Does what the words ask for, and answers the exit status.
 ///
@@ -27,12 +37,9 @@ use std::io::Write;
 /// newline. 2: the words are no command, and `err` got the usage line. A failing `err` changes no
 /// status; it got a front of the line, and nothing else.
 pub fn run<O: Write, E: Write>(alloc: Global, words: &[String], out: &mut O, err: &mut E) -> u8
-    ensures answered { result ≡ 0 → (command : Asked) × (lines : List ℕ)
-        × (texts words.now ≡ words_of command) × (output_of command ≡ Some lines)
-        × Appends (O.contents out.old) (O.contents out.new) lines
-        × Keeps (E.contents err.old) (E.contents err.new) }
-    ensures refused { (command : Asked) → texts words.now ≡ words_of command → output_of command ≡ None
-        → (result ≡ 1) × Keeps (O.contents out.old) (O.contents out.new) }
+    ensures answered { result ≡ 0 → IsAnswered (texts words.now) (O.contents out.old)
+        (O.contents out.new) (E.contents err.old) (E.contents err.new) }
+    ensures refused { IsRefused (texts words.now) (O.contents out.old) (O.contents out.new) result }
     ensures usage { (result ≡ 2) ↔ ¬ IsCommand (texts words.now) }
     ensures usage_keeps { result ≡ 2 → Keeps (O.contents out.old) (O.contents out.new) }
     ensures status { result ≤ 2 }
@@ -42,15 +49,41 @@ pub fn run<O: Write, E: Write>(alloc: Global, words: &[String], out: &mut O, err
     ensures usage_told { result ≡ 2
         → AppendsFront (E.contents err.old) (E.contents err.new) usage_line }
 {
+    execute(alloc, words, out, err).status
+}
+
+/// Does what the words ask for, as `run` does, and answers beside the exit status whether `err` took
+/// the whole line that it was told.
+pub fn execute<O: Write, E: Write>(
+    alloc: Global,
+    words: &[String],
+    out: &mut O,
+    err: &mut E,
+) -> Ended
+    ensures answered { result.status ≡ 0 → IsAnswered (texts words.now) (O.contents out.old)
+        (O.contents out.new) (E.contents err.old) (E.contents err.new) }
+    ensures refused { IsRefused (texts words.now) (O.contents out.old) (O.contents out.new) result.status }
+    ensures usage { (result.status ≡ 2) ↔ ¬ IsCommand (texts words.now) }
+    ensures usage_keeps { result.status ≡ 2 → Keeps (O.contents out.old) (O.contents out.new) }
+    ensures status { result.status ≤ 2 }
+    ensures told { result.status ≡ 1 → (command : Asked) × (why : Refusal)
+        × (texts words.now ≡ words_of command) × IsRefusalOf command why
+        × Takes (E.contents err.old) (E.contents err.new) (error_line why) result.told }
+    ensures usage_told { result.status ≡ 2
+        → Takes (E.contents err.old) (E.contents err.new) usage_line result.told }
+{
     let Some(command) = Command::from_words(words) else {
-        let _ = tell_usage(err);
-        return 2;
+        let told = tell_usage(err);
+        return Ended { status: 2, told };
     };
     match answer(alloc, command, out) {
-        Ok(()) => 0,
+        Ok(()) => Ended {
+            status: 0,
+            told: Ok(()),
+        },
         Err(why) => {
-            let _ = why.tell(err);
-            1
+            let told = why.tell(err);
+            Ended { status: 1, told }
         }
     }
 }
