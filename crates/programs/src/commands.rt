@@ -189,7 +189,7 @@ fn says_why_words_are_refused(rt: HostRuntime) {
 }
 
 /// A text for each kind of fault.
-const FAULTS: &[&str] = &["a b", "text%a", "//[:]"];
+const FAULTS: &[&str] = &["a b", "text%a", "http://[:]"];
 
 const RESOLVE_ERRORS: &[ResolveError] = &[
     ResolveError::BaseWithFragment,
@@ -284,8 +284,16 @@ fn ends_alike_without_errors_shown(rt: HostRuntime) {
 #[test]
 fn goes_on_after_short_and_interrupted_writes(rt: HostRuntime) {
     let alloc = rt.alloc();
-    let mut err = Slow { taken: Vec::new(alloc), is_interrupted: false };
-    let status = run_words(alloc, &["parse", "uri", "foo"], &mut Vec::new(alloc), &mut err);
+    let mut err = Slow {
+        taken: Vec::new(alloc),
+        is_interrupted: false,
+    };
+    let status = run_words(
+        alloc,
+        &["parse", "uri", "foo"],
+        &mut Vec::new(alloc),
+        &mut err,
+    );
     equal(status.expect(&rt, "memory"), 1).expect(&rt, "status");
     let line = b"error: unexpected character at index 3\n".as_slice();
     equal(err.taken.as_slice(), line).expect(&rt, "error output");
