@@ -2,6 +2,8 @@
 #![tactic(auto)]
 
 #[cfg(test)]
+mod long_runs;
+#[cfg(test)]
 mod normalising;
 #[cfg(test)]
 mod resolving;

@@ -4,6 +4,8 @@
 #[cfg(test)]
 mod commands;
 #[cfg(test)]
+mod large;
+#[cfg(test)]
 mod rows;
 #[cfg(test)]
 mod writers;

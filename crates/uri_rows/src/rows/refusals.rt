@@ -65,6 +65,46 @@ const ROWS: &[Row] = &[
     Row("C18", &[Refused(Uri, "exam=ple:foo", UnexpectedChar, 4)]),
     Row("C19", &[Refused(Uri, "(:", UnexpectedChar, 0)]),
     Row("C20", &[Refused(Uri, "a%20:foo", UnexpectedChar, 1)]),
+    Row("R14.1", &[Refused(UriRef, "//[", UnexpectedChar, 3)]),
+    Row(
+        "R14.2",
+        &[
+            Refused(UriRef, "//[1", InvalidIpv6Addr, 3),
+            Refused(UriRef, "//[1:", InvalidIpv6Addr, 3),
+        ],
+    ),
+    Row(
+        "R14.3",
+        &[
+            Refused(UriRef, "//[1::", UnexpectedChar, 6),
+            Refused(UriRef, "//[1::2", UnexpectedChar, 7),
+        ],
+    ),
+    Row(
+        "R14.4",
+        &[
+            Refused(UriRef, "//[::1.2.3.", InvalidIpv6Addr, 3),
+            Refused(UriRef, "//[::1.2.3.256]", InvalidIpv6Addr, 3),
+        ],
+    ),
+    Row(
+        "R14.5",
+        &[
+            Refused(UriRef, "//[::1.2.3.4", UnexpectedChar, 12),
+            Refused(UriRef, "//[::1.2.3.4.5]", UnexpectedChar, 12),
+        ],
+    ),
+    Row(
+        "R14.6",
+        &[
+            Refused(UriRef, "//[v", UnexpectedChar, 4),
+            Refused(UriRef, "//[v1.", UnexpectedChar, 6),
+        ],
+    ),
+    Row(
+        "R14.7",
+        &[Refused(UriRef, "//[fe80::1%25en1]", UnexpectedChar, 10)],
+    ),
 ];
 
 /// The rows.
