@@ -2,8 +2,6 @@
 #![tactic(auto)]
 
 #[cfg(test)]
-mod long_runs;
-#[cfg(test)]
 mod normalising;
 #[cfg(test)]
 mod resolving;
