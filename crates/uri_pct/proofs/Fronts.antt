@@ -1,12 +1,12 @@
 -- The longest front that a set allows, step by step.
-use Rattle.std.proofs.Common.{◌≡◌, ℕ, zero, suc, ◌+◌, ◌<◌, ◌≤◌, true, false, cond, eqb, List, [], ◌∷◌, ◌++◌, length, get_or, drop, refl, sym, subst, ap, ◌∙◌, arith, ◌&&◌, ⊎_elim, add-one, zero-add}
+use Rattle.std.proofs.Common.{◌≡◌, ℕ, zero, suc, ◌+◌, ◌<◌, ◌≤◌, true, false, not, cond, eqb, List, [], ◌∷◌, ◌++◌, length, get_or, drop, refl, sym, subst, ap, ◌∙◌, arith, ◌&&◌, ◌||◌, ⊎_elim, add-one, zero-add}
 use Rattle.std.specs.Char.{encode_utf8, len_utf8}
 use Rattle.std.specs.Str.{continuation_len, IsUtf8, IsCharBoundary}
 use Rattle.std.proofs.lemmas.Str.{length-encode, chars_past_char, IsUtf8-drop}
 use Rattle.std.proofs.lemmas.List.{at_drop_more, get_or-drop, drop_all}
-use Rattle.std.proofs.lemmas.Bool.{cases_Bool, cases_lt, cond-true, cond-false, and_from, and_left, and_right, and_parts, or_left, or_right, or_cases, eq-eqb, eqb-true, ne_eqb, lt-ltb, le-ltb, both_ways}
+use Rattle.std.proofs.lemmas.Bool.{cases_Bool, cases_lt, cond-true, cond-false, and_from, and_left, and_right, and_parts, or_left, or_right, or_cases, or_from, or_parts, eq-eqb, eqb-true, ne_eqb, lt-ltb, le-ltb, both_ways}
 use Rattle.uri_pct.specs.Sets.{TableSet, LacksPercent, IsSubset, allows_past_ascii}
-use Rattle.uri_pct.specs.Fronts.{begins_hex, first_char, allows_first, front_from, front, after, has_digits}
+use Rattle.uri_pct.specs.Fronts.{begins_hex, first_char, allows_first, front_from, front, after, has_digits, may_go_on}
 use Rattle.uri_pct.proofs.Characters.{bytes_of_char, hex_ascii}
 use Rattle.uri_pct.proofs.Validity.{allows_first-ascii, allows_first-past}
 use Rattle.uri_pct.proofs.Cuts.{front_cons}
@@ -186,3 +186,24 @@ stray-digits set bs i h o p z = ⊎_elim
     (λ e. absurd (none_read _ (sym (cond-true _ _ _ (digits_at bs i ∙ e)) ∙ sym (cond-true _ _ _ (and_from _ _ o (eq-eqb _ _ p))) ∙ sym (front_at set bs i h) ∙ z)))
     (λ e. e)
     (cases_Bool (has_digits bs i))
+
+-- where no ASCII is allowed and reading may not go on
+flags_off : (set : TableSet) → (set.ucschar || set.iprivate) ≡ false → (c : ℕ) → allows_past_ascii set c ≡ false
+unfolding allows_past_ascii
+flags_off set e c = or_from _ _ (and_left _ _ (or_parts set.ucschar set.iprivate e).0) (and_left _ _ (or_parts set.ucschar set.iprivate e).1)
+
+front-past-none : (set : TableSet) (bs : List ℕ) (i : ℕ) → i < length bs → 128 ≤ get_or bs i 0 → (set.ucschar || set.iprivate) ≡ false → front set (drop i bs) ≡ 0
+front-past-none set bs i h l e =
+    front_at set bs i h
+    ∙ cond-false _ _ _ (and_right _ _ (ne_eqb (get_or bs i 0) 37 (too_big (get_or bs i 0) l)))
+    ∙ cond-false _ _ _ (allows_first-past set _ _ l ∙ flags_off set e _)
+
+pub front-done : (set : TableSet) → LacksPercent set → (bs : List ℕ) (i : ℕ) → i < length bs → set.ascii (get_or bs i 0) ≡ false → may_go_on set (get_or bs i 0) ≡ false → front set (drop i bs) ≡ 0
+unfolding may_go_on
+front-done set lacks bs i h a e = ⊎_elim
+    (λ p. front-stray set lacks bs i h (eqb-true _ _ p) (and_left _ _ (sym (cond-true _ _ _ p) ∙ e)))
+    (λ p. ⊎_elim
+    (λ (below : get_or bs i 0 < 128). front-stop set bs i h below p a)
+    (λ (past : 128 ≤ get_or bs i 0). front-past-none set bs i h past (sym (ap (λ b. not b && (set.ucschar || set.iprivate)) (le-ltb (get_or bs i 0) 128 past)) ∙ sym (cond-false _ _ _ p) ∙ e))
+    (cases_lt (get_or bs i 0) 128))
+    (cases_Bool (eqb (get_or bs i 0) 37))

@@ -37,3 +37,9 @@ pub mod EncodedTokens
 pub mod Growing
 pub mod EncodingLaws
 mod EncodingRows
+pub mod LaneMasks
+pub mod LaneRuns
+pub mod AsciiRuns
+pub mod LaneBits
+pub mod OctetLanes
+pub mod SpeltRuns

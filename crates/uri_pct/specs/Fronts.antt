@@ -1,5 +1,5 @@
 -- How far a text is spelt by what a set allows, read byte by byte.
-use Rattle.std.specs.Prelude.{◌≡◌, ◌<◌, length, false, ℕ, zero, suc, ◌+◌, Bool, ◌&&◌, ◌==◌, nat_lt, List, [], ◌∷◌, drop, slice_index, if◌then◌else◌}
+use Rattle.std.specs.Prelude.{◌≡◌, ◌<◌, length, false, ℕ, zero, suc, ◌+◌, Bool, not, ◌&&◌, ◌||◌, ◌==◌, nat_lt, List, [], ◌∷◌, drop, slice_index, if◌then◌else◌}
 use Rattle.std.specs.Char.{is_ascii_hexdigit}
 use Rattle.std.specs.Str.{chars, continuation_len}
 use Rattle.uri_pct.specs.Sets.{TableSet, allows_past_ascii}
@@ -42,3 +42,7 @@ pub record IsStrayPercent (text : List ℕ) (i : ℕ) : Type 0 where
   pub inside : i < length text
   pub percent : slice_index text i ≡ 37
   pub stray : has_digits text i ≡ false
+
+-- the set allows octets, or characters past ASCII, and the byte begins one
+unfoldable pub may_go_on : TableSet → ℕ → Bool
+may_go_on set b = if b == 37 then set.pct_encoded else (not (nat_lt b 128) && (set.ucschar || set.iprivate))

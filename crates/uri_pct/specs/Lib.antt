@@ -16,3 +16,5 @@ pub mod Cows
 pub mod TakenBytes
 pub mod Encoding
 pub mod EStrings
+pub mod LaneMasks
+pub mod ByteRuns

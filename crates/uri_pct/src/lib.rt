@@ -13,6 +13,8 @@ pub mod encoder;
 #[doc(hidden)]
 pub mod estring;
 #[doc(hidden)]
+pub mod lanes;
+#[doc(hidden)]
 pub mod laws;
 #[doc(hidden)]
 pub mod octet;

@@ -1,9 +1,10 @@
 //! How far a table reads a text.
-ghost use Rattle.std.specs.Prelude.{◌≡◌, ◌<◌, ◌+◌, IsTrue, length, drop};
+ghost use Rattle.std.specs.Prelude.{◌≡◌, ◌<◌, ◌≤◌, ◌+◌, IsTrue, false, true, length, drop, slice_index};
 ghost use Rattle.std.specs.Str.{IsCharBoundary};
-ghost use Rattle.uri_pct.specs.Fronts.{front, has_digits};
+ghost use Rattle.uri_pct.specs.Fronts.{front, has_digits, may_go_on};
 ghost use Rattle.uri_pct.specs.Tokens.{is_valid_for};
 
+use crate::lanes::{LANES, has, holds, run_end, spelt_length, words};
 use crate::table::Table;
 use crate::utf8::char_at;
 
@@ -22,6 +23,79 @@ fn begins_octet(bytes: &[u8], index: usize) -> bool
 impl Table {
     ghost use Rattle.uri_pct.specs.Tables.{set_of};
 
+    /// Where the run of ASCII characters ends that begins at `start` and that the table allows,
+    /// both as byte offsets.
+    #[inline(always)]
+    #[doc(hidden)]
+    pub fn pass_ascii(&self, text: &str, start: usize) -> usize
+        requires { IsCharBoundary text.now start }
+        ensures total { result + front (set_of self.now) (drop result text.now) ≡ start + front (set_of self.now) (drop start text.now) }
+        ensures from { start ≤ result }
+        ensures boundary { IsCharBoundary text.now result }
+        ensures stop { result < length text.now → (set_of self.now).ascii (slice_index text.now result) ≡ false }
+    {
+        let (low, high) = self.masks();
+        let bytes = text.as_bytes();
+        if bytes.len() >= LANES {
+            return run_end(low, high, bytes, start);
+        }
+        let words = words(low, high);
+        let mut i = start;
+        while i < bytes.len() && holds(&words, bytes[i]) {
+            i += 1;
+        }
+        i
+    }
+
+    /// Where those of the next sixteen bytes end that are allowed characters of ASCII or parts of
+    /// octets which lie whole among them; `start` where fewer are left, or no ASCII is next.
+    #[inline(always)]
+    fn pass_block(&self, text: &str, start: usize) -> usize
+        requires octets { (set_of self.now).pct_encoded ≡ true }
+        requires here { IsCharBoundary text.now start }
+        ensures total { result + front (set_of self.now) (drop result text.now)
+            ≡ start + front (set_of self.now) (drop start text.now) }
+        ensures from { start ≤ result }
+        ensures boundary { IsCharBoundary text.now result }
+    {
+        let bytes = text.as_bytes();
+        if bytes.len() - start < LANES || bytes[start] >= 128 {
+            return start;
+        }
+        let (low, high) = self.masks();
+        start + spelt_length(low, high, bytes, start)
+    }
+
+    /// Where the run of ASCII characters ends that begins at `start`, where a character past ASCII
+    /// is often next: that is looked at first.
+    #[inline(always)]
+    fn pass_plain(&self, text: &str, start: usize) -> usize
+        requires { IsCharBoundary text.now start }
+        ensures total { result + front (set_of self.now) (drop result text.now)
+            ≡ start + front (set_of self.now) (drop start text.now) }
+        ensures from { start ≤ result }
+        ensures boundary { IsCharBoundary text.now result }
+    {
+        let bytes = text.as_bytes();
+        if start < bytes.len() && bytes[start] >= 128 {
+            return start;
+        }
+        self.pass_ascii(text, start)
+    }
+
+    /// Whether the table allows octets, or characters past ASCII, and the byte begins one.
+    #[tactic(auto, using(std::proofs::lemmas::Bool::Decides::nat_tests), unfolding(crate::specs::Fronts::may_go_on))]
+    #[inline(always)]
+    fn may_go_on(&self, byte: u8) -> bool
+        ensures { result ≡ may_go_on (set_of self.now) byte }
+    {
+        if byte == b'%' {
+            self.allows_pct_encoded()
+        } else {
+            byte >= 128 && self.allows_some_past_ascii()
+        }
+    }
+
     /// Where the longest piece ends that begins at `start` and is spelt by what the table allows,
     /// both as byte offsets.
     ///
@@ -33,17 +107,15 @@ impl Table {
         ensures end { result ≡ start + front (set_of self.now) (drop start text.now) }
         ensures boundary { IsCharBoundary text.now result }
     {
-        let i = self.pass_ascii(text, start);
         let bytes = text.as_bytes();
-        if i == bytes.len() {
+        if start == bytes.len() {
+            return start;
+        }
+        let i = self.pass_ascii(text, start);
+        if i == bytes.len() || !self.may_go_on(bytes[i]) {
             return i;
         }
-        let byte = bytes[i];
-        if byte < 128 && byte != b'%' {
-            i
-        } else {
-            self.read_on(text, i)
-        }
+        self.read_on(text, i)
     }
 
     /// Where the longest piece ends that begins at `start`, whatever it is spelt by.
@@ -53,13 +125,10 @@ impl Table {
         ensures end { result ≡ start + front (set_of self) (drop start text.now) }
         ensures boundary { IsCharBoundary text.now result }
     {
+        let (low, high) = self.masks();
         let bytes = text.as_bytes();
         let mut i = start;
-        loop {
-            i = self.pass_ascii(text, i);
-            if i == bytes.len() {
-                break;
-            }
+        while i < bytes.len() {
             let byte = bytes[i];
             if byte >= 128 {
                 let ch = char_at(text, i);
@@ -67,10 +136,16 @@ impl Table {
                     break;
                 }
                 i += ch.len_utf8();
-            } else if byte == b'%' && self.allows_pct_encoded() && begins_octet(bytes, i) {
-                i += 3;
+            } else if byte == b'%' {
+                if !self.allows_pct_encoded() || !begins_octet(bytes, i) {
+                    break;
+                }
+                i = self.pass_block(text, i + 3);
             } else {
-                break;
+                if !has(low, high, byte) {
+                    break;
+                }
+                i = self.pass_plain(text, i + 1);
             }
         }
         i

@@ -1,12 +1,12 @@
 //! Sets of characters (RFC 3986, appendix A; RFC 3987, section 2.2).
-ghost use Rattle.std.specs.Prelude.{◌≡◌, ◌<◌, ◌≤◌, ◌+◌, ◌↔◌, ◌==◌, ℕ, IsTrue, true, false, length, drop, slice_index};
+ghost use Rattle.std.specs.Prelude.{◌≡◌, ◌<◌, ◌↔◌, ◌==◌, ◌||◌, ℕ, IsTrue, true, false};
 ghost use Rattle.std.specs.Int.{bit_at};
 ghost use Rattle.std.specs.List.{list_all};
-ghost use Rattle.std.specs.Str.{IsCharBoundary};
-ghost use Rattle.uri_pct.specs.Fronts.{front};
 ghost use Rattle.uri_pct.specs.Masks.{has_bit, is_plain_ascii};
 ghost use Rattle.uri_pct.specs.Reading.{is_readable};
 ghost use Rattle.uri_pct.specs.Sets.{allows, allows_past_ascii, is_ucschar, is_iprivate, is_one_of, plain, union, difference, IsSubset};
+
+use crate::lanes::{holds, words};
 
 /// A set of ASCII characters other than `%`, and three flags: whether percent-encoded octets,
 /// the characters of `ucschar` and those of `iprivate` (RFC 3987, section 2.2) may stand beside them.
@@ -127,38 +127,25 @@ impl Table {
         ensures value { result ≡ (set_of self.now).ascii byte }
         ensures ascii { IsTrue result → byte < 128 }
     {
-        holds(&self.words(), byte)
+        holds(&words(self.low, self.high), byte)
     }
 
-    /// The bits of the codes below 64, of those from 64 on, and of those that are no ASCII.
-    #[inline]
-    fn words(&self) -> [u64; 4]
-        ensures low { slice_index result 0 ≡ self.now.low }
-        ensures high { slice_index result 1 ≡ self.now.high }
-        ensures third { slice_index result 2 ≡ 0 }
-        ensures fourth { slice_index result 3 ≡ 0 }
-    {
-        [self.low, self.high, 0, 0]
-    }
-
-    /// Where the run of ASCII characters ends that begins at `start` and that the table allows,
-    /// both as byte offsets.
+    /// The bits of the codes below 64, and of those from 64 on.
     #[inline(always)]
     #[doc(hidden)]
-    pub fn pass_ascii(&self, text: &str, start: usize) -> usize
-        requires { IsCharBoundary text.now start }
-        ensures total { result + front (set_of self.now) (drop result text.now) ≡ start + front (set_of self.now) (drop start text.now) }
-        ensures from { start ≤ result }
-        ensures boundary { IsCharBoundary text.now result }
-        ensures stop { result < length text.now → (set_of self.now).ascii (slice_index text.now result) ≡ false }
+    pub fn masks(&self) -> (u64, u64)
+        ensures { has_bit result.0 result.1 ≡ (set_of self.now).ascii }
     {
-        let words = self.words();
-        let bytes = text.as_bytes();
-        let mut i = start;
-        while i < bytes.len() && holds(&words, bytes[i]) {
-            i += 1;
-        }
-        i
+        (self.low, self.high)
+    }
+
+    /// Whether some characters past ASCII are allowed.
+    #[inline(always)]
+    #[doc(hidden)]
+    pub fn allows_some_past_ascii(&self) -> bool
+        ensures { result ≡ ((set_of self.now).ucschar || (set_of self.now).iprivate) }
+    {
+        self.ucschar || self.iprivate
     }
 
     /// Whether a character past ASCII is allowed, as one of `ucschar` or of `iprivate`.
@@ -196,16 +183,6 @@ impl Table {
             iprivate: self.iprivate,
         }
     }
-}
-
-/// Whether the bit of the code `byte` is set in the words, of which the last two are empty.
-#[inline]
-fn holds(words: &[u64; 4], byte: u8) -> bool
-    requires third { slice_index words.now 2 ≡ 0 }
-    requires fourth { slice_index words.now 3 ≡ 0 }
-    ensures { result ≡ has_bit (slice_index words.now 0) (slice_index words.now 1) byte }
-{
-    (words[(byte >> 6) as usize] >> (byte & 63)) & 1 == 1
 }
 
 /// A character of the rule `ucschar` (RFC 3987, section 2.2).

@@ -1,82 +1,103 @@
-use Rattle.std.proofs.Common.{◌≡◌, ◌+◌, ◌<◌, true, false, length, drop, get_or, arith, rules, ◌++◌, encode_utf8, sym, ◌∙◌}
+use Rattle.std.proofs.Common.{◌≡◌, ◌+◌, ◌<◌, true, false, length, drop, get_or, arith, rules, ◌++◌, ◌&&◌, encode_utf8, sym, ◌∙◌, ap}
 use Rattle.std.proofs.lemmas.Bool.{and_left, and_right, ne_eqb, cond-true, cond-false}
 use Rattle.std.proofs.lemmas.Str.{IsCharBoundary-after_ascii, IsCharBoundary-past_char, IsUtf8-drop}
 use Rattle.std.specs.Char.{len_utf8}
-use Rattle.std.specs.Str.{IsCharBoundary}
-use Rattle.uri_pct.specs.Sets.{allows_past_ascii}
 use Rattle.uri_pct.specs.Fronts.{front, has_digits}
 use Rattle.uri_pct.specs.Tables.{set_of}
-use Rattle.uri_pct.proofs.Fronts.{front-end, front-stop, front-stray, front-octet, front-past-at, digits-ascii}
+use Rattle.uri_pct.proofs.Fronts.{front-end, front-char, front-stop, front-stray, front-past-at}
 use Rattle.uri_pct.proofs.Percent.{lacks_percent}
+use Rattle.uri_pct.proofs.SpeltRuns.{octet_read}
 use Rattle.uri_pct.proofs.table.Table.read_on.Goals as goal
-use Rattle.uri_pct.proofs.table.Table.read_on.Goals.{else-byte-eq37-via-then-byte-eq37+then-allows_pct_encoded+else-begins_octet, else-byte-eq37-via-then-byte-eq37+else-allows_pct_encoded, else-byte-eq37-via-else-byte-eq37}
+use Rattle.uri_pct.proofs.table.Table.read_on.Goals.{then-not-allows_pct_encoded-via-then-not-allows_pct_encoded, then-not-allows_pct_encoded-via-else-not-allows_pct_encoded+then-not-begins_octet}
 
 pub loop-i-preserved-then-byte-ge128 : goal.loop-i-preserved-then-byte-ge128
 loop-i-preserved-then-byte-ge128 c =
     let set = set_of c.args.self in
     let bs = c.as_bytes-bytes.result.now in
-    let i = c.pass_ascii-i.result in
+    let i = c.loop-i.i in
     let ch = c.char_at-ch.result in
-    let same : bs ≡ c.args.text.now = c.as_bytes-bytes.ensures.value in
-    let here : IsCharBoundary bs i = rw same c.pass_ascii-i.ensures.boundary in
-    let passed : i + front set (drop i bs) ≡ c.loop-i.i + front set (drop c.loop-i.i bs) = rw same c.pass_ascii-i.ensures.total in
-    let spelt : drop i bs ≡ encode_utf8 ch ++ drop (i + len_utf8 ch) bs = rw same c.char_at-ch.ensures in
-    let allowed : allows_past_ascii set ch ≡ true = cc in
+    let utf8 = c.as_bytes-bytes.ensures.utf8 in
+    let here = c.loop-i.invariant.boundary in
+    let spelt : drop i bs ≡ encode_utf8 ch ++ drop (i + len_utf8 ch) bs = rw c.as_bytes-bytes.ensures.value c.char_at-ch.ensures in
     let e : front set (drop i bs) ≡ front set (drop (i + len_utf8 ch) bs) + len_utf8 ch =
-    front-past-at set bs i ch c.as_bytes-bytes.ensures.utf8 here spelt c.if-byte-ge128.true ∙ cond-true _ _ _ allowed in
-    let b = IsCharBoundary-past_char bs (drop (i + len_utf8 ch) bs) i ch (omega arith) (IsUtf8-drop bs i c.as_bytes-bytes.ensures.utf8 here) spelt in
-    rw c.len_utf8-i.ensures.value (record { boundary = b; total = omega arith })
+    front-past-at set bs i ch utf8 here spelt c.if-byte-ge128.true ∙ cond-true _ _ _ (sym c.allows_past_ascii.ensures ∙ c.if-not-allows_past_ascii.false) in
+    let b = IsCharBoundary-past_char bs (drop (i + len_utf8 ch) bs) i ch (omega (arith, c.loop-i-test.true)) (IsUtf8-drop bs i utf8 here) spelt in
+    rw c.len_utf8-i.ensures.value (record { boundary = b; total = omega (arith, c.loop-i.invariant.total, e) })
+
+pub pass_block-i-requires-clause-here : goal.pass_block-i-requires-clause-here
+pass_block-i-requires-clause-here c =
+    let bs = c.as_bytes-bytes.result.now in
+    let i = c.loop-i.i in
+    let pct = sym c.allows_pct_encoded.ensures ∙ c.if-not-allows_pct_encoded.false in
+    let digits = sym c.begins_octet.ensures.value ∙ c.if-not-begins_octet.false in
+    let within : i + 2 < length bs = c.begins_octet.ensures.within (search rules) in
+    rw (← c.as_bytes-bytes.ensures.value) (octet_read (set_of c.args.self) bs i c.as_bytes-bytes.ensures.utf8 pct within c.if-byte-eq37.true digits).1
+
+pub loop-i-preserved-then-byte-eq37 : goal.loop-i-preserved-then-byte-eq37
+loop-i-preserved-then-byte-eq37 c =
+    let set = set_of c.args.self in
+    let bs = c.as_bytes-bytes.result.now in
+    let i = c.loop-i.i in
+    let end = c.pass_block-i.result in
+    let same : bs ≡ c.args.text.now = c.as_bytes-bytes.ensures.value in
+    let pct = sym c.allows_pct_encoded.ensures ∙ c.if-not-allows_pct_encoded.false in
+    let digits = sym c.begins_octet.ensures.value ∙ c.if-not-begins_octet.false in
+    let within : i + 2 < length bs = c.begins_octet.ensures.within (search rules) in
+    let e = (octet_read set bs i c.as_bytes-bytes.ensures.utf8 pct within c.if-byte-eq37.true digits).0 in
+    let more : end + front set (drop end bs) ≡ i + 3 + front set (drop (i + 3) bs) = rw same c.pass_block-i.ensures.total in
+    record { boundary = rw same c.pass_block-i.ensures.boundary; total = more ∙ e ∙ c.loop-i.invariant.total }
+
+pub pass_plain-i-requires : goal.pass_plain-i-requires
+pass_plain-i-requires c = rw (← c.as_bytes-bytes.ensures.value) (IsCharBoundary-after_ascii c.as_bytes-bytes.result.now c.loop-i.i c.as_bytes-bytes.ensures.utf8 c.loop-i-test.true (omega (arith, c.if-byte-ge128.false)))
 
 pub loop-i-preserved : goal.loop-i-preserved
 loop-i-preserved c =
     let set = set_of c.args.self in
     let bs = c.as_bytes-bytes.result.now in
-    let i = c.pass_ascii-i.result in
-    let passed : i + front set (drop i bs) ≡ c.loop-i.i + front set (drop c.loop-i.i bs) = rw c.as_bytes-bytes.ensures.value c.pass_ascii-i.ensures.total in
-    let digits : has_digits bs i ≡ true = cc in
-    let within : i + 2 < length bs = omega (arith, c.begins_octet.ensures.within (search rules)) in
-    let e = front-octet set bs i within (cc) c.if-byte-eq37.true digits in
-    let f : i + 2 + 1 ≡ i + 3 = omega arith in
-    let b = IsCharBoundary-after_ascii bs (i + 2) c.as_bytes-bytes.ensures.utf8 within (digits-ascii bs i digits) in
-    record { boundary = rw f at b; total = omega arith }
+    let i = c.loop-i.i in
+    let end = c.pass_plain-i.result in
+    let same : bs ≡ c.args.text.now = c.as_bytes-bytes.ensures.value in
+    let inside : set.ascii (get_or bs i 0) ≡ true = sym (ap (λ f. f (get_or bs i 0)) c.masks-low.ensures) ∙ sym c.has.ensures ∙ c.if-not-has.false in
+    let e : front set (drop i bs) ≡ front set (drop (i + 1) bs) + 1 = front-char set (lacks_percent c.args.self) bs i c.loop-i-test.true (omega (arith, c.if-byte-ge128.false)) inside in
+    let more : end + front set (drop end bs) ≡ i + 1 + front set (drop (i + 1) bs) = rw same c.pass_plain-i.ensures.total in
+    record { boundary = rw same c.pass_plain-i.ensures.boundary; total = omega (arith, more, e, c.loop-i.invariant.total) }
 
-pub returns-then-i-bytes-clause-end : goal.returns-then-i-bytes-clause-end
-returns-then-i-bytes-clause-end c =
+pub returns-after-loop-i-clause-end : goal.returns-after-loop-i-clause-end
+returns-after-loop-i-clause-end c =
     let set = set_of c.args.self in
     let bs = c.as_bytes-bytes.result.now in
-    let i = c.pass_ascii-i.result in
-    let passed : i + front set (drop i bs) ≡ c.loop-i.i + front set (drop c.loop-i.i bs) = rw c.as_bytes-bytes.ensures.value c.pass_ascii-i.ensures.total in
-    let e = front-end set bs i (omega arith) in
-    rw (← c.as_bytes-bytes.ensures.value) (omega arith)
+    let i = c.loop-i.i in
+    let none : front set (drop i bs) ≡ 0 = front-end set bs i (omega (arith, c.loop-i-test.false)) in
+    rw (← c.as_bytes-bytes.ensures.value) (omega (arith, c.loop-i.invariant.total, none))
 
 pub returns-then-not-allows_past_ascii-clause-end : goal.returns-then-not-allows_past_ascii-clause-end
 returns-then-not-allows_past_ascii-clause-end c =
     let set = set_of c.args.self in
     let bs = c.as_bytes-bytes.result.now in
-    let i = c.pass_ascii-i.result in
+    let i = c.loop-i.i in
     let ch = c.char_at-ch.result in
-    let same : bs ≡ c.args.text.now = c.as_bytes-bytes.ensures.value in
-    let here : IsCharBoundary bs i = rw same c.pass_ascii-i.ensures.boundary in
-    let passed : i + front set (drop i bs) ≡ c.loop-i.i + front set (drop c.loop-i.i bs) = rw same c.pass_ascii-i.ensures.total in
-    let spelt : drop i bs ≡ encode_utf8 ch ++ drop (i + len_utf8 ch) bs = rw same c.char_at-ch.ensures in
-    let refused : allows_past_ascii set ch ≡ false = cc in
-    let e : front set (drop i bs) ≡ 0 =
-    front-past-at set bs i ch c.as_bytes-bytes.ensures.utf8 here spelt c.if-byte-ge128.true ∙ cond-false _ _ _ refused in
-    rw (← c.as_bytes-bytes.ensures.value) (omega arith)
+    let spelt : drop i bs ≡ encode_utf8 ch ++ drop (i + len_utf8 ch) bs = rw c.as_bytes-bytes.ensures.value c.char_at-ch.ensures in
+    let none : front set (drop i bs) ≡ 0 =
+    front-past-at set bs i ch c.as_bytes-bytes.ensures.utf8 c.loop-i.invariant.boundary spelt c.if-byte-ge128.true ∙ cond-false _ _ _ (sym c.allows_past_ascii.ensures ∙ c.if-not-allows_past_ascii.true) in
+    rw (← c.as_bytes-bytes.ensures.value) (omega (arith, c.loop-i.invariant.total, none))
 
-pub returns-else-byte-eq37-clause-end : goal.returns-else-byte-eq37-clause-end
-returns-else-byte-eq37-clause-end c =
+pub returns-then-not-allows_pct_encoded-clause-end : goal.returns-then-not-allows_pct_encoded-clause-end
+returns-then-not-allows_pct_encoded-clause-end c =
     let set = set_of c.args.self in
-    let lacks = lacks_percent c.args.self in
     let bs = c.as_bytes-bytes.result.now in
-    let i = c.pass_ascii-i.result in
-    let same : bs ≡ c.args.text.now = c.as_bytes-bytes.ensures.value in
-    let passed : i + front set (drop i bs) ≡ c.loop-i.i + front set (drop c.loop-i.i bs) = rw same c.pass_ascii-i.ensures.total in
-    let inside : i < length bs = omega arith in
-    let stop : i < length bs → set.ascii (get_or bs i 0) ≡ false = rw same c.pass_ascii-i.ensures.stop in
-    let e : front set (drop i bs) ≡ 0 = elim c.else-byte-eq37.branch [
-      | else-byte-eq37-via-then-byte-eq37+then-allows_pct_encoded+else-begins_octet w ↦ front-stray set lacks bs i inside w.if-byte-eq37.true (and_right _ _ (sym w.begins_octet.ensures.value ∙ w.if-begins_octet.false))
-      | else-byte-eq37-via-then-byte-eq37+else-allows_pct_encoded w ↦ front-stray set lacks bs i inside w.if-byte-eq37.true (and_left _ _ (sym w.allows_pct_encoded.ensures ∙ w.if-allows_pct_encoded.false))
-      | else-byte-eq37-via-else-byte-eq37 w ↦ front-stop set bs i inside (omega arith) (ne_eqb _ _ w.if-byte-eq37.false) (stop inside)
+    let i = c.loop-i.i in
+    let stray : (set.pct_encoded && has_digits bs i) ≡ false = elim c.then-not-allows_pct_encoded.branch [
+      | then-not-allows_pct_encoded-via-then-not-allows_pct_encoded w ↦ and_left _ _ (sym c.allows_pct_encoded.ensures ∙ w.if-not-allows_pct_encoded.true)
+      | then-not-allows_pct_encoded-via-else-not-allows_pct_encoded+then-not-begins_octet w ↦ and_right _ _ (sym w.begins_octet.ensures.value ∙ w.if-not-begins_octet.true)
     ] in
-    rw (← c.as_bytes-bytes.ensures.value) (omega arith)
+    let none : front set (drop i bs) ≡ 0 = front-stray set (lacks_percent c.args.self) bs i c.loop-i-test.true c.if-byte-eq37.true stray in
+    rw (← c.as_bytes-bytes.ensures.value) (omega (arith, c.loop-i.invariant.total, none))
+
+pub returns-then-not-has-clause-end : goal.returns-then-not-has-clause-end
+returns-then-not-has-clause-end c =
+    let set = set_of c.args.self in
+    let bs = c.as_bytes-bytes.result.now in
+    let i = c.loop-i.i in
+    let outside : set.ascii (get_or bs i 0) ≡ false = sym (ap (λ f. f (get_or bs i 0)) c.masks-low.ensures) ∙ sym c.has.ensures ∙ c.if-not-has.true in
+    let none : front set (drop i bs) ≡ 0 = front-stop set bs i c.loop-i-test.true (omega (arith, c.if-byte-ge128.false)) (ne_eqb _ _ c.if-byte-eq37.false) outside in
+    rw (← c.as_bytes-bytes.ensures.value) (omega (arith, c.loop-i.invariant.total, none))

@@ -1,0 +1,23 @@
+use Rattle.std.proofs.Common.{◌≡◌, ◌-◌, ◌≤◌, ◌∙◌, sym, ap, eqb, arith, bit_and}
+use Rattle.std.specs.Int.{bit_at}
+use Rattle.std.proofs.lemmas.Nat.{and_mask}
+use Rattle.std.proofs.lemmas.Nat.Bits.{shr_and_one}
+use Rattle.uri_pct.proofs.Masks.{has_low_bit, has_high_bit}
+use Rattle.uri_pct.proofs.lanes.has.Goals as goal
+use Rattle.uri_pct.proofs.lanes.has.Goals.{then-byte-lt64, else-byte-lt64}
+
+pub returns : goal.returns
+returns c =
+    let low = c.args.low in
+    let high = c.args.high in
+    let b = c.args.byte in
+    let mask = c.if-byte-lt64.mask in
+    ap (λ n. eqb n 1) (shr_and_one mask (bit_and b 63)) ∙ elim c.if-byte-lt64.branch [
+      | then-byte-lt64 w ↦
+          let place : bit_and b 63 ≡ b = and_mask b 6 ∙ omega (arith, w.if-byte-lt64.true) in
+          ap (λ k. eqb (bit_at mask k) 1) place ∙ ap (λ m. eqb (bit_at m b) 1) w.mask-is ∙ sym (has_low_bit low high b w.if-byte-lt64.true)
+      | else-byte-lt64 w ↦
+          let from : 64 ≤ b = omega (arith, w.if-byte-lt64.false) in
+          let place : bit_and b 63 ≡ b - 64 = and_mask b 6 ∙ omega (arith, from, c.requires) in
+          ap (λ k. eqb (bit_at mask k) 1) place ∙ ap (λ m. eqb (bit_at m (b - 64)) 1) w.mask-is ∙ sym (has_high_bit low high b from c.requires)
+    ]

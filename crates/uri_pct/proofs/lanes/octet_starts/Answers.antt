@@ -1,0 +1,22 @@
+use Rattle.std.proofs.Common.{◌≡◌, ◌+◌, ◌/◌, ◌≤◌, true, eqb, map, length, subst, sym, arith, bit_and, bit_or, w8, w64}
+use Rattle.std.specs.Prelude.{slice_index}
+use Rattle.std.specs.Int.{bit_at, bit_not}
+use Rattle.std.specs.Simd.Lanes.{mask_l, chunk}
+use Rattle.std.proofs.lemmas.Simd.{bitmask_splat, length-chunk}
+use Rattle.uri_pct.specs.Fronts.{has_digits}
+use Rattle.uri_pct.proofs.LaneRuns.{marks_of_load, LaneMarks}
+use Rattle.uri_pct.specs.Masks.{has_bit}
+use Rattle.uri_pct.proofs.LaneBits.{percent_lane, percents_below}
+use Rattle.uri_pct.proofs.OctetLanes.{octets_begin}
+use Rattle.uri_pct.proofs.lanes.octet_starts.Goals as goal
+
+pub returns : goal.returns
+returns c k =
+    let bs = c.args.bytes.now in
+    let i = c.args.at in
+    let others = c.outside-others.result in
+    let room : i + 16 ≤ length bs = c.requires in
+    subst (λ m. bit_at (bit_and m (bit_not w64 (bit_or (bit_or others 196608 / 2) (bit_or others 196608 / 4)))) k ≡ 1 → (k + 3 ≤ 16) × (slice_index bs (i + k) ≡ 37) × (has_digits bs (i + k) ≡ true))
+    (sym (bitmask_splat w8 eqb (chunk i 16 bs) 16 37 (length-chunk i 16 bs room) (omega arith)))
+    (octets_begin bs i (mask_l (map (λ b. eqb b 37) (chunk i 16 bs))) others (λ j h. percent_lane bs i j room h) (percents_below bs i room)
+    (subst (LaneMarks (has_bit 0x03FF000000000000 0x0000007E0000007E) bs i 16) (sym c.outside-others.ensures) (marks_of_load _ bs i 16 room)) k)

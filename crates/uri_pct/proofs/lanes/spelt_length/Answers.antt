@@ -1,0 +1,49 @@
+use Rattle.std.proofs.Common.{◌≡◌, ◌+◌, ◌^◌, ◌<◌, ◌≤◌, ℕ, zero, suc, refl, ⊎_elim, eqb, length, subst, sym, ap, arith, ◌∙◌, w64}
+use Rattle.std.specs.Int.{bit_at, bit_not, trailing_zeros}
+use Rattle.std.proofs.lemmas.Nat.{and_le_l}
+use Rattle.std.proofs.lemmas.Nat.Bits.{bit_at-zero, bit_at-trailing_zeros, bit_at_above}
+use Rattle.std.proofs.lemmas.Bool.{eq-eqb, cases_lt}
+use Rattle.uri_pct.specs.Masks.{has_bit}
+use Rattle.uri_pct.proofs.LaneRuns.{LaneMarks, marks_of_load}
+use Rattle.uri_pct.proofs.OctetLanes.{are_spelt, opened, covered}
+use Rattle.uri_pct.proofs.lanes.spelt_length.Goals as goal
+
+pub returns-then-open-eq0-clause-spelt : goal.returns-then-open-eq0-clause-spelt
+returns-then-open-eq0-clause-spelt c =
+    let bs = c.args.bytes.now in
+    let i = c.args.at in
+    let room : i + 16 ≤ length bs = c.requires in
+    let marks = subst (LaneMarks (has_bit c.args.low c.args.high) bs i 16) (sym c.outside.ensures) (marks_of_load (has_bit c.args.low c.args.high) bs i 16 room) in
+    are_spelt _ bs i c.octet_starts-starts.result c.outside.result 16 c.octet_starts-starts.type_inv (omega arith) c.octet_starts-starts.ensures marks
+    (λ k h. ap (λ m. eqb (bit_at m k) 1) c.if-open-eq0.true ∙ ap (λ m. eqb m 1) (bit_at-zero k)) (λ h. absurd (omega arith))
+
+-- the first lane that is open
+first : (misses begun : ℕ) → misses < 2 ^ 16 → (opened misses begun ≡ 0 → ⊥) → (trailing_zeros w64 (opened misses begun) < 16) × (bit_at (opened misses begun) (trailing_zeros w64 (opened misses begun)) ≡ 1) × ((k : ℕ) → k < trailing_zeros w64 (opened misses begun) → bit_at (opened misses begun) k ≡ 0)
+first misses begun small some =
+    let o = opened misses begun in
+    let below : o < 2 ^ 16 = omega (arith, small, and_le_l misses (bit_not w64 (covered begun))) in
+    let pos : 0 < o = pos-from-nonzero o some in
+    let z = bit_at-trailing_zeros w64 o pos (omega arith) in
+    let set : bit_at o (trailing_zeros w64 o) ≡ 1 = z.1 in
+    (⊎_elim (λ (h : trailing_zeros w64 o < 16). h) (λ (h : 16 ≤ trailing_zeros w64 o). let none = bit_at_above o 16 (trailing_zeros w64 o) below h in absurd (omega arith)) (cases_lt (trailing_zeros w64 o) 16), set, z.2)
+  where
+    pos-from-nonzero : (n : ℕ) → (n ≡ 0 → ⊥) → 0 < n
+    pos-from-nonzero zero e = absurd (e refl)
+    pos-from-nonzero (suc n) e = omega arith
+
+pub returns-clause-few : goal.returns-clause-few
+returns-clause-few c =
+    let small : c.outside.result < 2 ^ 16 = (subst (LaneMarks (has_bit c.args.low c.args.high) c.args.bytes.now c.args.at 16) (sym c.outside.ensures) (marks_of_load (has_bit c.args.low c.args.high) c.args.bytes.now c.args.at 16 c.requires)).below in
+    let f = (first c.outside.result c.octet_starts-starts.result small c.if-open-eq0.false).0 in
+    omega arith
+
+pub returns-clause-spelt : goal.returns-clause-spelt
+returns-clause-spelt c =
+    let bs = c.args.bytes.now in
+    let i = c.args.at in
+    let room : i + 16 ≤ length bs = c.requires in
+    let marks = subst (LaneMarks (has_bit c.args.low c.args.high) bs i 16) (sym c.outside.ensures) (marks_of_load (has_bit c.args.low c.args.high) bs i 16 room) in
+    let f = first c.outside.result c.octet_starts-starts.result marks.below c.if-open-eq0.false in
+    let few : trailing_zeros w64 (opened c.outside.result c.octet_starts-starts.result) < 16 = f.0 in
+    are_spelt _ bs i c.octet_starts-starts.result c.outside.result _ c.octet_starts-starts.type_inv (omega arith) c.octet_starts-starts.ensures marks
+    (λ k h. ap (λ m. eqb m 1) (f.2 k h)) (λ h. eq-eqb _ _ f.1)
