@@ -1,5 +1,6 @@
 //! Sets of ASCII characters by their two masks, a byte at a time or sixteen.
-ghost use Rattle.std.specs.Prelude.{◌≡◌, ◌+◌, ◌≤◌, ◌<◌, ◌/◌, ◌%◌, ℕ, true, not, length, map, slice_index};
+ghost use Rattle.std.specs.Prelude.{◌≡◌, ◌+◌, ◌≤◌, ◌<◌, ◌/◌, ◌%◌, ℕ, true, not, length, map};
+ghost use Rattle.std.specs.Prelude.{slice_index};
 ghost use Rattle.std.specs.Simd.Lanes.{mask_l, chunk};
 ghost use Rattle.std.specs.Int.{bit_at};
 ghost use Rattle.uri_pct.specs.ByteRuns.{IsRun, AreSpelt};
@@ -74,8 +75,7 @@ fn outside(low: u64, high: u64, bytes: &[u8], at: usize) -> u64
 
 /// Where the longest run of bytes of the set ends that begins at `start`.
 ///
-/// Where fewer than sixteen bytes are left, the last sixteen are read, and those before `start`
-/// shifted out.
+/// At the end the last sixteen bytes are read again, and what was read of them is shifted out.
 #[inline(always)]
 pub fn run_end(low: u64, high: u64, bytes: &[u8], start: usize) -> usize
     requires within { start ≤ length bytes.now }
@@ -92,7 +92,8 @@ pub fn run_end(low: u64, high: u64, bytes: &[u8], start: usize) -> usize
         i += LANES;
     }
     let last = len - LANES;
-    let mask = outside(low, high, bytes, last) >> (i - last);
+    let tail = outside(low, high, bytes, last);
+    let mask = tail >> (i - last);
     if mask == 0 {
         return len;
     }
@@ -103,12 +104,13 @@ pub fn run_end(low: u64, high: u64, bytes: &[u8], start: usize) -> usize
 #[inline(always)]
 fn octet_starts(bytes: &[u8], at: usize) -> u64
     requires { at + LANES ≤ length bytes.now }
-    ensures { (k : ℕ) → bit_at result k ≡ 1
-        → (k + 3 ≤ 16) × (slice_index bytes.now (at + k) ≡ 37) × (has_digits bytes.now (at + k) ≡ true) }
+    ensures { (k : ℕ) → bit_at result k ≡ 1 → (k + 3 ≤ 16)
+        × (slice_index bytes.now (at + k) ≡ 37) × (has_digits bytes.now (at + k) ≡ true) }
 {
     let percents = u8x16::from_slice(&bytes[at..])
         .simd_eq(u8x16::splat(b'%'))
         .to_bitmask();
+    // The masks of the hexadecimal digits, and the two lanes behind the last, in which none stands.
     let others = outside(0x03FF_0000_0000_0000, 0x0000_007E_0000_007E, bytes, at) | 0x3_0000;
     percents & !((others >> 1) | (others >> 2))
 }

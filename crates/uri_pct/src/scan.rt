@@ -47,8 +47,8 @@ impl Table {
         i
     }
 
-    /// Where the characters and octets behind an octet end that sixteen bytes hold whole; `start`
-    /// where fewer are left, or no ASCII is next.
+    /// Where those of the next sixteen bytes end that are allowed characters of ASCII or parts of
+    /// octets which lie whole among them; `start` where fewer are left, or no ASCII is next.
     #[inline(always)]
     fn pass_block(&self, text: &str, start: usize) -> usize
         requires octets { (set_of self.now).pct_encoded ≡ true }
@@ -66,8 +66,8 @@ impl Table {
         start + spelt_length(low, high, bytes, start)
     }
 
-    /// Where the run of ASCII characters ends that begins at `start`; no lanes are read where it is
-    /// empty since a character past ASCII is next.
+    /// Where the run of ASCII characters ends that begins at `start`, where a character past ASCII
+    /// is often next: that is looked at first.
     #[inline(always)]
     fn pass_plain(&self, text: &str, start: usize) -> usize
         requires { IsCharBoundary text.now start }

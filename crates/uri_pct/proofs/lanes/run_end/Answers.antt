@@ -37,7 +37,7 @@ pub returns-then-mask-eq0 : goal.returns-then-mask-eq0
 returns-then-mask-eq0 c =
     let bs = c.args.bytes.now in
     let i = c.loop-i.i in
-    let m = behind c.args.low c.args.high bs i c.outside.result (omega (arith, c.requires.long)) c.loop-i.invariant.within (omega (arith, c.loop-i.invariant.within, c.loop-i-test.false)) c.outside.ensures in
+    let m = behind c.args.low c.args.high bs i c.outside-tail.result (omega (arith, c.requires.long)) c.loop-i.invariant.within (omega (arith, c.loop-i.invariant.within, c.loop-i-test.false)) c.outside-tail.ensures in
     record {
       from = omega (arith, c.requires.within);
       within = omega arith;
@@ -49,5 +49,5 @@ pub returns : goal.returns
 returns c =
     let bs = c.args.bytes.now in
     let i = c.loop-i.i in
-    let m = behind c.args.low c.args.high bs i c.outside.result (omega (arith, c.requires.long)) c.loop-i.invariant.within (omega (arith, c.loop-i.invariant.within, c.loop-i-test.false)) c.outside.ensures in
+    let m = behind c.args.low c.args.high bs i c.outside-tail.result (omega (arith, c.requires.long)) c.loop-i.invariant.within (omega (arith, c.loop-i.invariant.within, c.loop-i-test.false)) c.outside-tail.ensures in
     ends_there _ bs c.args.start i (length bs - i) _ m c.loop-i.invariant.pass (omega (arith, c.if-mask-eq0.false)) (omega (arith, c.loop-i-test.false)) c.loop-i.invariant.from (omega (arith, c.loop-i.invariant.within))

@@ -24,7 +24,7 @@ returns-then-i-bytes-clause-end c =
     let e : front set (drop i bs) ≡ 0 = elim c.then-i-bytes.branch [
       | then-i-bytes-via-then-i-bytes w ↦ front-end set bs i (omega (arith, w.if-i-bytes.true))
       | then-i-bytes-via-else-i-bytes+then-not-may_go_on w ↦
-        let inside : i < length bs = omega (arith, within, w.if-i-bytes.false) in
-        front-done set (lacks_percent c.args.self.now) bs i inside (stop inside) (sym w.may_go_on.ensures ∙ w.if-not-may_go_on.true)
+          let inside : i < length bs = omega (arith, within, w.if-i-bytes.false) in
+          front-done set (lacks_percent c.args.self.now) bs i inside (stop inside) (sym w.may_go_on.ensures ∙ w.if-not-may_go_on.true)
     ] in
     rw (← same) (omega (arith, passed, e))
