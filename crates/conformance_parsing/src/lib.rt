@@ -1,11 +1,9 @@
-//! What parsing answers to given texts: the components, or the refusal and its message; what becomes
-//! of long texts; and what addresses print as.
+//! What parsing answers to given texts: the components, or the refusal and its message; and what
+//! addresses print as.
 #![tactic(auto)]
 
 #[cfg(test)]
 mod addresses;
-#[cfg(test)]
-mod long_runs;
 #[cfg(test)]
 mod original;
 #[cfg(test)]

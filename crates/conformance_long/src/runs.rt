@@ -6,7 +6,6 @@ use fluent_uri::resolve::Resolver;
 use fluent_uri::{Iri, IriRef, ParseError, RefOf, Ri, RiMaybeRef, Uri, UriRef, WithOwned};
 use std::alloc::{AllocError, Global};
 use std::convert::TryFrom;
-use std::process::Abort;
 
 const LENGTH: usize = 100_000;
 
@@ -142,55 +141,58 @@ fn refused_runs(rt: HostRuntime) {
     }
 }
 
-/// References without a scheme, their normal forms, and their targets.
-const REFERENCES: &[Row] = &[
-    (("", "/"), ("", "/"), ("http:", "/")),
-    (("", "?"), ("", "?"), ("http://h/a", "?")),
-    (("", "%41"), ("", "A"), ("http://h/", "%41")),
-    (("", "%C3"), ("", "%C3"), ("http://h/", "%C3")),
-    (("", "/../"), ("", "/../"), ("http://h/", "")),
-    (("", "/%2e%2e/"), ("", "/../"), ("http://h/", "")),
-    (("", "/./"), ("", "/./"), ("http://h", "/")),
+/// Texts that are references, and where a scheme is missing to a URI or an IRI.
+const ACCEPTED: &[(Row, Option<usize>)] = &[
+    ((("", "/"), ("", "/"), ("http:", "/")), Some(0)),
+    ((("", "?"), ("", "?"), ("http://h/a", "?")), Some(0)),
+    ((("", "%41"), ("", "A"), ("http://h/", "%41")), Some(0)),
+    ((("", "%C3"), ("", "%C3"), ("http://h/", "%C3")), Some(0)),
+    ((("", "/../"), ("", "/../"), ("http://h/", "")), Some(0)),
+    ((("", "/%2e%2e/"), ("", "/../"), ("http://h/", "")), Some(0)),
+    ((("", "/./"), ("", "/./"), ("http://h", "/")), Some(0)),
+    ((("s:", "/"), ("s:", "/"), ("s:", "/")), None),
+    ((("s:", "?"), ("s:", "?"), ("s:", "?")), None),
+    ((("s:", ":"), ("s:", ":"), ("s:", ":")), None),
+    ((("s:", "%41"), ("s:", "A"), ("s:", "%41")), None),
+    ((("s:", "%C3"), ("s:", "%C3"), ("s:", "%C3")), None),
+    ((("s:", "/../"), ("s:/", ""), ("s:/", "")), None),
+    ((("s:", "/%2e%2e/"), ("s:/", ""), ("s:/", "")), None),
+    ((("s:", "/./"), ("s:/.", "/"), ("s:/.", "/")), None),
+    // What a path has as it stands: `@` and sub-delims, of which a scheme may have `+`.
+    ((("", "@"), ("", "@"), ("http://h/", "@")), Some(0)),
+    ((("", "!"), ("", "!"), ("http://h/", "!")), Some(0)),
+    ((("", "$"), ("", "$"), ("http://h/", "$")), Some(0)),
+    ((("", "&"), ("", "&"), ("http://h/", "&")), Some(0)),
+    ((("", "'"), ("", "'"), ("http://h/", "'")), Some(0)),
+    ((("", "("), ("", "("), ("http://h/", "(")), Some(0)),
+    ((("", ")"), ("", ")"), ("http://h/", ")")), Some(0)),
+    ((("", "*"), ("", "*"), ("http://h/", "*")), Some(0)),
+    ((("", "+"), ("", "+"), ("http://h/", "+")), Some(LENGTH)),
+    ((("", ","), ("", ","), ("http://h/", ",")), Some(0)),
+    ((("", ";"), ("", ";"), ("http://h/", ";")), Some(0)),
+    ((("", "="), ("", "="), ("http://h/", "=")), Some(0)),
+    ((("s:", "@"), ("s:", "@"), ("s:", "@")), None),
+    ((("s:", "!"), ("s:", "!"), ("s:", "!")), None),
+    ((("s:", "$"), ("s:", "$"), ("s:", "$")), None),
+    ((("s:", "&"), ("s:", "&"), ("s:", "&")), None),
+    ((("s:", "'"), ("s:", "'"), ("s:", "'")), None),
+    ((("s:", "("), ("s:", "("), ("s:", "(")), None),
+    ((("s:", ")"), ("s:", ")"), ("s:", ")")), None),
+    ((("s:", "*"), ("s:", "*"), ("s:", "*")), None),
+    ((("s:", "+"), ("s:", "+"), ("s:", "+")), None),
+    ((("s:", ","), ("s:", ","), ("s:", ",")), None),
+    ((("s:", ";"), ("s:", ";"), ("s:", ";")), None),
+    ((("s:", "="), ("s:", "="), ("s:", "=")), None),
 ];
-
-/// Texts with a scheme, their normal forms, and their targets.
-const WHOLE: &[Row] = &[
-    (("s:", "/"), ("s:", "/"), ("s:", "/")),
-    (("s:", "?"), ("s:", "?"), ("s:", "?")),
-    (("s:", ":"), ("s:", ":"), ("s:", ":")),
-    (("s:", "%41"), ("s:", "A"), ("s:", "%41")),
-    (("s:", "%C3"), ("s:", "%C3"), ("s:", "%C3")),
-    (("s:", "/../"), ("s:/", ""), ("s:/", "")),
-    (("s:", "/%2e%2e/"), ("s:/", ""), ("s:/", "")),
-    (("s:", "/./"), ("s:/.", "/"), ("s:/.", "/")),
-];
-
-/// Characters that a path has as they stand: `@` and sub-delims.
-const PATH_CHARACTERS: &[&str] = &["@", "!", "$", "&", "'", "(", ")", "*", "+", ",", ";", "="];
-
-fn is_accepted<A: Abort>(rt: &A, alloc: Global, row: Row, missing: Option<usize>) {
-    let texts = texts_of(alloc, row).expect(rt, "memory");
-    let uris = is_answered::<Uri<&str>, UriRef<&str>>(alloc, &texts, missing);
-    let iris = is_answered::<Iri<&str>, IriRef<&str>>(alloc, &texts, missing);
-    equal((row.0, uris, iris), (row.0, true, true)).expect(rt, "answers");
-}
 
 /// RFC 3986, sections 3, 4.2, 5.2 and 6.2.2.
 #[test]
 fn accepted_runs(rt: HostRuntime) {
-    let alloc = rt.alloc();
-    for &row in REFERENCES {
-        is_accepted(&rt, alloc, row, Some(0));
-    }
-    for &row in WHOLE {
-        is_accepted(&rt, alloc, row, None);
-    }
-    for &unit in PATH_CHARACTERS {
-        let relative = (("", unit), ("", unit), ("http://h/", unit));
-        // A scheme may have a `+`.
-        let missing = if unit == "+" { LENGTH } else { 0 };
-        is_accepted(&rt, alloc, relative, Some(missing));
-        is_accepted(&rt, alloc, (("s:", unit), ("s:", unit), ("s:", unit)), None);
+    for &(row, missing) in ACCEPTED {
+        let texts = texts_of(rt.alloc(), row).expect(&rt, "memory");
+        let uris = is_answered::<Uri<&str>, UriRef<&str>>(rt.alloc(), &texts, missing);
+        let iris = is_answered::<Iri<&str>, IriRef<&str>>(rt.alloc(), &texts, missing);
+        equal((row.0, uris, iris), (row.0, true, true)).expect(&rt, "answers");
     }
 }
 

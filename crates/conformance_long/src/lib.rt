@@ -1,0 +1,5 @@
+//! What becomes of long texts.
+#![tactic(auto)]
+
+#[cfg(test)]
+mod runs;
