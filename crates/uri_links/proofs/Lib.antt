@@ -1,0 +1,6 @@
+pub mod Alike
+pub mod Places
+pub mod Texts
+pub mod Noted
+pub mod Several
+mod Rows

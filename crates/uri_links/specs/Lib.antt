@@ -1,0 +1,4 @@
+pub mod Alike
+pub mod Outcomes
+pub mod Registered
+pub mod Registers
