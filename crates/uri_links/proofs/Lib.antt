@@ -3,4 +3,5 @@ pub mod Places
 pub mod Texts
 pub mod Noted
 pub mod Several
+pub mod InWords
 mod Rows

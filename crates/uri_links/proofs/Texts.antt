@@ -16,6 +16,10 @@ use Rattle.fluent_uri.specs.Ports.{PortFunction}
 use Rattle.uri_links.specs.Registered.{AreNormal}
 use Rattle.uri_links.proofs.Places.{none, pushed, pushed_past}
 
+pub none_distinct : (texts : List (List ℕ)) → texts ≡ [] → IsDistinct bytes_eq texts
+unfolding IsDistinct
+none_distinct texts e = rw e tt
+
 normal_pushed : (ports : PortFunction) (texts : List (List ℕ)) (text : List ℕ) → AreNormal ports texts → normal_text (meaning_of uri ports text) ≡ text → AreNormal ports (texts ++ text ∷ [])
 normal_pushed ports texts text h e = map-append _ texts (text ∷ []) ∙ (λ i. h i ++ e i ∷ [])
 
