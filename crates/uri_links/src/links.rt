@@ -15,6 +15,7 @@ ghost use Rattle.fluent_uri.specs.Target.{resolution_of};
 ghost use Rattle.fluent_uri.specs.UriRefs.{uri_ref_text};
 ghost use Rattle.fluent_uri.specs.Uris.{uri_text};
 ghost use Rattle.uri_links.specs.Outcomes.{outcome_of, outcomes_of, placed};
+ghost use Rattle.uri_links.specs.OutcomesInWords.{IsOutcome};
 ghost use Rattle.uri_links.specs.Registered.{AreDistinct, AreNormal};
 
 use fluent_uri::normalize::{DefaultPort, Normalizer};
@@ -190,6 +191,10 @@ impl<P: DefaultPort> Register<P> {
         ensures noted { IfOk result (λ outcome.
             outcome_of (port_function_of self.old) (uri_text base.now) (texts_of self.old)
             (uri_ref_text reference.now) ≡ (outcome, texts_of self.new)) }
+        // The same by what meanings are, and not by how they are compared.
+        ensures meant { IfOk result
+            (IsOutcome (port_function_of self.old) (uri_text base.now) (texts_of self.old)
+            (uri_ref_text reference.now)) }
         ensures kept { OnErr result (texts_of self.new ≡ texts_of self.old) }
         ensures ports { port_function_of self.new ≡ port_function_of self.old }
         // A reference that has no target is refused whatever memory there is.

@@ -6,6 +6,7 @@ use Rattle.fluent_uri.specs.KindTexts.{IsTextOf}
 use Rattle.fluent_uri.specs.UriRefs.{uri_ref_text}
 use Rattle.fluent_uri.specs.Uris.{uri_text}
 use Rattle.uri_links.specs.Registers.{port_function_of, texts_of}
+use Rattle.uri_links.proofs.InWords.{in_words}
 use Rattle.uri_links.proofs.Noted.{each, noted, own_normal_text, noted_refusal}
 use Rattle.uri_links.proofs.links.Register.note.Goals as goal
 
@@ -25,3 +26,13 @@ returns-in-Err-clause-noted g c =
     (λ outcome h. noted_refusal (port_function_of c.args.self.now) (uri_text c.args.base.now) (uri_ref_text c.args.reference.now) (texts_of c.args.self.now) c.in-Err.error c.in-Err.ensures.refusal h.1
     ∙ ap (λ o. (o, texts_of c.args.self.now)) (sym h.0))
     c.refused.ensures.outcome
+
+pub returns-in-Ok-clause-meant : goal.returns-in-Ok-clause-meant
+returns-in-Ok-clause-meant g c =
+    IfOk-weaker c.note_target.result _ _ (λ outcome. in_words (port_function_of c.args.self.now) (uri_text c.args.base.now) (texts_of c.args.self.now) (uri_ref_text c.args.reference.now) outcome (texts_of c.note_target.new.self))
+    (returns-in-Ok-clause-noted g c)
+
+pub returns-in-Err-clause-meant : goal.returns-in-Err-clause-meant
+returns-in-Err-clause-meant g c =
+    IfOk-weaker c.refused.result _ _ (λ outcome. in_words (port_function_of c.args.self.now) (uri_text c.args.base.now) (texts_of c.args.self.now) (uri_ref_text c.args.reference.now) outcome (texts_of c.args.self.now))
+    (returns-in-Err-clause-noted g c)
