@@ -4,4 +4,5 @@ pub mod Texts
 pub mod Noted
 pub mod Several
 pub mod InWords
+pub mod Ids
 mod Rows

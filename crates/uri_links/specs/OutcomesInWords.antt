@@ -1,5 +1,5 @@
 -- Outcomes by what meanings are, in words of their own: RFC 3986, sections 5.2 and 6.2.2.
-use Rattle.std.specs.Prelude.{◌≡◌, ◌≢◌, ℕ, List, Some, Ok, Err, length, slice_get}
+use Rattle.std.specs.Prelude.{◌≡◌, ◌<◌, ℕ, List, Some, Ok, Err, length, slice_get}
 use Rattle.fluent_uri.specs.Components.{components}
 use Rattle.fluent_uri.specs.Grammar.{uri}
 use Rattle.fluent_uri.specs.Meaning.{Meaning, meaning_of}
@@ -21,3 +21,9 @@ IsOutcome ports base texts reference (Known id) =
     (target : List ℕ) × ((resolution_of (components base) (components reference) ≡ Ok target) × Means ports texts id (meaning_of uri ports target))
 IsOutcome ports base texts reference (Refused error) =
     (refusal : Refusal) × ((resolution_of (components base) (components reference) ≡ Err refusal) × (error ≡ error_of refusal))
+
+-- an outcome's id, where it has one, is that of a text
+abbrev pub HasText : List (List ℕ) → Outcome → Type 0
+HasText texts (New id) = id < length texts
+HasText texts (Known id) = id < length texts
+HasText texts (Refused error) = Unit {0}
