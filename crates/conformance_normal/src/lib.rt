@@ -1,6 +1,8 @@
-//! Normal forms and targets.
+//! Normal forms and targets, and links that are known by them.
 #![tactic(auto)]
 
+#[cfg(test)]
+mod links;
 #[cfg(test)]
 mod normalising;
 #[cfg(test)]

@@ -1,0 +1,114 @@
+use checks::equal;
+use fluent_uri::normalize::{DefaultPort, Normalizer};
+use fluent_uri::resolve::ResolveError;
+use fluent_uri::{Uri, UriRef};
+use std::alloc::AllocError;
+use std::process::Abort;
+use uri_links::links::{Outcome, Register};
+
+/// References in order, with their outcomes, and the targets that a register then has.
+struct Row {
+    base: &'static str,
+    references: &'static [&'static str],
+    outcomes: &'static [Outcome],
+    targets: &'static [&'static str],
+}
+
+const ROWS: &[Row] = &[
+    Row {
+        base: "http://x/a/b",
+        references: &["//X:80/", "/", "c", "../a/%63", "#t"],
+        outcomes: &[
+            Outcome::New(0),
+            Outcome::Known(0),
+            Outcome::New(1),
+            Outcome::Known(1),
+            Outcome::New(2),
+        ],
+        targets: &["http://x/", "http://x/a/c", "http://x/a/b#t"],
+    },
+    Row {
+        base: "foo:bar",
+        references: &["//g", "foo:x"],
+        outcomes: &[
+            Outcome::Refused(ResolveError::InvalidReferenceAgainstOpaqueBase),
+            Outcome::New(0),
+        ],
+        targets: &["foo:x"],
+    },
+    Row {
+        base: "http://x/#f",
+        references: &["a"],
+        outcomes: &[Outcome::Refused(ResolveError::BaseWithFragment)],
+        targets: &[],
+    },
+    Row {
+        base: "http://x/",
+        references: &[],
+        outcomes: &[],
+        targets: &[],
+    },
+];
+
+fn has_targets<R: Abort, P: DefaultPort>(rt: &R, register: &Register<P>, targets: &[&str]) {
+    equal(register.len(), targets.len()).expect(rt, "how many targets");
+    for (id, &wanted) in targets.iter().enumerate() {
+        let target = register.target(id).expect(rt, wanted);
+        equal(target.as_str(), wanted).expect(rt, wanted);
+    }
+    equal(register.target(targets.len()).is_none(), true).expect(rt, "no further target");
+}
+
+#[test]
+fn noted_together(rt: HostRuntime) {
+    let alloc = rt.alloc();
+    for row in ROWS {
+        let base = Uri::<&str>::parse(row.base).expect(&rt, row.base);
+        let mut references = Vec::new(alloc);
+        for &text in row.references {
+            let reference = UriRef::<&str>::parse(text).expect(&rt, text);
+            references.push(reference).expect(&rt, "memory");
+        }
+        let mut register = Register::new(alloc, Normalizer::new());
+        let outcomes = register
+            .note_all(&base, references.as_slice())
+            .expect(&rt, "memory");
+        equal(outcomes.as_slice(), row.outcomes).expect(&rt, row.base);
+        has_targets(&rt, &register, row.targets);
+    }
+}
+
+/// Notes a reference. Where memory is refused the register has what it had, and notes it next time.
+fn noted<R: Abort, P: DefaultPort>(
+    rt: &R,
+    register: &mut Register<P>,
+    base: &Uri<&str>,
+    reference: &UriRef<&str>,
+    held: &[&str],
+) -> Outcome {
+    match register.note(base, reference) {
+        Ok(outcome) => outcome,
+        Err(AllocError) => {
+            has_targets(rt, register, held);
+            register
+                .note(base, reference)
+                .expect(rt, reference.as_str())
+        }
+    }
+}
+
+/// Holds too where one request for memory is refused, whichever it is.
+#[test]
+fn noted_one_by_one(rt: HostRuntime) {
+    for row in ROWS {
+        let base = Uri::<&str>::parse(row.base).expect(&rt, row.base);
+        let mut register = Register::new(rt.alloc(), Normalizer::new());
+        for (&text, &wanted) in row.references.iter().zip(row.outcomes) {
+            let reference = UriRef::<&str>::parse(text).expect(&rt, text);
+            let held = row.targets.get(..register.len()).expect(&rt, text);
+            let outcome = noted(&rt, &mut register, &base, &reference, held);
+            equal(outcome, wanted).expect(&rt, text);
+        }
+        has_targets(&rt, &register, row.targets);
+    }
+}

@@ -1,0 +1,5 @@
+use Rattle.uri_links.proofs.Texts.{none_distinct}
+use Rattle.uri_links.proofs.links.Register.new.Goals as goal
+
+pub invariant_of-result-clause-distinct : goal.invariant_of-result-clause-distinct
+invariant_of-result-clause-distinct g c = none_distinct _ (cc)

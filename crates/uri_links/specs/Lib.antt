@@ -1,0 +1,5 @@
+pub mod Alike
+pub mod Outcomes
+pub mod OutcomesInWords
+pub mod Registered
+pub mod Registers

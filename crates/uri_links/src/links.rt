@@ -1,0 +1,242 @@
+//! A register of links. A link is what a reference means against a base: the meaning of its target
+//! (RFC 3986, sections 5.2 and 6.2.2). So references that are spelt in many ways are one link
+//! exactly if their targets mean the same under the register's default ports.
+ghost use Rattle.std.specs.Prelude.{◌≡◌, ◌≢◌, ◌↔◌, ◌≤◌, ◌∷◌, ◌++◌, ℕ, [], None, true, is_ok, length, map, option_map, slice_get, take, IfOk, IfErr, OnErr, OnOk, IsNone, List, bytes_eq, position};
+ghost use Rattle.std.specs.BTreeMap.{get_by_text};
+ghost use Rattle.std.specs.List.{IsDistinct-prop};
+ghost use Rattle.fluent_uri.specs.Components.{components};
+ghost use Rattle.fluent_uri.specs.Grammar.{uri, uri_ref};
+ghost use Rattle.fluent_uri.specs.Meaning.{meaning_of};
+ghost use Rattle.fluent_uri.specs.Normal.{normal_text};
+ghost use Rattle.fluent_uri.specs.NormalTargets.{IsNormalTarget};
+ghost use Rattle.fluent_uri.specs.Normalizers.{ports_of};
+ghost use Rattle.fluent_uri.specs.Resolving.{IsRefusalFor};
+ghost use Rattle.fluent_uri.specs.Target.{resolution_of};
+ghost use Rattle.fluent_uri.specs.UriRefs.{uri_ref_text};
+ghost use Rattle.fluent_uri.specs.Uris.{uri_text};
+ghost use Rattle.uri_links.specs.Outcomes.{outcome_of, outcomes_of, placed};
+ghost use Rattle.uri_links.specs.OutcomesInWords.{IsOutcome};
+ghost use Rattle.uri_links.specs.Registered.{AreDistinct, AreNormal};
+
+use fluent_uri::normalize::{DefaultPort, Normalizer};
+use fluent_uri::resolve::{ResolveError, Resolver};
+use fluent_uri::{Uri, UriRef};
+use std::alloc::{AllocError, Global};
+use std::collections::BTreeMap;
+
+/// What a reference that was noted came to. An id is a place in the register, from 0.
+#[derive(Clone, Copy, Debug, PartialEq, Eq)]
+pub enum Outcome {
+    /// Its target means what no registered one did, and its normal form was registered at this id.
+    New(usize),
+    /// Its target means what the registered one at this id does.
+    Known(usize),
+    /// It has no target, by one of the two errors `BaseWithFragment` and
+    /// `InvalidReferenceAgainstOpaqueBase`.
+    Refused(ResolveError),
+}
+
+/// The normal forms of the targets of the references that were noted, in the order in which each
+/// was first noted. No two mean the same.
+///
+/// # Examples
+///
+/// Against the base `http://x/a/b`, `//X:80/` is `New(0)`, `/` is `Known(0)`, `c` is `New(1)` and
+/// `../a/%63` is `Known(1)`. The register then has `http://x/` and `http://x/a/c`.
+#[derive(Drop)]
+pub struct Register<P: DefaultPort> {
+    alloc: Global,
+    normalizer: Normalizer<P>,
+    targets: Vec<Uri<String>>,
+    places: BTreeMap<String, usize>,
+    // Each text is its own normal text.
+    pub ghost normal: { AreNormal (P.port_of (ports_of normalizer)) (map uri_text targets.items) },
+    // No two are equal.
+    pub ghost distinct: { AreDistinct
+        (map uri_text targets.items) } by { IsDistinct-prop bytes_eq (map uri_text targets.items) },
+    // The map has the place of each, and nothing else.
+    ghost placed: { (text : List ℕ) →
+        get_by_text places text ≡ position (bytes_eq text) (map uri_text targets.items) },
+}
+
+/// What an error comes to: it is an outcome, unless memory was refused.
+fn refused(error: ResolveError) -> Result<Outcome, AllocError>
+    ensures outcome { IfOk result (λ outcome.
+        (outcome ≡ Outcome.Refused error) × (error ≢ ResolveError.OutOfMemory)) }
+    ensures memory { OnErr result (error ≡ ResolveError.OutOfMemory) }
+{
+    match error {
+        ResolveError::OutOfMemory => Err(AllocError),
+        refusal => Ok(Outcome::Refused(refusal)),
+    }
+}
+
+impl<P: DefaultPort> Register<P> {
+    ghost use Rattle.uri_links.specs.Registers.{port_function_of, texts_of};
+
+    /// A register of no target. It normalises by the normaliser's default ports, whatever that says
+    /// of underflow, and keeps the allocator for its growths; this call takes no memory.
+    pub fn new(alloc: Global, normalizer: Normalizer<P>) -> Register<P>
+        ensures empty { texts_of result ≡ [] }
+        ensures ports { port_function_of result ≡ P.port_of (ports_of normalizer) }
+    {
+        Register {
+            alloc,
+            normalizer,
+            targets: Vec::new(alloc),
+            places: BTreeMap::new(alloc),
+        }
+    }
+
+    /// How many targets are registered: each id is below it.
+    pub fn len(&self) -> usize
+        ensures { result ≡ length (texts_of self.now) }
+    {
+        self.targets.len()
+    }
+
+    /// The registered target at this id, or `None` exactly if no id is that high.
+    ///
+    /// # Examples
+    ///
+    /// After `//X:80/` was noted first, against `http://x/a/b`, the target at 0 is `http://x/`.
+    pub fn target(&self, id: usize) -> Option<Uri<&str>>
+        ensures target { option_map uri_text result ≡ slice_get (texts_of self.now) id }
+        ensures none { IsNone result ↔ (length (texts_of self.now) ≤ id) }
+    {
+        Some(self.targets.get(id)?.borrow())
+    }
+
+    /// The normal form of a reference's target against a base.
+    fn normal_target(
+        &self,
+        base: &Uri<&str>,
+        reference: &UriRef<&str>,
+    ) -> Result<Uri<String>, ResolveError>
+        ensures target { IfOk result (λ target.
+            IsNormalTarget uri uri_ref (port_function_of self.now)
+            (uri_text base.now) (uri_ref_text reference.now) (uri_text target)) }
+        ensures refusal { IfErr result
+            (IsRefusalFor (components (uri_text base.now))
+            (components (uri_ref_text reference.now))) }
+    {
+        let resolver = Resolver::with_base(*base);
+        resolver.resolve_normalized(self.alloc, reference, &self.normalizer)
+    }
+
+    /// The id of the registered target with this text.
+    fn id_of(&self, text: &str) -> Option<usize>
+        ensures { result ≡ position (bytes_eq text.now) (texts_of self.now) }
+    {
+        self.places.get(text).copied()
+    }
+
+    /// Registers a target, and answers its id.
+    fn add(&mut self, target: Uri<String>) -> Result<usize, AllocError>
+        requires new { position (bytes_eq (uri_text target)) (texts_of self.old) ≡ None }
+        requires normal { normal_text (meaning_of uri (port_function_of self.old) (uri_text target))
+            ≡ uri_text target }
+        ensures id { IfOk result (λ id. id ≡ length (texts_of self.old)) }
+        ensures added { OnOk result
+            (texts_of self.new ≡ texts_of self.old ++ uri_text target ∷ []) }
+        ensures kept { OnErr result (texts_of self.new ≡ texts_of self.old) }
+        ensures ports { port_function_of self.new ≡ port_function_of self.old }
+    {
+        let id = self.len();
+        let text = String::from_str(self.alloc, target.as_str())?;
+        self.targets.push(target)?;
+        match self.places.insert(text, id) {
+            Ok(_) => Ok(id),
+            Err(_) => {
+                let _taken_back = self.targets.pop();
+                Err(AllocError)
+            }
+        }
+    }
+
+    /// What noting a reference with this normal target comes to.
+    fn note_target(&mut self, target: Uri<String>) -> Result<Outcome, AllocError>
+        requires { normal_text (meaning_of uri (port_function_of self.old) (uri_text target))
+            ≡ uri_text target }
+        ensures noted { IfOk result (λ outcome.
+            placed (position (bytes_eq (uri_text target)) (texts_of self.old)) (texts_of self.old)
+            (uri_text target) ≡ (outcome, texts_of self.new)) }
+        ensures kept { OnErr result (texts_of self.new ≡ texts_of self.old) }
+        ensures ports { port_function_of self.new ≡ port_function_of self.old }
+    {
+        match self.id_of(target.as_str()) {
+            Some(id) => Ok(Outcome::Known(id)),
+            None => Ok(Outcome::New(self.add(target)?)),
+        }
+    }
+
+    /// Notes a reference against a base, by the meaning of its target: where a registered target
+    /// has that meaning, its id is answered, and else the target's normal form is registered at the
+    /// end. A reference that has no target is refused, and nothing is registered.
+    ///
+    /// # Errors
+    ///
+    /// Only if memory is refused. The register has then what it had. A reference that has no target
+    /// asks for no memory, so it is refused whatever memory there is.
+    ///
+    /// # Examples
+    ///
+    /// Against the base `foo:bar`, `//g` is `Refused(InvalidReferenceAgainstOpaqueBase)`, and
+    /// `foo:x` is `New(0)` after it.
+    pub fn note(
+        &mut self,
+        base: &Uri<&str>,
+        reference: &UriRef<&str>,
+    ) -> Result<Outcome, AllocError>
+        ensures noted { IfOk result (λ outcome.
+            outcome_of (port_function_of self.old) (uri_text base.now) (texts_of self.old)
+            (uri_ref_text reference.now) ≡ (outcome, texts_of self.new)) }
+        // The same by what meanings are, and not by how they are compared.
+        ensures meant { IfOk result
+            (IsOutcome (port_function_of self.old) (uri_text base.now) (texts_of self.old)
+            (uri_ref_text reference.now)) }
+        ensures kept { OnErr result (texts_of self.new ≡ texts_of self.old) }
+        ensures ports { port_function_of self.new ≡ port_function_of self.old }
+        // A reference that has no target is refused whatever memory there is.
+        ensures refused { OnErr result (is_ok (resolution_of (components (uri_text base.now))
+            (components (uri_ref_text reference.now))) ≡ true) }
+    {
+        match self.normal_target(base, reference) {
+            Ok(target) => self.note_target(target),
+            Err(error) => refused(error),
+        }
+    }
+
+    /// Notes the references against a base in order, as `note` does each, and answers their
+    /// outcomes in that order.
+    ///
+    /// # Errors
+    ///
+    /// Only if memory is refused. The register has then what it has where some front of the
+    /// references was noted, each of them whole, and none behind them.
+    ///
+    /// # Examples
+    ///
+    /// Against the base `http://x/a/b`, the references `c` and `../a/%63` are `New(0)` and
+    /// `Known(0)`.
+    pub fn note_all(
+        &mut self,
+        base: &Uri<&str>,
+        references: &[UriRef<&str>],
+    ) -> Result<Vec<Outcome>, AllocError>
+        ensures noted { IfOk result (λ outcomes.
+            outcomes_of (port_function_of self.old) (uri_text base.now) (texts_of self.old)
+            (map uri_ref_text references.now) ≡ (outcomes.items, texts_of self.new)) }
+        ensures front { OnErr result ((n : ℕ) × (texts_of self.new ≡
+            (outcomes_of (port_function_of self.old) (uri_text base.now) (texts_of self.old)
+            (map uri_ref_text (take n references.now))).1)) }
+        ensures ports { port_function_of self.new ≡ port_function_of self.old }
+    {
+        let mut outcomes = Vec::with_capacity(self.alloc, references.len())?;
+        for reference in references {
+            let outcome = self.note(base, reference)?;
+            outcomes.push(outcome)?;
+        }
+        Ok(outcomes)
+    }
+}
