@@ -47,10 +47,10 @@ impl Table {
         i
     }
 
-    /// Where those of the next sixteen bytes end that are allowed characters of ASCII or parts of
-    /// octets which lie whole among them; `start` where fewer are left, or no ASCII is next.
+    /// Where the characters of ASCII and the octets behind an octet end that are found in blocks of
+    /// sixteen bytes, an octet whole in a block; a block that they do not fill is the last.
     #[inline(always)]
-    fn pass_block(&self, text: &str, start: usize) -> usize
+    fn pass_blocks(&self, text: &str, start: usize) -> usize
         requires octets { (set_of self.now).pct_encoded ≡ true }
         requires here { IsCharBoundary text.now start }
         ensures total { result + front (set_of self.now) (drop result text.now)
@@ -58,12 +58,17 @@ impl Table {
         ensures from { start ≤ result }
         ensures boundary { IsCharBoundary text.now result }
     {
-        let bytes = text.as_bytes();
-        if bytes.len() - start < LANES || bytes[start] >= 128 {
-            return start;
-        }
         let (low, high) = self.masks();
-        start + spelt_length(low, high, bytes, start)
+        let bytes = text.as_bytes();
+        let mut i = start;
+        while bytes.len() - i >= LANES && bytes[i] < 128 {
+            let length = spelt_length(low, high, bytes, i);
+            i += length;
+            if length < LANES - 2 {
+                break;
+            }
+        }
+        i
     }
 
     /// Where the run of ASCII characters ends that begins at `start`, where a character past ASCII
@@ -140,7 +145,7 @@ impl Table {
                 if !self.allows_pct_encoded() || !begins_octet(bytes, i) {
                     break;
                 }
-                i = self.pass_block(text, i + 3);
+                i = self.pass_blocks(text, i + 3);
             } else {
                 if !has(low, high, byte) {
                     break;

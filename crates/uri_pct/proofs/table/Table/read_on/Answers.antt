@@ -24,8 +24,8 @@ loop-i-preserved-then-byte-ge128 c =
     let b = IsCharBoundary-past_char bs (drop (i + len_utf8 ch) bs) i ch (omega (arith, c.loop-i-test.true)) (IsUtf8-drop bs i utf8 here) spelt in
     rw c.len_utf8-i.ensures.value (record { boundary = b; total = omega (arith, c.loop-i.invariant.total, e) })
 
-pub pass_block-i-requires-clause-here : goal.pass_block-i-requires-clause-here
-pass_block-i-requires-clause-here c =
+pub pass_blocks-i-requires-clause-here : goal.pass_blocks-i-requires-clause-here
+pass_blocks-i-requires-clause-here c =
     let bs = c.as_bytes-bytes.result.now in
     let i = c.loop-i.i in
     let pct = sym c.allows_pct_encoded.ensures ∙ c.if-not-allows_pct_encoded.false in
@@ -38,14 +38,14 @@ loop-i-preserved-then-byte-eq37 c =
     let set = set_of c.args.self in
     let bs = c.as_bytes-bytes.result.now in
     let i = c.loop-i.i in
-    let end = c.pass_block-i.result in
+    let end = c.pass_blocks-i.result in
     let same : bs ≡ c.args.text.now = c.as_bytes-bytes.ensures.value in
     let pct = sym c.allows_pct_encoded.ensures ∙ c.if-not-allows_pct_encoded.false in
     let digits = sym c.begins_octet.ensures.value ∙ c.if-not-begins_octet.false in
     let within : i + 2 < length bs = c.begins_octet.ensures.within (search rules) in
     let e = (octet_read set bs i c.as_bytes-bytes.ensures.utf8 pct within c.if-byte-eq37.true digits).0 in
-    let more : end + front set (drop end bs) ≡ i + 3 + front set (drop (i + 3) bs) = rw same c.pass_block-i.ensures.total in
-    record { boundary = rw same c.pass_block-i.ensures.boundary; total = more ∙ e ∙ c.loop-i.invariant.total }
+    let more : end + front set (drop end bs) ≡ i + 3 + front set (drop (i + 3) bs) = rw same c.pass_blocks-i.ensures.total in
+    record { boundary = rw same c.pass_blocks-i.ensures.boundary; total = more ∙ e ∙ c.loop-i.invariant.total }
 
 pub pass_plain-i-requires : goal.pass_plain-i-requires
 pass_plain-i-requires c = rw (← c.as_bytes-bytes.ensures.value) (IsCharBoundary-after_ascii c.as_bytes-bytes.result.now c.loop-i.i c.as_bytes-bytes.ensures.utf8 c.loop-i-test.true (omega (arith, c.if-byte-ge128.false)))
