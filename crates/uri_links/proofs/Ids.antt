@@ -1,7 +1,8 @@
 -- The id of an outcome is that of a registered text, also once more references are noted.
-use Rattle.std.proofs.Common.{◌≡◌, ℕ, ◌+◌, ◌<◌, ◌≤◌, List, [], ◌∷◌, ◌++◌, length, Option, Some, None, Ok, Err, refl, sym, ap, subst, arith, length-append}
-use Rattle.std.specs.List.{AllByRecursion}
+use Rattle.std.proofs.Common.{◌≡◌, ℕ, ◌≤◌, List, [], ◌∷◌, length, Option, Some, None, Ok, Err, refl, subst, arith, length-append}
+use Rattle.std.specs.List.{All, AllByRecursion}
 use Rattle.std.specs.Prelude.{Result}
+use Rattle.std.proofs.lemmas.List.Elements.{All-from_recursion}
 use Rattle.std.proofs.lemmas.List.Quantifiers.{position-Some}
 use Rattle.fluent_uri.specs.Components.{components}
 use Rattle.fluent_uri.specs.Grammar.{uri}
@@ -53,5 +54,6 @@ all ports base texts (reference ∷ references) =
     let first = outcome_of ports base texts reference in
     (more first.1 (outcomes_of ports base first.1 references).1 first.0 (longer ports base first.1 references) (one ports base texts reference).0, all ports base first.1 references)
 
-pub ids : (ports : PortFunction) (base : List ℕ) (texts references : List (List ℕ)) (outcomes : List Outcome) (after : List (List ℕ)) → outcomes_of ports base texts references ≡ (outcomes, after) → AllByRecursion (HasText after) outcomes
-ids ports base texts references outcomes after e = subst (λ (o : List Outcome × List (List ℕ)). AllByRecursion (HasText o.1) o.0) e (all ports base texts references)
+pub ids : (ports : PortFunction) (base : List ℕ) (texts references : List (List ℕ)) (outcomes : List Outcome) (after : List (List ℕ)) → outcomes_of ports base texts references ≡ (outcomes, after) → All (HasText after) outcomes
+ids ports base texts references outcomes after e =
+    All-from_recursion (HasText after) outcomes (subst (λ (o : List Outcome × List (List ℕ)). AllByRecursion (HasText o.1) o.0) e (all ports base texts references))

@@ -1,7 +1,7 @@
 //! A register of links. A link is what a reference means against a base: the meaning of its target
 //! (RFC 3986, sections 5.2 and 6.2.2). So references that are spelt in many ways are one link
 //! exactly if their targets mean the same under the register's default ports.
-ghost use Rattle.std.specs.Prelude.{◌≡◌, ◌≢◌, ◌↔◌, ◌≤◌, ◌∷◌, ◌++◌, ℕ, [], None, true, is_ok, length, map, option_map, slice_get, take, IfOk, IfErr, OnErr, OnOk, IsNone, List, bytes_eq, position};
+ghost use Rattle.std.specs.Prelude.{◌≡◌, ◌≢◌, ◌↔◌, ◌≤◌, ◌∷◌, ◌++◌, ℕ, [], None, true, is_ok, length, map, option_map, slice_get, take, IfOk, IfErr, OnErr, OnOk, IsNone, List, All, bytes_eq, position};
 ghost use Rattle.std.specs.BTreeMap.{get_by_text};
 ghost use Rattle.std.specs.List.{IsDistinct-prop};
 ghost use Rattle.fluent_uri.specs.Components.{components};
@@ -15,7 +15,7 @@ ghost use Rattle.fluent_uri.specs.Target.{resolution_of};
 ghost use Rattle.fluent_uri.specs.UriRefs.{uri_ref_text};
 ghost use Rattle.fluent_uri.specs.Uris.{uri_text};
 ghost use Rattle.uri_links.specs.Outcomes.{outcome_of, outcomes_of, placed};
-ghost use Rattle.uri_links.specs.OutcomesInWords.{IsOutcome};
+ghost use Rattle.uri_links.specs.OutcomesInWords.{HasText, IsOutcome};
 ghost use Rattle.uri_links.specs.Registered.{AreDistinct, AreNormal};
 
 use fluent_uri::normalize::{DefaultPort, Normalizer};
@@ -227,6 +227,8 @@ impl<P: DefaultPort> Register<P> {
         ensures noted { IfOk result (λ outcomes.
             outcomes_of (port_function_of self.old) (uri_text base.now) (texts_of self.old)
             (map uri_ref_text references.now) ≡ (outcomes.items, texts_of self.new)) }
+        // So each id that is answered has its target.
+        ensures ids { IfOk result (λ outcomes. All (HasText (texts_of self.new)) outcomes.items) }
         ensures front { OnErr result ((n : ℕ) × (texts_of self.new ≡
             (outcomes_of (port_function_of self.old) (uri_text base.now) (texts_of self.old)
             (map uri_ref_text (take n references.now))).1)) }

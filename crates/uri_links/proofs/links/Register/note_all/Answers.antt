@@ -1,7 +1,8 @@
-use Rattle.std.proofs.Common.{◌+◌, ◌∙◌, ap, refl, sym}
+use Rattle.std.proofs.Common.{◌+◌, ◌∙◌, ap, map, take, refl, sym}
 use Rattle.fluent_uri.specs.UriRefs.{uri_ref_text}
 use Rattle.fluent_uri.specs.Uris.{uri_text}
 use Rattle.uri_links.specs.Registers.{port_function_of, texts_of}
+use Rattle.uri_links.proofs.Ids.{ids}
 use Rattle.uri_links.proofs.Several.{front, next, none}
 use Rattle.uri_links.proofs.links.Register.note_all.Goals as goal
 
@@ -32,3 +33,8 @@ loop-reference-preserved g c = record {
       c.loop-reference.outcomes.items (texts_of c.loop-reference.self) (texts_of c.note.new.self) c.in_ok-outcome.outcome c.loop-reference-test.true c.reference-item.is c.loop-reference.invariant.ports c.loop-reference.invariant.noted c.in_ok-outcome.ensures.noted
       ∙ ap (λ outcomes. (outcomes, texts_of c.note.new.self)) (sym c.in_ok-push.ensures.items);
 }
+
+pub returns-clause-ids : goal.returns-clause-ids
+returns-clause-ids g c =
+    ids (port_function_of c.args.self.now) (uri_text c.args.base.now) (texts_of c.args.self.now) (map uri_ref_text (take c.loop-reference.reference-index c.args.references.now)) c.loop-reference.outcomes.items (texts_of c.loop-reference.self)
+    c.loop-reference.invariant.noted
