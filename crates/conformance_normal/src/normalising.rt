@@ -141,15 +141,43 @@ fn international_references(rt: HostRuntime) {
 const IRIS: &[(&str, &str)] = &[
     ("HTTP://R%c3%89/É", "http://rÉ/É"),
     ("HTTP://R%c3%89/%C3%89", "http://rÉ/É"),
-    (
-        "http://xn--99zt52a.example.org/%e2%80%ae",
-        "http://xn--99zt52a.example.org/\u{202E}",
-    ),
 ];
 
 #[test]
 fn iris(rt: HostRuntime) {
     for &(text, normal) in IRIS {
+        iri(&rt, rt.alloc(), text, normal);
+    }
+}
+
+/// IRIs with formatting characters of bidirectional text, as octets and as characters, and their
+/// normal forms (RFC 3987, section 4.1). The last three characters are neighbours of these.
+const BIDIRECTIONAL: &[(&str, &str)] = &[
+    (
+        "http://xn--99zt52a.example.org/%e2%80%ae",
+        "http://xn--99zt52a.example.org/%E2%80%AE",
+    ),
+    (
+        "http://xn--99zt52a.example.org/\u{202E}",
+        "http://xn--99zt52a.example.org/%E2%80%AE",
+    ),
+    (
+        "a://\u{200E}@\u{200F}H/\u{202A}?\u{202B}#\u{202C}",
+        "a://%E2%80%8E@%E2%80%8Fh/%E2%80%AA?%E2%80%AB#%E2%80%AC",
+    ),
+    (
+        "a:\u{202D}é\u{202D}–%C3%A9%e2%80%ad",
+        "a:%E2%80%ADé%E2%80%AD–é%E2%80%AD",
+    ),
+    (
+        "a:%E2%80%8D%E2%80%90\u{202F}",
+        "a:\u{200D}\u{2010}\u{202F}",
+    ),
+];
+
+#[test]
+fn formatting_characters(rt: HostRuntime) {
+    for &(text, normal) in BIDIRECTIONAL {
         iri(&rt, rt.alloc(), text, normal);
     }
 }

@@ -9,7 +9,7 @@ use Rattle.std.proofs.lemmas.Bool.{cases_lt, cond-true, cond-false, and_parts, a
 use Rattle.uri_pct.specs.Sets.{TableSet, allows, allows_past_ascii}
 use Rattle.uri_pct.specs.Tokens.{Token, Char, Octet, tokens, allows_token, is_valid_for}
 use Rattle.uri_pct.specs.Pieces.{WellFormed, utf8_pieces}
-use Rattle.uri_pct.specs.Reading.{is_readable, read_piece, read_run, read_from, read_tokens, read}
+use Rattle.uri_pct.specs.Reading.{is_readable, read_piece, read_run, read_from, read_tokens, encode_formatting, read}
 use Rattle.uri_pct.proofs.Validity.{allows-ascii, allows-past}
 use Rattle.uri_pct.proofs.Allowed.{past_ascii_scalar}
 use Rattle.uri_pct.proofs.CharacterPieces.{utf8_pieces-around_char, char_of-encode}
@@ -94,4 +94,5 @@ module _ (set : TableSet) where
 
   pub read-encoded : (text : List ℕ) → is_part set text ≡ true → read set (encoded_text text) ≡ read set text
   unfolding is_valid_for
-  read-encoded text e = ap (read_tokens set) (tokens-encoded text (part_utf8 set text e)) ∙ from_encoded [] (tokens text) (part_valid set text e)
+  read-encoded text e =
+      ap (encode_formatting set) (ap (read_tokens set) (tokens-encoded text (part_utf8 set text e)) ∙ from_encoded [] (tokens text) (part_valid set text e))

@@ -7,7 +7,7 @@ use Rattle.std.proofs.lemmas.Bool.Decides.{nat_tests}
 use Rattle.uri_pct.specs.Sets.{TableSet, LacksPercent, IsSubset, unreserved_set, is_unreserved, is_one_of, allows_past_ascii}
 use Rattle.uri_pct.specs.Tokens.{Token, Char, Octet, tokens, print}
 use Rattle.uri_pct.specs.Pieces.{Piece, WellFormed, IllFormed, utf8_pieces}
-use Rattle.uri_pct.specs.Reading.{is_readable, read_piece, read_run, read_from}
+use Rattle.uri_pct.specs.Reading.{is_readable, read_piece, read_run, read_from, is_never_literal, formatting_as_octets, encode_formatting}
 use Rattle.uri_pct.specs.Fronts.{begins_hex, allows_first}
 use Rattle.uri_pct.proofs.Cuts.{excludes}
 use Rattle.uri_pct.proofs.Validity.{valid_from, is_valid_for-bytes}
@@ -75,9 +75,18 @@ from_without m set run [] = run_without m set run
 from_without m set run (Octet value ∷ ts) = from_without m set (run ++ value ∷ []) ts
 from_without m set run (Char c ∷ ts) = ap (λ x. x ++ Char c ∷ read_from (without m set) [] ts) (run_without m set run) ∙ ap (λ x. read_run set run ++ Char c ∷ x) (from_without m set [] ts)
 
+token_without : (m : ℕ) (set : TableSet) (t : Token) → formatting_as_octets (without m set) t ≡ formatting_as_octets set t
+unfolding is_never_literal
+token_without m set (Char c) = refl
+token_without m set (Octet value) = refl
+
+formatting_without : (m : ℕ) (set : TableSet) (ts : List Token) → encode_formatting (without m set) ts ≡ encode_formatting set ts
+formatting_without m set ts = ap (λ f. flat_map f ts) (λ i t. token_without m set t i)
+
 reprinted_without : (m : ℕ) (set : TableSet) (text : List ℕ) → reprinted (without m set) text ≡ reprinted set text
 unfolding reprinted
-reprinted_without m set text = ap print (from_without m set [] (tokens text))
+reprinted_without m set text =
+    ap print (formatting_without m set (read_from (without m set) [] (tokens text)) ∙ ap (encode_formatting set) (from_without m set [] (tokens text)))
 
 wide_without : (m : ℕ) (set : TableSet) → is_unreserved m ≡ false → IsSubset unreserved_set set → IsSubset unreserved_set (without m set)
 wide_without m set reserved wide = record {

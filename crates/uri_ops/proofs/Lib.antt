@@ -44,6 +44,7 @@ pub mod EncodedMeanings
 pub mod WiderKinds
 pub mod ReadParts
 pub mod Cased
+pub mod WrittenFormatting
 pub mod TakenReadings
 pub mod Decodable
 pub mod AsciiTexts

@@ -33,7 +33,7 @@ letters :
     × IsNormalOf iri_ref (codes "eXAMPLE://a/./b/../b/%63/%7bfoo%7d/ros%C3%A9") (codes "example://a/b/c/%7Bfoo%7D/ros" ++ (0xC3 ∷ 0xA9 ∷ []))
     × IsNormalOf uri_ref [] []
     × IsNormalOf uri_ref (codes "//@:") (codes "//@")
-unfolding IsNormalOf ports chars encode_utf8 digits hex hex_groups_text ipv6_text read_ipv6 read_ipv4 read_octet read_number read_segment read_segments Sets.is_ucschar Sets.is_iprivate Sets.allows_past_ascii Tokens.is_pct_encoded Tokens.tokens_of Pieces.following Pieces.pieces_from Reading.is_readable Reading.read_run Reading.read_from host_kind ipv4_value ipv6_value run remove_dot_segments
+unfolding IsNormalOf ports chars encode_utf8 digits hex hex_groups_text ipv6_text read_ipv6 read_ipv4 read_octet read_number read_segment read_segments Sets.is_ucschar Sets.is_iprivate Sets.allows_past_ascii Tokens.is_pct_encoded Tokens.tokens_of Pieces.following Pieces.pieces_from Reading.is_readable Reading.is_bidi_formatting Reading.is_never_literal Reading.read_run Reading.read_from host_kind ipv4_value ipv6_value run remove_dot_segments
 letters =
     (refl, refl, refl, refl, refl)
 
@@ -48,7 +48,7 @@ hosts :
     × IsNormalOf uri_ref (codes "//[v1FdE.AddR]") (codes "//[v1fde.addr]")
     × IsNormalOf iri_ref (codes "HTTP://R%c3%89/" ++ (0xC3 ∷ 0x89 ∷ [])) (codes "http://r" ++ (0xC3 ∷ 0x89 ∷ []) ++ codes "/" ++ (0xC3 ∷ 0x89 ∷ []))
     × IsNormalOf iri_ref (codes "HTTP://R%c3%89/%C3%89") (codes "http://r" ++ (0xC3 ∷ 0x89 ∷ []) ++ codes "/" ++ (0xC3 ∷ 0x89 ∷ []))
-unfolding IsNormalOf ports chars encode_utf8 digits hex hex_groups_text ipv6_text read_ipv6 read_ipv4 read_octet read_number read_segment read_segments Sets.is_ucschar Sets.is_iprivate Sets.allows_past_ascii Tokens.is_pct_encoded Tokens.tokens_of Pieces.following Pieces.pieces_from Reading.is_readable Reading.read_run Reading.read_from host_kind ipv4_value ipv6_value run remove_dot_segments
+unfolding IsNormalOf ports chars encode_utf8 digits hex hex_groups_text ipv6_text read_ipv6 read_ipv4 read_octet read_number read_segment read_segments Sets.is_ucschar Sets.is_iprivate Sets.allows_past_ascii Tokens.is_pct_encoded Tokens.tokens_of Pieces.following Pieces.pieces_from Reading.is_readable Reading.is_bidi_formatting Reading.is_never_literal Reading.read_run Reading.read_from host_kind ipv4_value ipv6_value run remove_dot_segments
 hosts =
     (refl, refl, refl, refl, refl, refl, refl, refl, refl)
 
@@ -57,15 +57,17 @@ characters :
     IsNormalOf iri_ref (codes "/%C3%41%A9%C3%A9") (codes "/%C3A%A9" ++ (0xC3 ∷ 0xA9 ∷ []))
     × IsNormalOf iri_ref (codes "/%C3A%A9" ++ (0xC3 ∷ 0xA9 ∷ [])) (codes "/%C3A%A9" ++ (0xC3 ∷ 0xA9 ∷ []))
     × IsNormalOf iri_ref (codes "%61%61%61%61%61%61%61%61%61%61%61%61%61%61%61%61%61%61%61%61%61%61%61%61%61%61%61%61%61%61%61%C3%A9") (codes "aaaaaaaaaaaaaaaaaaaaaaaaaaaaaaa" ++ (0xC3 ∷ 0xA9 ∷ []))
-    × IsNormalOf iri (codes "http://xn--99zt52a.example.org/%e2%80%ae") (codes "http://xn--99zt52a.example.org/" ++ (0xE2 ∷ 0x80 ∷ 0xAE ∷ []))
+    × IsNormalOf iri (codes "http://xn--99zt52a.example.org/%e2%80%ae") (codes "http://xn--99zt52a.example.org/%E2%80%AE")
+    × IsNormalOf iri (codes "http://xn--99zt52a.example.org/" ++ (0xE2 ∷ 0x80 ∷ 0xAE ∷ [])) (codes "http://xn--99zt52a.example.org/%E2%80%AE")
+    × IsNormalOf iri_ref (codes "//" ++ (0xE2 ∷ 0x80 ∷ 0x8F ∷ []) ++ codes "@R" ++ (0xE2 ∷ 0x80 ∷ 0xAA ∷ []) ++ codes "#" ++ (0xE2 ∷ 0x80 ∷ 0x8E ∷ [])) (codes "//%E2%80%8F@r%E2%80%AA#%E2%80%8E")
     × IsNormalOf iri_ref (codes "?%EE%80%80") (codes "?" ++ (0xEE ∷ 0x80 ∷ 0x80 ∷ []))
     × IsNormalOf iri_ref (codes "%EE%80%80") (codes "%EE%80%80")
     × IsNormalOf iri_ref (codes "%E2" ++ (0xC3 ∷ 0xA9 ∷ [])) (codes "%E2" ++ (0xC3 ∷ 0xA9 ∷ []))
     × IsNormalOf iri_ref (codes "%E2%C3%A9") (codes "%E2" ++ (0xC3 ∷ 0xA9 ∷ []))
     × IsNormalOf uri_ref (codes "%E2%C3%A9") (codes "%E2%C3%A9")
-unfolding IsNormalOf ports chars encode_utf8 digits hex hex_groups_text ipv6_text read_ipv6 read_ipv4 read_octet read_number read_segment read_segments Sets.is_ucschar Sets.is_iprivate Sets.allows_past_ascii Tokens.is_pct_encoded Tokens.tokens_of Pieces.following Pieces.pieces_from Reading.is_readable Reading.read_run Reading.read_from host_kind ipv4_value ipv6_value run remove_dot_segments
+unfolding IsNormalOf ports chars encode_utf8 digits hex hex_groups_text ipv6_text read_ipv6 read_ipv4 read_octet read_number read_segment read_segments Sets.is_ucschar Sets.is_iprivate Sets.allows_past_ascii Tokens.is_pct_encoded Tokens.tokens_of Pieces.following Pieces.pieces_from Reading.is_readable Reading.is_bidi_formatting Reading.is_never_literal Reading.read_run Reading.read_from host_kind ipv4_value ipv6_value run remove_dot_segments
 characters =
-    (refl, refl, refl, refl, refl, refl, refl, refl, refl)
+    (refl, refl, refl, refl, refl, refl, refl, refl, refl, refl, refl)
 
 -- ports, and the dot segments of paths that begin with `/` under a scheme
 ports_and_dots :
@@ -82,7 +84,7 @@ ports_and_dots :
     × IsNormalOf uri_ref (codes "foo:/.//@@") (codes "foo:/.//@@")
     × IsNormalOf uri_ref (codes "/foo/../bar") (codes "/foo/../bar")
     × IsNormalOf uri_ref (codes "foo:bar/../baz") (codes "foo:bar/../baz")
-unfolding IsNormalOf ports chars encode_utf8 digits hex hex_groups_text ipv6_text read_ipv6 read_ipv4 read_octet read_number read_segment read_segments Sets.is_ucschar Sets.is_iprivate Sets.allows_past_ascii Tokens.is_pct_encoded Tokens.tokens_of Pieces.following Pieces.pieces_from Reading.is_readable Reading.read_run Reading.read_from host_kind ipv4_value ipv6_value run remove_dot_segments
+unfolding IsNormalOf ports chars encode_utf8 digits hex hex_groups_text ipv6_text read_ipv6 read_ipv4 read_octet read_number read_segment read_segments Sets.is_ucschar Sets.is_iprivate Sets.allows_past_ascii Tokens.is_pct_encoded Tokens.tokens_of Pieces.following Pieces.pieces_from Reading.is_readable Reading.is_bidi_formatting Reading.is_never_literal Reading.read_run Reading.read_from host_kind ipv4_value ipv6_value run remove_dot_segments
 ports_and_dots =
     (refl, refl, refl, refl, refl, refl, refl, refl, refl, refl, refl, refl, refl)
 
@@ -101,6 +103,6 @@ targets :
     × Targets (codes "http://x/") (codes "//a:80") (codes "http://a:80") (codes "http://a")
     × Targets (codes "HTTP://A/%2e%2E/b/c") (codes "%2E./d") (codes "HTTP://A/d") (codes "http://a/d")
     × Targets (codes "foo:/bar/baz/.%2E/") (codes "..") (codes "foo:/") (codes "foo:/")
-unfolding IsNormalOf ports chars encode_utf8 digits hex hex_groups_text ipv6_text read_ipv6 read_ipv4 read_octet read_number read_segment read_segments Sets.is_ucschar Sets.is_iprivate Sets.allows_past_ascii Tokens.is_pct_encoded Tokens.tokens_of Pieces.following Pieces.pieces_from Reading.is_readable Reading.read_run Reading.read_from host_kind ipv4_value ipv6_value run remove_dot_segments Targets directory
+unfolding IsNormalOf ports chars encode_utf8 digits hex hex_groups_text ipv6_text read_ipv6 read_ipv4 read_octet read_number read_segment read_segments Sets.is_ucschar Sets.is_iprivate Sets.allows_past_ascii Tokens.is_pct_encoded Tokens.tokens_of Pieces.following Pieces.pieces_from Reading.is_readable Reading.is_bidi_formatting Reading.is_never_literal Reading.read_run Reading.read_from host_kind ipv4_value ipv6_value run remove_dot_segments Targets directory
 targets =
     ((refl, refl), (refl, refl), (refl, refl), (refl, refl), (refl, refl))

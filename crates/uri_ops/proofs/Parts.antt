@@ -9,11 +9,12 @@ use Rattle.std.proofs.lemmas.List.Folds.{list_all-append}
 use Rattle.std.proofs.lemmas.Bool.{cases_Bool, cond-false, and_left, and_right, and_parts, and_from}
 use Rattle.uri_pct.specs.Sets.{TableSet, LacksPercent, IsSubset, unreserved_set, allows}
 use Rattle.uri_pct.specs.Tokens.{Token, Char, Octet, tokens, tokens_of, token_bytes, is_pct_encoded, text_of_token, print, allows_token, is_valid_for, IsValidFor}
-use Rattle.uri_pct.specs.Reading.{is_printable, read, read_run, read_from, read_tokens}
+use Rattle.uri_pct.specs.Reading.{is_printable, read, read_run, read_from, read_tokens, encode_formatting}
 use Rattle.uri_pct.specs.Pieces.{pieces_from}
 use Rattle.uri_pct.proofs.Printing.{tokens-print, IsUtf8-print}
 use Rattle.uri_pct.proofs.Allowed.{printable_valid}
-use Rattle.uri_pct.proofs.Reading.{printable-read_tokens, is_valid_for-read, token_bytes-read, read_tokens-around_char}
+use Rattle.uri_pct.proofs.Reading.{printable-read, is_valid_for-read, token_bytes-read, read_tokens-around_char}
+use Rattle.uri_pct.proofs.Formatting.{encode_formatting-around_char}
 use Rattle.uri_pct.proofs.Rereading.{read-print_read}
 
 -- a text in UTF-8 that the set allows
@@ -49,7 +50,7 @@ module _ (set : TableSet) (lacks : LacksPercent set) where
   printable_part text e = printable_valid set text lacks (part_valid set text e)
 
   pub printable_read : (text : List ℕ) → is_part set text ≡ true → list_all is_printable (read set text) ≡ true
-  printable_read text e = printable-read_tokens set (tokens text) (printable_part text e)
+  printable_read text e = printable-read set text (printable_part text e)
 
   pub tokens-reprinted : (text : List ℕ) → is_part set text ≡ true → tokens (reprinted set text) ≡ read set text
   unfolding reprinted
@@ -106,7 +107,9 @@ tokens-cut x y u = ap tokens_of (chars-append x (47 ∷ y) u ∙ ap (λ cs. char
 
 -- so it parts what is read before it from what is read behind it
 pub read-cut : (set : TableSet) (x y : List ℕ) → IsUtf8 x → read set (x ++ 47 ∷ y) ≡ read set x ++ Char 47 ∷ read set y
-read-cut set x y u = ap (read_tokens set) (tokens-cut x y u) ∙ read_tokens-around_char set (tokens x) 47 (tokens y)
+read-cut set x y u =
+    ap (encode_formatting set) (ap (read_tokens set) (tokens-cut x y u) ∙ read_tokens-around_char set (tokens x) 47 (tokens y))
+    ∙ encode_formatting-around_char set (read_tokens set (tokens x)) 47 (read_tokens set (tokens y)) (lit< tt)
 
 print-slash : (ts us : List Token) → print (ts ++ Char 47 ∷ us) ≡ print ts ++ 47 ∷ print us
 print-slash ts us =

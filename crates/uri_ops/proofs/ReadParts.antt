@@ -1,4 +1,4 @@
--- What is read of the parts of a text is what is read of the text.
+-- What is read of the parts of a text is what is read of its tokens.
 use Rattle.std.proofs.Common.{◌≡◌, ℕ, true, List, [], ◌∷◌, ◌++◌, map, refl, sym, ap, ◌∙◌, append_assoc}
 use Rattle.std.specs.List.{list_all, flat_map}
 use Rattle.std.specs.Char.{encode_utf8, IsScalar}
@@ -10,7 +10,7 @@ use Rattle.std.proofs.lemmas.Str.{IsUtf8-encode, chars-append, chars-encodes}
 use Rattle.uri_pct.specs.Chunks.{Chunk, Text, Byte, onto_chunks, chunks_of, widest_set}
 use Rattle.uri_pct.specs.Parts.{Plain, Read, parts_from, parts}
 use Rattle.uri_pct.specs.Pieces.{Piece, utf8_pieces, pieces_from}
-use Rattle.uri_pct.specs.Reading.{is_printable, read_piece, read_run, read_from, read}
+use Rattle.uri_pct.specs.Reading.{is_printable, read_piece, read_run, read_from, read_tokens}
 use Rattle.uri_pct.specs.Sets.{TableSet}
 use Rattle.uri_pct.specs.Tokens.{Token, Char, Octet, tokens, IsValidFor}
 use Rattle.uri_pct.proofs.Allowed.{printable_valid}
@@ -65,5 +65,5 @@ module _ (set : TableSet) where
       ∙ ap (λ us. read_run set run ++ Char c ∷ us) (of_tokens [] ts p.1)
 
   -- of a text that decodes
-  pub read_parts-read : (text : List ℕ) → IsValidFor widest_set text → read_parts set (parts text) ≡ read set text
-  read_parts-read text v = of_tokens [] (tokens text) (printable_valid widest_set text refl v)
+  pub read_parts-tokens : (text : List ℕ) → IsValidFor widest_set text → read_parts set (parts text) ≡ read_tokens set (tokens text)
+  read_parts-tokens text v = of_tokens [] (tokens text) (printable_valid widest_set text refl v)

@@ -6,14 +6,14 @@ use Rattle.uri_pct.specs.Chunks.{widest_set}
 use Rattle.uri_pct.specs.Encoding.{encode_text}
 use Rattle.uri_pct.specs.Parts.{Part, Plain, Read, parts}
 use Rattle.uri_pct.specs.Pieces.{IllFormed, utf8_pieces}
-use Rattle.uri_pct.specs.Reading.{read, lower_token}
+use Rattle.uri_pct.specs.Reading.{read_tokens, lower_token}
 use Rattle.uri_pct.specs.Sets.{TableSet}
 use Rattle.uri_pct.specs.Tables.{set_of}
-use Rattle.uri_pct.specs.Tokens.{Octet, Char, print, IsValidFor}
+use Rattle.uri_pct.specs.Tokens.{Octet, Char, tokens, print, IsValidFor}
 use Rattle.uri_ops.specs.declared.reading.Reading.{Reading}
 use Rattle.uri_ops.specs.Readings.{TookReading, read_parts, cased}
 use Rattle.uri_ops.proofs.Cased.{AllowsReadable, print_text, print_lower, cased_octets, text_read, text_read_lower}
-use Rattle.uri_ops.proofs.ReadParts.{parts_of_run, read_parts-read}
+use Rattle.uri_ops.proofs.ReadParts.{parts_of_run, read_parts-tokens}
 
 -- text that stands for itself
 pub plain_as_is : (set : TableSet) (text : List ℕ) → IsUtf8 text → print (cased false (read_parts set (Plain text ∷ []))) ≡ text
@@ -45,6 +45,6 @@ grown s t ps lowers more set same is written meant = record {
 
 -- the whole text
 pub taken_whole : (text old : List ℕ) (s t : Reading) → IsValidFor widest_set text → string_bytes s.text ≡ old → TookReading s (parts text) t
-    → string_bytes t.text ≡ old ++ print (cased s.lowers (read (set_of s.table) text))
+    → string_bytes t.text ≡ old ++ print (cased s.lowers (read_tokens (set_of s.table) (tokens text)))
 taken_whole text old s t valid begun took =
-    took.text ∙ ap (λ x. x ++ print (cased s.lowers (read_parts (set_of s.table) (parts text)))) begun ∙ ap (λ ts. old ++ print (cased s.lowers ts)) (read_parts-read (set_of s.table) text valid)
+    took.text ∙ ap (λ x. x ++ print (cased s.lowers (read_parts (set_of s.table) (parts text)))) begun ∙ ap (λ ts. old ++ print (cased s.lowers ts)) (read_parts-tokens (set_of s.table) text valid)

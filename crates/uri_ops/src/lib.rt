@@ -13,6 +13,8 @@ pub mod dot_segments;
 #[doc(hidden)]
 pub mod encoded;
 #[doc(hidden)]
+pub mod formatting;
+#[doc(hidden)]
 pub mod laws;
 #[doc(hidden)]
 pub mod normal_authority;

@@ -123,8 +123,10 @@ impl<P: DefaultPort> Normalizer<P> {
     /// The normal form of a value: its scheme and its host are in lower case, each octet that
     /// spells a readable character is that character and every other has upper-case digits, an
     /// empty or default port is left out, and under a scheme a path that begins with `/` is without
-    /// its dot segments (RFC 3986, sections 6.2.2 and 6.2.3). Values of a kind have the same normal
-    /// form exactly if they mean the same.
+    /// its dot segments (RFC 3986, sections 6.2.2 and 6.2.3). The formatting characters of
+    /// bidirectional text, U+200E, U+200F and U+202A to U+202E, are octets in an IRI, whether they
+    /// stood there as octets or as characters (RFC 3987, section 4.1). Values of a kind have the
+    /// same normal form exactly if they mean the same.
     ///
     /// # Errors
     ///

@@ -1,14 +1,16 @@
-//! Components as they are read (RFC 3986, sections 6.2.2.1 and 6.2.2.2; RFC 3987, section 5.3.2.3).
-ghost use Rattle.std.specs.Prelude.{OnOk, map};
+//! Components as they are read (RFC 3986, sections 6.2.2.1 and 6.2.2.2; RFC 3987, sections 4.1 and
+//! 5.3.2.3).
+ghost use Rattle.std.specs.Prelude.{◌≡◌, ◌&&◌, OnOk, map};
 ghost use Rattle.std.specs.Str.{str_to_ascii_lowercase};
 ghost use Rattle.uri_pct.specs.Chunks.{widest_set};
 ghost use Rattle.uri_pct.specs.EStrs.{text_of};
-ghost use Rattle.uri_pct.specs.Reading.{read, lower_token};
+ghost use Rattle.uri_pct.specs.Reading.{read, read_tokens, lower_token};
 ghost use Rattle.uri_pct.specs.Tables.{set_of};
-ghost use Rattle.uri_pct.specs.Tokens.{print, IsValidFor};
+ghost use Rattle.uri_pct.specs.Tokens.{tokens, print, IsValidFor};
 ghost use Rattle.uri_parts.specs.Appending.{Pushes};
 ghost use Rattle.uri_ops.specs.Readings.{cased};
 
+use crate::formatting::encode_formatting;
 use std::alloc::{AllocError, Global};
 use std::mem;
 use uri_pct::decode::Decode;
@@ -59,8 +61,16 @@ impl TakeParts for Reading {
     }
 }
 
-/// Appends what is read of the text, with its letters lowered where that is asked.
-fn push_cased(
+/// Whether the table allows formatting characters of bidirectional text, and octets for them.
+#[tactic(auto, using(crate::proofs::WrittenFormatting::allows_mark))]
+fn encodes_formatting(table: &Table) -> bool
+    ensures { result ≡ ((set_of table.now).ucschar && (set_of table.now).pct_encoded) }
+{
+    table.allows('\u{200E}') && table.allows_pct_encoded()
+}
+
+/// Appends what is read of the parts of the text, with its letters lowered where that is asked.
+fn push_parts(
     alloc: Global,
     table: &Table,
     lowers: bool,
@@ -69,7 +79,7 @@ fn push_cased(
 ) -> Result<(), AllocError>
     requires { IsValidFor widest_set text.now }
     ensures { OnOk result (Pushes out.old out.new
-        (print (cased lowers (read (set_of table.now) text.now)))) }
+        (print (cased lowers (read_tokens (set_of table.now) (tokens text.now))))) }
 {
     let mut reading = Reading {
         alloc,
@@ -82,8 +92,30 @@ fn push_cased(
     taken
 }
 
+/// Appends what is read of the text, with its letters lowered where that is asked.
+fn push_cased(
+    alloc: Global,
+    table: &Table,
+    lowers: bool,
+    text: &str,
+    out: &mut String,
+) -> Result<(), AllocError>
+    requires { IsValidFor widest_set text.now }
+    ensures { OnOk result (Pushes out.old out.new
+        (print (cased lowers (read (set_of table.now) text.now)))) }
+{
+    let start = out.as_str().len();
+    push_parts(alloc, table, lowers, text, out)?;
+    if encodes_formatting(table) {
+        encode_formatting(start, out)
+    } else {
+        Ok(())
+    }
+}
+
 /// Appends what is read of the text: each character that octets spell as it is where it is
-/// readable, every other octet with upper-case digits, and all else as it stands.
+/// readable, every other octet with upper-case digits, and all else as it stands; but formatting
+/// characters of bidirectional text as octets.
 ///
 /// After an error some of it may stand behind what was there.
 #[doc(hidden)]

@@ -36,7 +36,7 @@ two_more : (x y : ℕ) → list_all is_small ((128 + x % 64) ∷ (128 + y % 64) 
 two_more x y = and_from _ _ (lt-ltb (128 + x % 64) 256 (omega arith)) (one_more y)
 
 -- the bytes of a character have eight bits
-character_small : (c : ℕ) → IsScalar c → list_all is_small (encode_utf8 c) ≡ true
+pub character_small : (c : ℕ) → IsScalar c → list_all is_small (encode_utf8 c) ≡ true
 unfolding encode_utf8
 character_small c scalar = ⊎_elim
     (λ h. ap (list_all is_small) (encode_ascii c h) ∙ and_from _ _ (lt-ltb c 256 (omega arith)) refl)
@@ -52,11 +52,11 @@ character_small c scalar = ⊎_elim
     (cases_lt c 128)
 
 -- octets
-octets_printable : (bytes : List ℕ) → list_all is_small bytes ≡ true → list_all is_printable (map Octet bytes) ≡ true
+pub octets_printable : (bytes : List ℕ) → list_all is_small bytes ≡ true → list_all is_printable (map Octet bytes) ≡ true
 octets_printable [] e = refl
 octets_printable (b ∷ bytes) e = let p = and_parts (is_small b) (list_all is_small bytes) e in and_from _ _ p.0 (octets_printable bytes p.1)
 
-octets_allowed : (set : TableSet) (bytes : List ℕ) → set.pct_encoded ≡ true → list_all (allows_token set) (map Octet bytes) ≡ true
+pub octets_allowed : (set : TableSet) (bytes : List ℕ) → set.pct_encoded ≡ true → list_all (allows_token set) (map Octet bytes) ≡ true
 octets_allowed set [] o = refl
 octets_allowed set (b ∷ bytes) o = and_from _ _ o (octets_allowed set bytes o)
 

@@ -21,6 +21,7 @@ pub mod Printing
 pub mod OctetDigits
 pub mod Allowed
 pub mod Readable
+pub mod Formatting
 pub mod Reading
 pub mod Rereading
 pub mod Octets

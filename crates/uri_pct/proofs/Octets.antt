@@ -1,5 +1,5 @@
 -- Where a set has no characters past ASCII, each octet is read by itself.
-use Rattle.std.proofs.Common.{◌≡◌, ℕ, zero, suc, ◌<◌, ◌≤◌, Bool, true, false, cond, leb, List, [], ◌∷◌, ◌++◌, take, drop, map, refl, sym, ap, ◌∙◌, arith, ◌||◌, ⊎_elim, append_assoc, Option, Some, None}
+use Rattle.std.proofs.Common.{◌≡◌, ℕ, zero, suc, ◌<◌, ◌≤◌, Bool, true, false, cond, leb, List, [], ◌∷◌, ◌++◌, take, drop, map, refl, sym, ap, ◌∙◌, arith, ◌&&◌, ◌||◌, ⊎_elim, append_assoc, Option, Some, None}
 use Rattle.std.specs.List.{list_all, flat_map}
 use Rattle.std.proofs.Math.Utf8.{low_scalar}
 use Rattle.std.proofs.lemmas.Str.{encode_ascii}
@@ -12,6 +12,7 @@ use Rattle.uri_pct.specs.Reading.{LacksPastAscii, is_readable, read_alone, read_
 use Rattle.uri_pct.proofs.Pieces.{is_inner, are_inner, following_inner, first_bytes}
 use Rattle.uri_pct.proofs.CharacterPieces.{is_piece, row_1, char_of-encode}
 use Rattle.uri_pct.proofs.Allowed.{unreserved_below}
+use Rattle.uri_pct.proofs.Formatting.{encode_formatting-none}
 
 or_false : (x : Bool) → (x || false) ≡ x
 or_false true = refl
@@ -114,4 +115,5 @@ from_alone set run (Char c ∷ ts) alone =
 
 -- in a URI each octet is read by itself
 pub read-alone : (set : TableSet) (text : List ℕ) → LacksPastAscii set → read set text ≡ map read_alone (tokens text)
-read-alone set text alone = from_alone set [] (tokens text) alone
+read-alone set text alone =
+    encode_formatting-none set (read_from set [] (tokens text)) (ap (λ b. b && set.pct_encoded) alone.0) ∙ from_alone set [] (tokens text) alone

@@ -23,11 +23,12 @@ pub digits_of : (upper : Bool) (v : ℕ) → v < 256 → are_digits upper v ≡ 
 digits_of true v h = agree_below_at (are_digits true) (λ _. true) 256 v refl h
 digits_of false v h = agree_below_at (are_digits false) (λ _. true) 256 v refl h
 
-abbrev chars_of_token : Token → List ℕ
+-- the characters that print a token
+abbrev pub chars_of_token : Token → List ℕ
 chars_of_token (Char c) = c ∷ []
 chars_of_token (Octet v) = 37 ∷ digit_glyph true (v / 16) ∷ digit_glyph true (v % 16) ∷ []
 
-token_encodes : (t : Token) → is_printable t ≡ true → encode_utf8_all (chars_of_token t) ≡ text_of_token t
+pub token_encodes : (t : Token) → is_printable t ≡ true → encode_utf8_all (chars_of_token t) ≡ text_of_token t
 token_encodes (Char c) e = append-nil (encode_utf8 c)
 token_encodes (Octet v) e =
     let p = and_parts _ _ (and_parts _ _ (digits_of true v (ltb-true v 256 e))).0 in
@@ -80,9 +81,12 @@ all_scalar_chars (t ∷ ts) e =
     let p = and_parts (is_printable t) (list_all is_printable ts) e in
     scalars-append (chars_of_token t) (flat_map chars_of_token ts) (token_scalars t p.0) (all_scalar_chars ts p.1)
 
+pub chars-print : (ts : List Token) → list_all is_printable ts ≡ true → chars (print ts) ≡ flat_map chars_of_token ts
+chars-print ts e = ap chars (print-encodes ts e) ∙ chars-encodes (flat_map chars_of_token ts) (all_scalar_chars ts e)
+
 -- what is printed spells the tokens that were printed
 pub tokens-print : (ts : List Token) → list_all is_printable ts ≡ true → tokens (print ts) ≡ ts
-tokens-print ts e = ap (λ x. tokens_of (chars x)) (print-encodes ts e) ∙ ap tokens_of (chars-encodes (flat_map chars_of_token ts) (all_scalar_chars ts e)) ∙ tokens_of_chars ts e
+tokens-print ts e = ap tokens_of (chars-print ts e) ∙ tokens_of_chars ts e
 
 -- and is UTF-8
 pub IsUtf8-print : (ts : List Token) → list_all is_printable ts ≡ true → IsUtf8 (print ts)

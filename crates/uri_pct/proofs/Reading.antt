@@ -1,20 +1,22 @@
 -- What reading keeps: the bytes, what the set allows, and what stands on either side of a character.
-use Rattle.std.proofs.Common.{◌≡◌, ℕ, Bool, true, cond, List, [], ◌∷◌, ◌++◌, map, refl, sym, ap, ◌∙◌, ⊎_elim, append_assoc}
+use Rattle.std.proofs.Common.{◌≡◌, ℕ, Bool, true, false, cond, List, [], ◌∷◌, ◌++◌, map, refl, sym, ap, ◌∙◌, ◌&&◌, ⊎_elim, append_assoc}
 use Rattle.std.specs.Char.{encode_utf8, IsScalar}
-use Rattle.std.specs.List.{list_all, flat_map, All}
+use Rattle.std.specs.List.{list_all, list_any, flat_map, All}
 use Rattle.std.proofs.lemmas.List.{append-nil, map-append}
 use Rattle.std.proofs.lemmas.List.Concat.{flat_map-append}
 use Rattle.std.proofs.lemmas.List.Folds.{list_all-append}
 use Rattle.std.proofs.lemmas.List.Elements.{All-head, All-tail}
-use Rattle.std.proofs.lemmas.Bool.{cases_Bool, cond-true, and_parts, and_from}
+use Rattle.std.proofs.lemmas.Bool.{cases_Bool, cond-true, cond-false, and_parts, and_from}
 use Rattle.uri_pct.specs.Sets.{TableSet, LacksPercent, IsSubset, unreserved_set}
 use Rattle.uri_pct.specs.Tokens.{Token, Char, Octet, tokens, token_bytes, bytes_of_token, print, allows_token, is_valid_for, IsValidFor}
 use Rattle.uri_pct.specs.Pieces.{Piece, WellFormed, IllFormed, char_of, piece_bytes, bytes_of_pieces, utf8_pieces, IsOfCharacter}
-use Rattle.uri_pct.specs.Reading.{is_printable, is_readable, read_piece, read_run, read_from, read_tokens, read}
+use Rattle.uri_pct.specs.Reading.{is_printable, is_readable, read_piece, read_run, read_from, read_tokens, is_never_literal, is_literal_formatting, encode_formatting, read}
 use Rattle.uri_pct.proofs.Pieces.{bytes_of_pieces-utf8_pieces}
 use Rattle.uri_pct.proofs.CharacterPieces.{utf8_pieces-are, utf8_pieces-around_char, char_of-encode}
-use Rattle.uri_pct.proofs.Printing.{is_valid_for-print}
+use Rattle.uri_pct.proofs.EncodedTokens.{octets_printable, character_small}
+use Rattle.uri_pct.proofs.Printing.{tokens-print, is_valid_for-print}
 use Rattle.uri_pct.proofs.Allowed.{printable_readable, allows_readable, printable_valid}
+use Rattle.uri_pct.proofs.Formatting.{never_literal_scalar, never_literal_readable, token_bytes-encode_formatting, printable-encode_formatting, allows-encode_formatting, encode_formatting-all}
 
 octet_bytes : (bytes : List ℕ) → token_bytes (map Octet bytes) ≡ bytes
 octet_bytes [] = refl
@@ -49,7 +51,7 @@ token_bytes-read_from set run (Char c ∷ ts) =
 
 -- reading changes no bytes
 pub token_bytes-read : (set : TableSet) (text : List ℕ) → token_bytes (read set text) ≡ token_bytes (tokens text)
-token_bytes-read set text = token_bytes-read_from set [] (tokens text)
+token_bytes-read set text = token_bytes-encode_formatting set (read_tokens set (tokens text)) ∙ token_bytes-read_from set [] (tokens text)
 
 -- a test of tokens that each readable character passes
 abbrev PassesReadable : (Token → Bool) → TableSet → Type 0
@@ -93,15 +95,19 @@ from_passes test set run (Char c ∷ ts) h e f =
 pub printable-read_tokens : (set : TableSet) (ts : List Token) → list_all is_printable ts ≡ true → list_all is_printable (read_tokens set ts) ≡ true
 printable-read_tokens set ts e = from_passes is_printable set [] ts (λ c h. printable_readable set c h) refl e
 
+pub printable-read : (set : TableSet) (text : List ℕ) → list_all is_printable (tokens text) ≡ true → list_all is_printable (read set text) ≡ true
+printable-read set text e = printable-encode_formatting set (read_tokens set (tokens text)) (printable-read_tokens set (tokens text) e)
+
 -- what is read of a text that the set allows is allowed by it
 pub allows-read : (set : TableSet) (text : List ℕ) → IsSubset unreserved_set set → IsValidFor set text → list_all (allows_token set) (read set text) ≡ true
 unfolding is_valid_for
-allows-read set text wide valid = from_passes (allows_token set) set [] (tokens text) (λ c h. allows_readable set c wide h) refl valid
+allows-read set text wide valid =
+    allows-encode_formatting set (read_tokens set (tokens text)) (from_passes (allows_token set) set [] (tokens text) (λ c h. allows_readable set c wide h) refl valid)
 
 -- and so is its text
 pub is_valid_for-read : (set : TableSet) (text : List ℕ) → LacksPercent set → IsSubset unreserved_set set → IsValidFor set text → IsValidFor set (print (read set text))
 is_valid_for-read set text lacks wide valid =
-    is_valid_for-print set (read set text) (printable-read_tokens set (tokens text) (printable_valid set text lacks valid)) ∙ allows-read set text wide valid
+    is_valid_for-print set (read set text) (printable-read set text (printable_valid set text lacks valid)) ∙ allows-read set text wide valid
 
 -- a character that stands for itself parts the reading before it from that behind it
 from_parted : (set : TableSet) (run : List ℕ) (ts : List Token) (c : ℕ) (us : List Token) → read_from set run (ts ++ Char c ∷ us) ≡ read_from set run ts ++ Char c ∷ read_tokens set us
@@ -154,3 +160,38 @@ from_encoded set run (Char d ∷ ts) c us scalar readable = ap (λ x. read_run s
 pub read_tokens-encoded : (set : TableSet) (ts : List Token) (c : ℕ) (us : List Token) → IsScalar c → is_readable set c ≡ true
     → read_tokens set (ts ++ (map Octet (encode_utf8 c) ++ us)) ≡ read_tokens set (ts ++ Char c ∷ us)
 read_tokens-encoded set ts c us scalar readable = from_encoded set [] ts c us scalar readable
+
+-- so formatting characters are read alike, whether they stand there as characters or as octets
+pub read_tokens-encode_formatting : (set : TableSet) (before ts : List Token) → read_tokens set (before ++ encode_formatting set ts) ≡ read_tokens set (before ++ ts)
+read_tokens-encode_formatting set before [] = refl
+read_tokens-encode_formatting set before (Octet value ∷ ts) =
+    ap (read_tokens set) (sym (append_assoc before (Octet value ∷ []) (encode_formatting set ts)))
+    ∙ read_tokens-encode_formatting set (before ++ Octet value ∷ []) ts
+    ∙ ap (read_tokens set) (append_assoc before (Octet value ∷ []) ts)
+read_tokens-encode_formatting set before (Char c ∷ ts) =
+    let next =
+    ap (read_tokens set) (sym (append_assoc before (Char c ∷ []) (encode_formatting set ts)))
+    ∙ read_tokens-encode_formatting set (before ++ Char c ∷ []) ts
+    ∙ ap (read_tokens set) (append_assoc before (Char c ∷ []) ts) in
+    ⊎_elim
+    (λ e.
+    ap (λ x. read_tokens set (before ++ (x ++ encode_formatting set ts))) (cond-true _ _ _ e)
+    ∙ read_tokens-encoded set before c (encode_formatting set ts) (never_literal_scalar set c e).1 (never_literal_readable set c e) ∙ next)
+    (λ e. ap (λ x. read_tokens set (before ++ (x ++ encode_formatting set ts))) (cond-false _ _ _ e) ∙ next)
+    (cases_Bool (is_never_literal set c))
+
+-- the octets of a readable character mean what it means
+pub read-print_encoded : (set : TableSet) (before : List Token) (c : ℕ) (behind : List Token) → IsScalar c → is_readable set c ≡ true → list_all is_printable (before ++ Char c ∷ behind) ≡ true
+    → read set (print (before ++ (map Octet (encode_utf8 c) ++ behind))) ≡ read set (print (before ++ Char c ∷ behind))
+read-print_encoded set before c behind scalar readable e =
+    let octets = map Octet (encode_utf8 c) in
+    let of : List Token → List Token = λ ts. encode_formatting set (read_tokens set ts) in
+    let p = all_parts is_printable before (Char c ∷ behind) e in
+    let spelt = all_from_parts is_printable octets behind (octets_printable (encode_utf8 c) (character_small c scalar)) (and_parts (is_printable (Char c)) _ p.1).1 in
+    ap of (tokens-print (before ++ (octets ++ behind)) (all_from_parts is_printable before (octets ++ behind) p.0 spelt))
+    ∙ ap (encode_formatting set) (read_tokens-encoded set before c behind scalar readable)
+    ∙ sym (ap of (tokens-print (before ++ Char c ∷ behind) e))
+
+-- no formatting character is read as itself
+pub formatting-read : (set : TableSet) (text : List ℕ) → (set.ucschar && set.pct_encoded) ≡ true → list_any is_literal_formatting (read set text) ≡ false
+formatting-read set text e = encode_formatting-all set (read_tokens set (tokens text)) e

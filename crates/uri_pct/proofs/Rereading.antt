@@ -8,11 +8,12 @@ use Rattle.std.proofs.lemmas.Bool.{cases_Bool, cond-true, cond-false, and_parts,
 use Rattle.uri_pct.specs.Sets.{TableSet}
 use Rattle.uri_pct.specs.Tokens.{Token, Char, Octet, tokens, print}
 use Rattle.uri_pct.specs.Pieces.{Piece, WellFormed, IllFormed, char_of, piece_bytes, bytes_of_pieces, utf8_pieces}
-use Rattle.uri_pct.specs.Reading.{is_printable, is_readable, read_piece, read_run, read_from, read_tokens, read, lower_token}
+use Rattle.uri_pct.specs.Reading.{is_printable, is_readable, read_piece, read_run, read_from, read_tokens, encode_formatting, read, lower_token}
 use Rattle.uri_pct.proofs.Pieces.{AreCut, cut_whole, cut_front, cut_back}
 use Rattle.uri_pct.proofs.Printing.{tokens-print}
 use Rattle.uri_pct.proofs.Allowed.{printable-lower}
-use Rattle.uri_pct.proofs.Reading.{printable-read_tokens}
+use Rattle.uri_pct.proofs.Formatting.{lower-encode_formatting}
+use Rattle.uri_pct.proofs.Reading.{printable-read, read_tokens-encode_formatting}
 
 -- no octet of a run stands for a character
 abbrev StaysOctets : TableSet → List ℕ → Type 0
@@ -103,7 +104,9 @@ read_tokens-read_tokens set ts = read_from-IsRead set [] (read_tokens set ts) (i
 -- reading twice is once
 pub read-print_read : (set : TableSet) (text : List ℕ) → list_all is_printable (tokens text) ≡ true → read set (print (read set text)) ≡ read set text
 read-print_read set text e =
-    ap (read_tokens set) (tokens-print (read set text) (printable-read_tokens set (tokens text) e)) ∙ read_tokens-read_tokens set (tokens text)
+    let ts = read_tokens set (tokens text) in
+    ap (λ us. encode_formatting set (read_tokens set us)) (tokens-print (read set text) (printable-read set text e))
+    ∙ ap (encode_formatting set) (read_tokens-encode_formatting set [] ts ∙ read_tokens-read_tokens set (tokens text))
 
 lower_is_read : (set : TableSet) (run : List ℕ) (ts : List Token) → IsRead set run ts → IsRead set run (map lower_token ts)
 lower_is_read set run [] h = h
@@ -116,5 +119,8 @@ read_tokens-lower set ts = read_from-IsRead set [] (map lower_token (read_tokens
 -- what is read with its letters lowered is read again as itself
 pub read-print_lower : (set : TableSet) (text : List ℕ) → list_all is_printable (tokens text) ≡ true → read set (print (map lower_token (read set text))) ≡ map lower_token (read set text)
 read-print_lower set text e =
-    ap (read_tokens set) (tokens-print (map lower_token (read set text)) (printable-lower (read set text) (printable-read_tokens set (tokens text) e)))
-    ∙ read_tokens-lower set (tokens text)
+    let ts = read_tokens set (tokens text) in
+    ap (λ us. encode_formatting set (read_tokens set us)) (tokens-print (map lower_token (read set text)) (printable-lower (read set text) (printable-read set text e)))
+    ∙ ap (λ us. encode_formatting set (read_tokens set us)) (lower-encode_formatting set ts)
+    ∙ ap (encode_formatting set) (read_tokens-encode_formatting set [] (map lower_token ts) ∙ read_tokens-lower set (tokens text))
+    ∙ sym (lower-encode_formatting set ts)

@@ -1,14 +1,15 @@
 -- Which octets of a text stand for their characters: RFC 3986, section 6.2.2.2, and RFC 3987, section 5.3.2.3.
 use Rattle.std.specs.Prelude.{◌≡◌, ℕ, Bool, false, not, ◌&&◌, ◌||◌, ◌==◌, nat_lt, List, [], ◌∷◌, ◌++◌, map, if◌then◌else◌}
+use Rattle.std.specs.Int.{is_in_range}
 use Rattle.std.specs.List.{flat_map}
-use Rattle.std.specs.Char.{to_ascii_lowercase}
+use Rattle.std.specs.Char.{encode_utf8, to_ascii_lowercase}
 use Rattle.std.specs.Str.{all_scalars}
 use Rattle.uri_pct.specs.Sets.{TableSet, is_unreserved, allows_past_ascii}
 use Rattle.uri_pct.specs.Tokens.{Token, Char, Octet, tokens}
 use Rattle.uri_pct.specs.Pieces.{Piece, WellFormed, IllFormed, char_of, utf8_pieces}
 
 -- a character that stands for its octets: one that is unreserved, and in an IRI one of `ucschar`, in its query also one
--- of `iprivate`. The formatting characters of bidirectional text are read like any other.
+-- of `iprivate`
 unfoldable pub is_readable : TableSet → ℕ → Bool
 is_readable set c = is_unreserved c || allows_past_ascii set c
 
@@ -40,8 +41,31 @@ read_from set run (Char c ∷ ts) = read_run set run ++ Char c ∷ read_from set
 abbrev pub read_tokens : TableSet → List Token → List Token
 read_tokens set ts = read_from set [] ts
 
+-- RFC 3987, section 4.1: the formatting characters of bidirectional text, LRM, RLM, LRE, RLE, PDF, LRO and RLO
+unfoldable pub is_bidi_formatting : ℕ → Bool
+is_bidi_formatting c = c == 0x200E || c == 0x200F || is_in_range 0x202A 0x202E c
+
+-- such a character, which an IRI must not contain; a set without octets has no other way to spell it
+unfoldable pub is_never_literal : TableSet → ℕ → Bool
+is_never_literal set c = set.ucschar && set.pct_encoded && is_bidi_formatting c
+
+-- it is the octets of its UTF-8
+abbrev pub formatting_as_octets : TableSet → Token → List Token
+formatting_as_octets set (Char c) = if is_never_literal set c then map Octet (encode_utf8 c) else Char c ∷ []
+formatting_as_octets set (Octet value) = Octet value ∷ []
+
+-- it stands there as it is
+abbrev pub is_literal_formatting : Token → Bool
+is_literal_formatting (Char c) = is_bidi_formatting c
+is_literal_formatting (Octet value) = false
+
+abbrev pub encode_formatting : TableSet → List Token → List Token
+encode_formatting set ts = flat_map (formatting_as_octets set) ts
+
+-- each maximal run of octets is read as UTF-8, and formatting characters are octets, whether they stood there as
+-- characters or as octets
 abbrev pub read : TableSet → List ℕ → List Token
-read set text = read_tokens set (tokens text)
+read set text = encode_formatting set (read_tokens set (tokens text))
 
 -- ASCII letters that stand for themselves, in lower case
 abbrev pub lower_token : Token → Token

@@ -1,17 +1,18 @@
 //! Laws of the definitions: each is the contract of a function that does nothing.
 #![tactic(auto, using(crate::proofs::ReadingLaws::reading_laws))]
 
-ghost use Rattle.std.specs.Prelude.{◌≡◌, ◌↔◌, ◌<◌, ◌/◌, ◌%◌, ℕ, Bool, true, false, List, ◌∷◌, ◌++◌, map, All};
+ghost use Rattle.std.specs.Prelude.{◌≡◌, ◌↔◌, ◌<◌, ◌/◌, ◌%◌, ◌&&◌, ℕ, Bool, true, false, List, ◌∷◌, ◌++◌, map, All};
 ghost use Rattle.std.specs.Char.{IsScalar, encode_utf8};
 ghost use Rattle.std.specs.Fmt.{digit_glyph};
-ghost use Rattle.std.specs.List.{list_all};
+ghost use Rattle.std.specs.List.{list_all, list_any};
 ghost use Rattle.std.specs.Str.{IsUtf8};
 ghost use Rattle.std.specs.Str.Lossy.{utf8_lossy};
 ghost use Rattle.uri_pct.specs.Encoding.{encode_text, encode_bytes};
 ghost use Rattle.uri_pct.specs.Sets.{TableSet, LacksPercent, IsSubset, unreserved_set};
 ghost use Rattle.uri_pct.specs.Tokens.{Token, Char, Octet, tokens, token_bytes, print, allows_token, IsValidFor};
 ghost use Rattle.uri_pct.specs.Pieces.{WellFormed, IsOfCharacter, is_well_formed, begins_within, bytes_of_pieces, utf8_pieces, lossy_text};
-ghost use Rattle.uri_pct.specs.Reading.{LacksPastAscii, is_printable, is_readable, lower_token, read_alone, read_tokens, read};
+ghost use Rattle.uri_pct.specs.Reading.{LacksPastAscii, is_literal_formatting, is_printable, is_readable, lower_token};
+ghost use Rattle.uri_pct.specs.Reading.{read_alone, read_tokens, read};
 
 /// What is printed is read back as the tokens that were printed, and the tokens of a text that is
 /// valid for a set may be printed (RFC 3986, sections 2.1 and 6.2.2.1).
@@ -59,7 +60,9 @@ pub fn lossy()
 
 /// Reading changes no bytes, what is read of a text that is valid for a set is valid for it, a
 /// character that stands for itself parts what is read before it from what is read behind it, and the
-/// octets of a readable character are read as it is, wherever they stand.
+/// octets of a readable character are read as it is, wherever they stand. Of formatting characters of
+/// bidirectional text, which mean what their octets mean, none is read as itself where a set holds
+/// `ucschar` and octets (RFC 3987, section 4.1).
 #[doc(hidden)]
 pub fn reading()
     ensures bytes { (set : TableSet) (text : List ℕ) → token_bytes (read set text) ≡ token_bytes (tokens text) }
@@ -68,6 +71,14 @@ pub fn reading()
     ensures printable { (set : TableSet) (ts : List Token) → list_all is_printable ts ≡ true → list_all is_printable (read_tokens set ts) ≡ true }
     ensures around_char { (set : TableSet) (before : List Token) (c : ℕ) (behind : List Token) → read_tokens set (before ++ Char c ∷ behind) ≡ read_tokens set before ++ Char c ∷ read_tokens set behind }
     ensures encoded { (set : TableSet) (before : List Token) (c : ℕ) (behind : List Token) → IsScalar c → is_readable set c ≡ true → read_tokens set (before ++ (map Octet (encode_utf8 c) ++ behind)) ≡ read_tokens set (before ++ Char c ∷ behind) }
+    ensures spelt { (set : TableSet) (before : List Token) (c : ℕ) (behind : List Token)
+        → IsScalar c → is_readable set c ≡ true
+        → list_all is_printable (before ++ Char c ∷ behind) ≡ true
+        → read set (print (before ++ (map Octet (encode_utf8 c) ++ behind)))
+        ≡ read set (print (before ++ Char c ∷ behind)) }
+    ensures formatting { (set : TableSet) (text : List ℕ)
+        → (set.ucschar && set.pct_encoded) ≡ true
+        → list_any is_literal_formatting (read set text) ≡ false }
 {}
 
 /// In a URI each octet is read by itself (RFC 3986, section 6.2.2.2), which is the reading of an IRI

@@ -1,8 +1,8 @@
 //! Rows of normal forms.
 
-use crate::ask::Ask::{Normal, NormalUnder};
+use crate::ask::Ask::{Normal, NormalUnder, Repeated};
 use crate::ask::Row;
-use crate::reading::Kind::{IriRef, Uri, UriRef};
+use crate::reading::Kind::{Iri, IriRef, Uri, UriRef};
 
 const ROWS: &[Row] = &[
     Row("R8.1", &[Normal(UriRef, "foo:/.//@@", "foo:/.//@@")]),
@@ -46,6 +46,45 @@ const ROWS: &[Row] = &[
                 "example://a/b/c/%7Bfoo%7D/rosé",
             ),
         ],
+    ),
+    Row(
+        "R15.1",
+        &[
+            Normal(
+                Iri,
+                "http://xn--99zt52a.example.org/%e2%80%ae",
+                "http://xn--99zt52a.example.org/%E2%80%AE",
+            ),
+            Normal(
+                Iri,
+                "http://xn--99zt52a.example.org/\u{202e}",
+                "http://xn--99zt52a.example.org/%E2%80%AE",
+            ),
+        ],
+    ),
+    Row(
+        "R15.2",
+        &[
+            Normal(IriRef, "%C3\u{200e}%A9", "%C3%E2%80%8E%A9"),
+            Normal(IriRef, "%C3%E2%80%8E%A9", "%C3%E2%80%8E%A9"),
+        ],
+    ),
+    Row("R15.3", &[Normal(IriRef, "?%E2%80%AA", "?%E2%80%AA")]),
+    Row(
+        "R15.4",
+        &[
+            Normal(IriRef, "%E2%80%AF", "\u{202f}"),
+            Normal(IriRef, "%E2%80%8D", "\u{200d}"),
+        ],
+    ),
+    Row(
+        "R15.5",
+        &[Repeated(
+            IriRef,
+            &[("%61", 30), ("%E2%80%8F", 1)],
+            &[("a", 30), ("%E2%80%8F", 1)],
+            false,
+        )],
     ),
 ];
 

@@ -131,7 +131,7 @@ const ROWS: &[Row] = &[
         &[Normal(
             Iri,
             "http://xn--99zt52a.example.org/%e2%80%ae",
-            "http://xn--99zt52a.example.org/\u{202e}",
+            "http://xn--99zt52a.example.org/%E2%80%AE",
         )],
     ),
     Row(

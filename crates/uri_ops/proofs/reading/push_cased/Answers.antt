@@ -1,16 +1,38 @@
-use Rattle.std.proofs.Common.{ap, subst, string_bytes}
+use Rattle.std.proofs.Common.{◌++◌, length, sym, ap, subst, ◌∙◌, string_bytes}
+use Rattle.std.specs.Str.{IsCharBoundary}
 use Rattle.std.proofs.lemmas.Result.{on_ok_weaker}
-use Rattle.uri_pct.specs.Parts.{parts}
-use Rattle.uri_ops.specs.declared.reading.Reading.{Reading}
-use Rattle.uri_ops.specs.Readings.{TookReading}
-use Rattle.uri_ops.proofs.TakenReadings.{taken_whole}
+use Rattle.std.proofs.lemmas.Str.{IsCharBoundary-at_seam}
+use Rattle.uri_pct.specs.Reading.{read_tokens}
+use Rattle.uri_pct.specs.Tables.{set_of}
+use Rattle.uri_pct.specs.Tokens.{tokens, print}
+use Rattle.uri_ops.specs.Readings.{cased}
+use Rattle.uri_ops.proofs.WrittenFormatting.{IsUtf8-cased, written_behind, written_cased, unwritten_cased}
 use Rattle.uri_ops.proofs.reading.push_cased.Goals as goal
 
-pub returns : goal.returns
-returns c =
-    let start : Reading = record { alloc = c.args.alloc; table = c.args.table.now; lowers = c.args.lowers; text = c.replace.result } in
-    let end : Reading = c.take_parts-taken.new.taker in
-    on_ok_weaker c.take_parts-taken.result
-    (λ took. taken_whole c.args.text.now (string_bytes c.args.out.now) start end c.requires (ap string_bytes c.replace.ensures.value)
-    (subst (λ text. TookReading start (parts text) end) c.of_text.ensures took))
-    c.take_parts-taken.ensures
+pub encode_formatting-requires : goal.encode_formatting-requires
+encode_formatting-requires c =
+    let set = set_of c.args.table.now in
+    let text = c.args.text.now in
+    let old = string_bytes c.args.out.now in
+    let new = string_bytes c.push_parts.new.out in
+    let more = print (cased c.args.lowers (read_tokens set (tokens text))) in
+    subst (IsCharBoundary new) (sym (ap length c.as_str-start.ensures.value)) (IsCharBoundary-at_seam new old more c.in_ok-push_parts.ensures (IsUtf8-cased c.args.lowers set text c.requires))
+
+pub returns-then-encodes_formatting : goal.returns-then-encodes_formatting
+returns-then-encodes_formatting c =
+    let set = set_of c.args.table.now in
+    let text = c.args.text.now in
+    let old = string_bytes c.args.out.now in
+    let more = print (cased c.args.lowers (read_tokens set (tokens text))) in
+    on_ok_weaker c.encode_formatting.result
+    (λ written.
+    written
+    ∙ written_behind old more (string_bytes c.push_parts.new.out) _ (ap length c.as_str-start.ensures.value) c.in_ok-push_parts.ensures
+    ∙ ap (λ x. old ++ x) (written_cased c.args.lowers set text (sym c.encodes_formatting.ensures ∙ c.if-encodes_formatting.true) c.requires))
+    c.encode_formatting.ensures
+
+pub returns-else-encodes_formatting : goal.returns-else-encodes_formatting
+returns-else-encodes_formatting c =
+    let set = set_of c.args.table.now in
+    c.in_ok-push_parts.ensures
+    ∙ ap (λ x. string_bytes c.args.out.now ++ x) (unwritten_cased c.args.lowers set c.args.text.now (sym c.encodes_formatting.ensures ∙ c.if-encodes_formatting.false))
