@@ -59,5 +59,7 @@ pub mod BuilderSteps
 pub mod BuilderDrafts
 pub mod BuilderPlaces
 pub mod BuilderKinds
+pub mod BuilderHosts
+pub mod BuilderGrowth
 pub mod Built
 pub mod SpeltTexts

@@ -1,17 +1,22 @@
 //! The text that a builder writes, with the lengths of its parts (RFC 3986, section 5.3).
-ghost use Rattle.std.specs.Prelude.{◌≡◌, ◌==◌, ◌&&◌, ◌+◌, ◌≤◌, IfSome, [], codes, false, length};
-ghost use Rattle.std.specs.Prelude.{unwrap_or, true, string_bytes};
+ghost use Rattle.std.specs.Prelude.{◌≡◌, ◌==◌, ◌&&◌, ◌+◌, ◌-◌, ◌≤◌, IfSome, [], codes, false};
+ghost use Rattle.std.specs.Prelude.{length, option_map, unwrap_or, true, string_bytes};
+ghost use Rattle.uri_pct.specs.Sets.{digit_set};
 ghost use Rattle.uri_pct.specs.Tokens.{is_valid_for};
 ghost use Rattle.uri_parts.specs.Appending.{Pushes};
 ghost use Rattle.uri_parts.specs.Grammar.{has_colon_first, is_authority, is_scheme};
-ghost use Rattle.uri_ops.specs.BuilderParts.{Adds, known_kind, no_parts, with_authority};
-ghost use Rattle.uri_ops.specs.BuilderParts.{with_fragment, with_path, with_query, with_scheme};
+ghost use Rattle.uri_ops.specs.BuilderParts.{Adds, is_text_for, known_kind, no_parts};
+ghost use Rattle.uri_ops.specs.BuilderParts.{with_authority, with_fragment, with_host, with_path};
+ghost use Rattle.uri_ops.specs.BuilderParts.{with_port, with_query, with_scheme, with_userinfo};
+ghost use Rattle.uri_ops.specs.HostParts.{IsHostText};
 ghost use Rattle.uri_ops.specs.Built.{refusal_of};
 ghost use Rattle.uri_ops.specs.Drafts.{IsDraft, behind_part};
 
 use crate::build::BuildError;
+use crate::build::host_port::{AsPort, WithEncoder};
 use crate::slashes::{begins_with_slash, begins_with_two_slashes};
 use std::alloc::Global;
+use uri_pct::encoder::Encoder;
 
 /// How long each part is, where it is there, in bytes.
 #[doc(hidden)]
@@ -48,10 +53,46 @@ fn append(text: &mut String, failed: bool, piece: &str) -> bool
     failed || text.push_str(piece).is_err()
 }
 
+/// As `append`, with a host.
+fn append_host<E: Encoder, H: WithEncoder<E>>(text: &mut String, failed: bool, host: &H) -> bool
+    ensures kept { result ≡ false → failed ≡ false }
+    ensures text { result ≡ false → Pushes text.old text.new (H.host_text host.now) }
+    ensures host { result ≡ false → IsHostText E.set (H.host_text host.now) }
+{
+    failed || host.push_host(text).is_err()
+}
+
+/// As `append`, with the digits of a port.
+fn append_port<P: AsPort>(text: &mut String, failed: bool, port: &P) -> bool
+    ensures kept { result ≡ false → failed ≡ false }
+    ensures text { result ≡ false → Pushes text.old text.new (P.port_digits port.now) }
+    ensures digits { result ≡ false → is_text_for digit_set (P.port_digits port.now) ≡ true }
+{
+    failed || port.push_digits(text).is_err()
+}
+
+/// The lengths where the authority, which ends the text, has grown with it, from a length of the
+/// text to another. Of a text that has failed they say nothing.
+fn grown(lengths: Lengths, failed: bool, old: usize, new: usize) -> Lengths
+    requires inside { failed ≡ false → IfSome lengths.authority (λ len. len ≤ old) }
+    requires longer { failed ≡ false → old ≤ new }
+    ensures { failed ≡ false
+        → result ≡ record lengths { authority = option_map (λ len. len + (new - old)) lengths.authority } }
+{
+    match lengths.authority {
+        Some(len) if !failed => Lengths {
+            authority: Some(new - (old - len)),
+            ..lengths
+        },
+        _ => lengths,
+    }
+}
+
 impl Draft {
     ghost use Rattle.uri_ops.specs.Builders.{Follows, draft_kind, draft_parts, is_before_authority};
-    ghost use Rattle.uri_ops.specs.Builders.{is_before_fragment, is_before_path, is_before_query};
-    ghost use Rattle.uri_ops.specs.Builders.{is_before_userinfo, is_at_end, is_fresh, same};
+    ghost use Rattle.uri_ops.specs.Builders.{is_at_end, is_before_fragment, is_before_host};
+    ghost use Rattle.uri_ops.specs.Builders.{is_before_path, is_before_port, is_before_query};
+    ghost use Rattle.uri_ops.specs.Builders.{is_before_userinfo, is_fresh, is_in_authority, same};
     ghost use Rattle.uri_ops.specs.Built.{refusal};
 
     /// A draft that holds nothing.
@@ -151,6 +192,89 @@ impl Draft {
                 authority: Some(authority.len()),
                 ..lengths
             },
+            failed,
+            international,
+            needs_scheme,
+        }
+    }
+
+    /// With userinfo and its `@`, where an authority is begun.
+    pub fn with_userinfo(self, userinfo: &str) -> Draft
+        requires before { is_before_userinfo self ≡ true }
+        requires rule { self.failed ≡ false
+            → is_valid_for (draft_kind self).userinfo userinfo.now ≡ true }
+        ensures adds { Adds (with_userinfo userinfo.now) (draft_parts self) (draft_parts result) }
+        ensures follows { Follows self result }
+        ensures at { is_before_host result ≡ true }
+    {
+        let Draft {
+            mut text,
+            lengths,
+            failed,
+            international,
+            needs_scheme,
+        } = self;
+        let old = text.len();
+        let failed = append(&mut text, failed, userinfo);
+        let failed = append(&mut text, failed, "@");
+        let lengths = grown(lengths, failed, old, text.len());
+        Draft {
+            text,
+            lengths,
+            failed,
+            international,
+            needs_scheme,
+        }
+    }
+
+    /// With a host.
+    pub fn with_host<E: Encoder, H: WithEncoder<E>>(self, host: H) -> Draft
+        requires before { is_before_host self ≡ true }
+        requires rule { self.failed ≡ false → E.set ≡ (draft_kind self).reg_name }
+        ensures adds { Adds (with_host (H.host_text host)) (draft_parts self) (draft_parts result) }
+        ensures follows { Follows self result }
+        ensures at { is_before_port result ≡ true }
+    {
+        let Draft {
+            mut text,
+            lengths,
+            failed,
+            international,
+            needs_scheme,
+        } = self;
+        let old = text.len();
+        let failed = append_host::<E, H>(&mut text, failed, &host);
+        let lengths = grown(lengths, failed, old, text.len());
+        Draft {
+            text,
+            lengths,
+            failed,
+            international,
+            needs_scheme,
+        }
+    }
+
+    /// With a port behind its `:`.
+    pub fn with_port<P: AsPort>(self, port: P) -> Draft
+        requires before { is_before_port self ≡ true }
+        ensures adds { Adds (with_port (P.port_digits port)) (draft_parts self) (draft_parts result) }
+        ensures follows { Follows self result }
+        ensures at { is_in_authority result ≡ true }
+    {
+        let Draft {
+            mut text,
+            lengths,
+            failed,
+            international,
+            needs_scheme,
+        } = self;
+        let old = text.len();
+        let begun = append(&mut text, failed, ":");
+        let failed = append_port(&mut text, begun, &port);
+        let lengths = grown(lengths, failed, old, text.len());
+        Draft {
+            text,
+            lengths,
             failed,
             international,
             needs_scheme,
