@@ -126,8 +126,8 @@ fn authority_of_another_uri(rt: HostRuntime) {
     is_uri(&rt, built, "http://user@example.com:8042");
 }
 
-/// A name that spells an IPv4 address is one (RFC 3986, section 3.2.2), and the default port is left
-/// out.
+/// A name that spells an IPv4 address is one (RFC 3986, section 3.2.2), and the default port is
+/// left out.
 #[test]
 fn address_that_a_name_spells(rt: HostRuntime) {
     let uri = Uri::<String>::builder(rt.alloc())
@@ -216,7 +216,7 @@ fn each_part(rt: HostRuntime) {
     );
 }
 
-/// Address, userinfo and port may each be optional, and an IRI has its own names.
+/// Userinfo and port may each be optional, and an IRI has its own names.
 #[test]
 fn address_of_either_version(rt: HostRuntime) {
     let reference = IriRef::<String>::builder(rt.alloc())

@@ -4,17 +4,17 @@ use Rattle.std.specs.Prelude.{codes, Option, Some, None, is_none}
 use Rattle.std.specs.Str.{IsUtf8}
 use Rattle.std.proofs.lemmas.Str.{IsUtf8-append, IsUtf8-from_is_utf8, is_utf8-from_IsUtf8}
 use Rattle.std.proofs.lemmas.Bool.{and_parts, and_from, false≢true}
-use Rattle.uri_pct.specs.Sets.{TableSet, digit_set, is_reg_name_char, is_sub_delim, is_unreserved, reg_name_set}
+use Rattle.uri_pct.specs.Sets.{TableSet, digit_set, reg_name_set}
 use Rattle.uri_pct.specs.Tokens.{IsValidFor, is_valid_for}
 use Rattle.uri_parts.specs.Authority.{AuthorityParts, IsAuthorityFor, authority_parts}
 use Rattle.uri_pct.proofs.Cuts.{excludes}
 use Rattle.uri_parts.specs.Components.{Lacks, marked}
 use Rattle.uri_parts.specs.Grammar.{Kind, is_authority}
-use Rattle.uri_parts.specs.Hosts.{HostKind, IsHost, Ipv4, Ipv6, IpvFuture, RegName, host_kind, is_host}
+use Rattle.uri_parts.specs.Hosts.{HostKind, IsHost, Ipv4, Ipv6, IpvFuture, RegName}
 use Rattle.uri_parts.proofs.Authority.{authority_parts-only, is_authority_for-complete, is_authority_for-sound}
 use Rattle.uri_parts.proofs.AuthorityPlaces.{empty_is}
 use Rattle.uri_parts.proofs.Futures.{ipv4_lacks, ipv6_lacks, ipv_future_lacks}
-use Rattle.uri_parts.proofs.Hosts.{is_host-sound, utf8_bracketed}
+use Rattle.uri_parts.proofs.Hosts.{utf8_bracketed}
 use Rattle.uri_parts.proofs.Spelt.{valid_lacks}
 use Rattle.uri_ops.specs.BuilderParts.{is_authority_text, takes_host, takes_port}
 use Rattle.uri_ops.specs.ComponentSets.{HasComponentSets}

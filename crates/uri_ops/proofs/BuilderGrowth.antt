@@ -1,5 +1,5 @@
 -- What a step inside an authority makes of a draft: the authority, which ends the text, goes on.
-use Rattle.std.proofs.Common.{◌≡◌, ℕ, ◌+◌, ◌-◌, ◌≤◌, Bool, true, false, not, ◌&&◌, ◌||◌, List, [], ◌∷◌, ◌++◌, length, take, drop, refl, sym, ap, subst, ◌∙◌, arith, length-append, rules, string_bytes}
+use Rattle.std.proofs.Common.{◌≡◌, ℕ, ◌+◌, ◌-◌, ◌≤◌, Bool, true, false, not, ◌&&◌, ◌||◌, List, [], ◌∷◌, ◌++◌, length, take, drop, refl, sym, ap, subst, ◌∙◌, arith, length-append, string_bytes}
 use Rattle.std.specs.Prelude.{codes, Option, Some, None, IfSome, is_some, is_none, option_map, unwrap_or}
 use Rattle.std.specs.Option.{option_map_or}
 use Rattle.std.specs.Str.{IsUtf8, is_utf8}
@@ -14,17 +14,16 @@ use Rattle.uri_parts.specs.Grammar.{Kind, if_some}
 use Rattle.uri_ops.specs.declared.build.draft.Draft.{Draft}
 use Rattle.uri_ops.specs.declared.build.draft.Lengths.{Lengths}
 use Rattle.uri_ops.specs.BuilderParts.{BuilderParts, is_authority_text, is_text_for, known_kind, takes_host, takes_port, with_more_authority}
-use Rattle.uri_ops.specs.Builders.{draft_kind, draft_parts, is_before_host, is_before_port, is_before_userinfo, is_in_authority}
+use Rattle.uri_ops.specs.Builders.{draft_kind, draft_parts}
 use Rattle.uri_ops.specs.ComponentSets.{HasComponentSets}
 use Rattle.uri_ops.specs.Dots.{is_empty}
-use Rattle.uri_ops.specs.Drafts.{IsDraft, behind_part, part_in, parts_in}
+use Rattle.uri_ops.specs.Drafts.{behind_part, part_in, parts_in}
 use Rattle.uri_ops.specs.HostParts.{IsHostText}
-use Rattle.uri_ops.proofs.BuilderAuthorities.{HasParts, host_parts, port_parts, user_parts}
-use Rattle.uri_ops.proofs.BuilderDrafts.{holds, later}
+use Rattle.uri_ops.proofs.BuilderAuthorities.{host_parts, port_parts, user_parts}
+use Rattle.uri_ops.proofs.BuilderDrafts.{holds}
 use Rattle.uri_ops.proofs.BuilderSteps.{more_step}
 use Rattle.uri_ops.proofs.Drafting.{IsStep, none_of, rules_of}
 use Rattle.uri_ops.proofs.FourKinds.{uri_sets, uri_ref_sets, iri_sets, iri_ref_sets}
-use Rattle.uri_ops.proofs.Tests.{some_map}
 
 pub known_sets : (international needs_scheme : Bool) → HasComponentSets (known_kind international needs_scheme)
 known_sets true true = iri_sets

@@ -9,10 +9,12 @@ ghost use Rattle.uri_ops.specs.BuilderParts.{with_host, with_path, with_port, wi
 ghost use Rattle.uri_ops.specs.BuilderParts.{with_query, with_scheme, with_userinfo};
 ghost use Rattle.uri_ops.specs.Builders.{IsStep, builder_parts, is_for};
 
+mod appending;
 #[doc(hidden)]
 pub mod draft;
 #[doc(hidden)]
 pub mod host_port;
+mod order;
 pub mod state;
 
 use crate::build::draft::Draft;
@@ -198,8 +200,7 @@ impl<R: RiMaybeRef, S: State> Builder<R, S> {
     /// builder and an empty authority begun, and the answer is the builder that it returns. It may
     /// be called on every builder.
     ///
-    /// `builder.authority_with(|authority| authority.host(Ipv4Addr::LOCALHOST))` writes
-    /// `//127.0.0.1`.
+    /// `authority_with(|authority| authority.host(Ipv4Addr::LOCALHOST))` writes `//127.0.0.1`.
     pub fn authority_with<F, T: State>(self, parts: F) -> Builder<R, AuthorityEnd>
     where
         S: To<AuthorityStart>,
@@ -281,9 +282,8 @@ impl<R: RiMaybeRef, S: State> Builder<R, S> {
 
     /// Gives the port (RFC 3986, section 3.2.3): a number, which is written in decimal, or digits.
     ///
-    /// It should be neither empty nor the default port of the scheme.
-    ///
-    /// `authority.host(Ipv4Addr::LOCALHOST).port(8042)` writes `127.0.0.1:8042`.
+    /// It should be neither empty nor the default port of the scheme. Behind a host, `port(8042)`
+    /// writes `:8042`.
     pub fn port<P: AsPort>(self, port: P) -> Builder<R, PortEnd>
     where
         S: To<PortEnd>,
@@ -300,8 +300,7 @@ impl<R: RiMaybeRef, S: State> Builder<R, S> {
 
     /// Gives the port (RFC 3986, section 3.2.3), unless it is the default one, which is left out.
     ///
-    /// Behind a host, `port_with_default(8080, 80)` writes `:8080`, and `port_with_default(80, 80)`
-    /// nothing.
+    /// `port_with_default(8080, 80)` writes `:8080`, and `port_with_default(80, 80)` nothing.
     #[tactic(auto, using(crate::proofs::BuilderPlaces::port_authority))]
     pub fn port_with_default(self, port: u16, default: u16) -> Builder<R, PortEnd>
     where

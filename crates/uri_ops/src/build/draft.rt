@@ -1,18 +1,17 @@
 //! The text that a builder writes, with the lengths of its parts (RFC 3986, section 5.3).
-ghost use Rattle.std.specs.Prelude.{◌≡◌, ◌==◌, ◌&&◌, ◌+◌, ◌-◌, ◌≤◌, IfSome, [], codes, false};
-ghost use Rattle.std.specs.Prelude.{length, option_map, unwrap_or, true, string_bytes};
-ghost use Rattle.uri_pct.specs.Sets.{digit_set};
+ghost use Rattle.std.specs.Prelude.{◌≡◌, ◌==◌, ◌&&◌, ◌+◌, ◌++◌, ◌≤◌, IfSome, [], false};
+ghost use Rattle.std.specs.Prelude.{length, unwrap_or, true, string_bytes};
 ghost use Rattle.uri_pct.specs.Tokens.{is_valid_for};
 ghost use Rattle.uri_parts.specs.Appending.{Pushes};
 ghost use Rattle.uri_parts.specs.Grammar.{has_colon_first, is_authority, is_scheme};
-ghost use Rattle.uri_ops.specs.BuilderParts.{Adds, is_text_for, known_kind, no_parts};
+ghost use Rattle.uri_ops.specs.BuilderParts.{Adds, known_kind, no_parts};
 ghost use Rattle.uri_ops.specs.BuilderParts.{with_authority, with_fragment, with_host, with_path};
 ghost use Rattle.uri_ops.specs.BuilderParts.{with_port, with_query, with_scheme, with_userinfo};
-ghost use Rattle.uri_ops.specs.HostParts.{IsHostText};
 ghost use Rattle.uri_ops.specs.Built.{refusal_of};
 ghost use Rattle.uri_ops.specs.Drafts.{IsDraft, behind_part};
 
 use crate::build::BuildError;
+use crate::build::appending::{append, append_host, append_port, grown};
 use crate::build::host_port::{AsPort, WithEncoder};
 use crate::slashes::{begins_with_slash, begins_with_two_slashes};
 use std::alloc::Global;
@@ -43,49 +42,6 @@ pub struct Draft {
     pub needs_scheme: bool,
     pub ghost ok: { failed ≡ false
         → IsDraft (known_kind international needs_scheme) lengths (string_bytes text) },
-}
-
-/// Appends to a text, unless it has failed, and answers whether it has failed now.
-fn append(text: &mut String, failed: bool, piece: &str) -> bool
-    ensures kept { result ≡ false → failed ≡ false }
-    ensures text { result ≡ false → Pushes text.old text.new piece.now }
-{
-    failed || text.push_str(piece).is_err()
-}
-
-/// As `append`, with a host.
-fn append_host<E: Encoder, H: WithEncoder<E>>(text: &mut String, failed: bool, host: &H) -> bool
-    ensures kept { result ≡ false → failed ≡ false }
-    ensures text { result ≡ false → Pushes text.old text.new (H.host_text host.now) }
-    ensures host { result ≡ false → IsHostText E.set (H.host_text host.now) }
-{
-    failed || host.push_host(text).is_err()
-}
-
-/// As `append`, with the digits of a port.
-fn append_port<P: AsPort>(text: &mut String, failed: bool, port: &P) -> bool
-    ensures kept { result ≡ false → failed ≡ false }
-    ensures text { result ≡ false → Pushes text.old text.new (P.port_digits port.now) }
-    ensures digits { result ≡ false → is_text_for digit_set (P.port_digits port.now) ≡ true }
-{
-    failed || port.push_digits(text).is_err()
-}
-
-/// The lengths where the authority, which ends the text, has grown with it, from a length of the
-/// text to another. Of a text that has failed they say nothing.
-fn grown(lengths: Lengths, failed: bool, old: usize, new: usize) -> Lengths
-    requires inside { failed ≡ false → IfSome lengths.authority (λ len. len ≤ old) }
-    requires longer { failed ≡ false → old ≤ new }
-    ensures { failed ≡ false
-        → result ≡ record lengths { authority = option_map (λ len. len + (new - old)) lengths.authority } }
-{
-    match lengths.authority {
-        Some(len) if !failed => Lengths {
-            authority: Some(new - (old - len)),
-            ..lengths
-        },
-        _ => lengths,
-    }
 }
 
 impl Draft {
@@ -139,6 +95,33 @@ impl Draft {
         }
     }
 
+    /// With these two pieces behind the text, and parts of these lengths.
+    fn appended(self, first: &str, second: &str, lengths: Lengths) -> Draft
+        requires { self.failed ≡ false → IsDraft (draft_kind self) lengths
+            (string_bytes self.text ++ (first.now ++ second.now)) }
+        ensures text { result.failed ≡ false
+            → Pushes self.text result.text (first.now ++ second.now) }
+        ensures lengths { result.lengths ≡ lengths }
+        ensures follows { Follows self result }
+    {
+        let Draft {
+            mut text,
+            failed,
+            international,
+            needs_scheme,
+            ..
+        } = self;
+        let failed = append(&mut text, failed, first);
+        let failed = append(&mut text, failed, second);
+        Draft {
+            text,
+            lengths,
+            failed,
+            international,
+            needs_scheme,
+        }
+    }
+
     /// With a scheme, and its `:`.
     pub fn with_scheme(self, scheme: &str) -> Draft
         requires before { is_fresh self ≡ true }
@@ -147,25 +130,11 @@ impl Draft {
         ensures follows { Follows self result }
         ensures at { is_before_authority result ≡ true }
     {
-        let Draft {
-            mut text,
-            lengths,
-            failed,
-            international,
-            needs_scheme,
-        } = self;
-        let failed = append(&mut text, failed, scheme);
-        let failed = append(&mut text, failed, ":");
-        Draft {
-            text,
-            lengths: Lengths {
-                scheme: Some(scheme.len()),
-                ..lengths
-            },
-            failed,
-            international,
-            needs_scheme,
-        }
+        let lengths = Lengths {
+            scheme: Some(scheme.len()),
+            ..self.lengths
+        };
+        self.appended(scheme, ":", lengths)
     }
 
     /// With an authority behind its `//`.
@@ -177,25 +146,11 @@ impl Draft {
         ensures at { is_before_path result ≡ true }
         ensures start { authority.now ≡ [] → is_before_userinfo result ≡ true }
     {
-        let Draft {
-            mut text,
-            lengths,
-            failed,
-            international,
-            needs_scheme,
-        } = self;
-        let failed = append(&mut text, failed, "//");
-        let failed = append(&mut text, failed, authority);
-        Draft {
-            text,
-            lengths: Lengths {
-                authority: Some(authority.len()),
-                ..lengths
-            },
-            failed,
-            international,
-            needs_scheme,
-        }
+        let lengths = Lengths {
+            authority: Some(authority.len()),
+            ..self.lengths
+        };
+        self.appended("//", authority, lengths)
     }
 
     /// With userinfo and its `@`, where an authority is begun.
@@ -257,7 +212,8 @@ impl Draft {
     /// With a port behind its `:`.
     pub fn with_port<P: AsPort>(self, port: P) -> Draft
         requires before { is_before_port self ≡ true }
-        ensures adds { Adds (with_port (P.port_digits port)) (draft_parts self) (draft_parts result) }
+        ensures adds { Adds (with_port (P.port_digits port))
+            (draft_parts self) (draft_parts result) }
         ensures follows { Follows self result }
         ensures at { is_in_authority result ≡ true }
     {
@@ -289,24 +245,11 @@ impl Draft {
         ensures follows { Follows self result }
         ensures at { is_before_query result ≡ true }
     {
-        let Draft {
-            mut text,
-            lengths,
-            failed,
-            international,
-            needs_scheme,
-        } = self;
-        let failed = append(&mut text, failed, path);
-        Draft {
-            text,
-            lengths: Lengths {
-                path: Some(path.len()),
-                ..lengths
-            },
-            failed,
-            international,
-            needs_scheme,
-        }
+        let lengths = Lengths {
+            path: Some(path.len()),
+            ..self.lengths
+        };
+        self.appended("", path, lengths)
     }
 
     /// With a query behind its `?`.
@@ -318,25 +261,11 @@ impl Draft {
         ensures follows { Follows self result }
         ensures at { is_before_fragment result ≡ true }
     {
-        let Draft {
-            mut text,
-            lengths,
-            failed,
-            international,
-            needs_scheme,
-        } = self;
-        let failed = append(&mut text, failed, "?");
-        let failed = append(&mut text, failed, query);
-        Draft {
-            text,
-            lengths: Lengths {
-                query: Some(query.len()),
-                ..lengths
-            },
-            failed,
-            international,
-            needs_scheme,
-        }
+        let lengths = Lengths {
+            query: Some(query.len()),
+            ..self.lengths
+        };
+        self.appended("?", query, lengths)
     }
 
     /// With a fragment behind its `#`.
@@ -348,25 +277,11 @@ impl Draft {
         ensures follows { Follows self result }
         ensures at { is_at_end result ≡ true }
     {
-        let Draft {
-            mut text,
-            lengths,
-            failed,
-            international,
-            needs_scheme,
-        } = self;
-        let failed = append(&mut text, failed, "#");
-        let failed = append(&mut text, failed, fragment);
-        Draft {
-            text,
-            lengths: Lengths {
-                fragment: Some(fragment.len()),
-                ..lengths
-            },
-            failed,
-            international,
-            needs_scheme,
-        }
+        let lengths = Lengths {
+            fragment: Some(fragment.len()),
+            ..self.lengths
+        };
+        self.appended("#", fragment, lengths)
     }
 
     /// Why the parts are refused, if they are.

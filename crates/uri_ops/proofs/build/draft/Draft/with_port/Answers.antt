@@ -1,5 +1,4 @@
-use Rattle.std.proofs.Common.{◌≡◌, ◌∙◌, ◌||◌, ◌++◌, not, true, false, codes, string_bytes}
-use Rattle.std.specs.Prelude.{is_some, is_none}
+use Rattle.std.proofs.Common.{◌≡◌, ◌∙◌, ◌++◌, false, codes, string_bytes}
 use Rattle.uri_ops.specs.BuilderParts.{takes_port, with_port}
 use Rattle.uri_ops.specs.Builders.{draft_kind, is_before_port, is_in_authority}
 use Rattle.uri_ops.specs.Drafts.{behind_part}
