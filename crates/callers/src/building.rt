@@ -1,10 +1,11 @@
 //! Builders that are handed a closure.
 #![tactic(auto)]
 
-use fluent_uri::UriRef;
-use fluent_uri::build::{BuildError, Builder};
+use fluent_uri::build::{AsHost, AsPort, BuildError, Builder, WithEncoder};
+use fluent_uri::component::Scheme;
 use fluent_uri::pct_enc::EStr;
-use fluent_uri::pct_enc::encoder::{Path, Query};
+use fluent_uri::pct_enc::encoder::{Path, Query, RegName};
+use fluent_uri::{Uri, UriRef};
 use std::alloc::Global;
 
 /// `optional` is handed a step of the builder.
@@ -27,5 +28,33 @@ pub fn with_no_authority(
     UriRef::<String>::builder(alloc)
         .authority_with(|_| UriRef::<String>::builder(alloc))
         .path(path)
+        .build()
+}
+
+/// Each part of a URI, at literals.
+pub fn with_each_part(alloc: Global) -> Result<Uri<String>, BuildError> {
+    Uri::<String>::builder(alloc)
+        .scheme(Scheme::new_or_panic("foo"))
+        .authority_with(|authority| {
+            authority
+                .userinfo(EStr::new_or_panic("user"))
+                .host(EStr::new_or_panic("example.com"))
+                .port(8042)
+        })
+        .path(EStr::new_or_panic("/over/there"))
+        .query(EStr::new_or_panic("name=ferret"))
+        .fragment(EStr::new_or_panic("nose"))
+        .build()
+}
+
+/// A host and a port of any type that a builder takes.
+pub fn with_host_and_port<H: AsHost + WithEncoder<RegName>, P: AsPort>(
+    alloc: Global,
+    host: H,
+    port: P,
+) -> Result<UriRef<String>, BuildError> {
+    UriRef::<String>::builder(alloc)
+        .authority_with(|authority| authority.host(host).port(port))
+        .path(EStr::EMPTY)
         .build()
 }

@@ -1,9 +1,10 @@
 use checks::{equal, prints};
 use fluent_uri::build::state::FragmentEnd;
 use fluent_uri::build::{BuildError, Builder};
-use fluent_uri::component::{Authority, Scheme};
+use fluent_uri::component::{Authority, Host, Scheme};
+use fluent_uri::net::{IpAddr, Ipv4Addr, Ipv6Addr};
 use fluent_uri::pct_enc::EStr;
-use fluent_uri::pct_enc::encoder::Encoder;
+use fluent_uri::pct_enc::encoder::{Encoder, Port, RegName};
 use fluent_uri::{Iri, IriRef, Uri, UriRef};
 use std::process::Abort;
 
@@ -123,6 +124,118 @@ fn authority_of_another_uri(rt: HostRuntime) {
         .path(part(&rt, ""))
         .build();
     is_uri(&rt, built, "http://user@example.com:8042");
+}
+
+/// A name that spells an IPv4 address is one (RFC 3986, section 3.2.2), and the default port is
+/// left out.
+#[test]
+fn address_that_a_name_spells(rt: HostRuntime) {
+    let uri = Uri::<String>::builder(rt.alloc())
+        .scheme(scheme(&rt, "http"))
+        .authority_with(|authority| {
+            authority
+                .host(EStr::<RegName>::new_or_panic("127.0.0.1"))
+                .port_with_default(80, 80)
+        })
+        .path(part(&rt, "/a"))
+        .build()
+        .expect(&rt, "a URI");
+    equal(uri.as_str(), "http://127.0.0.1/a").expect(&rt, "a URI");
+    let authority = uri.authority().expect(&rt, "an authority");
+    let is_ipv4 = matches!(authority.host_parsed(), Host::Ipv4(_));
+    equal(is_ipv4, true).expect(&rt, "an IPv4 address");
+    let rootless = Uri::<String>::builder(rt.alloc())
+        .scheme(scheme(&rt, "http"))
+        .authority_with(|authority| {
+            authority
+                .host(EStr::<RegName>::new_or_panic("127.0.0.1"))
+                .port_with_default(80, 80)
+        })
+        .path(part(&rt, "a"))
+        .build();
+    equal(rootless.err(), Some(BuildError::NonemptyRootlessPath)).expect(&rt, "a refusal");
+}
+
+#[test]
+fn ipv6_address_and_a_port(rt: HostRuntime) {
+    let built = UriRef::<String>::builder(rt.alloc())
+        .authority_with(|authority| authority
+            .host(Ipv6Addr::new(0, 0, 0, 0, 0, 0, 0, 1))
+            .port(0))
+        .path(part(&rt, ""))
+        .build();
+    is_uri_ref(&rt, built, "//[::1]:0");
+}
+
+#[test]
+fn empty_port(rt: HostRuntime) {
+    let built = UriRef::<String>::builder(rt.alloc())
+        .authority_with(|authority| {
+            authority
+                .host(EStr::<RegName>::new_or_panic("h"))
+                .port(EStr::<Port>::EMPTY)
+        })
+        .path(part(&rt, ""))
+        .build();
+    is_uri_ref(&rt, built, "//h:");
+}
+
+#[test]
+fn port_that_is_not_the_default(rt: HostRuntime) {
+    let built = Uri::<String>::builder(rt.alloc())
+        .scheme(scheme(&rt, "http"))
+        .authority_with(|authority| {
+            authority
+                .host(EStr::<RegName>::new_or_panic("h"))
+                .port_with_default(8080, 80)
+        })
+        .path(part(&rt, "/"))
+        .build();
+    is_uri(&rt, built, "http://h:8080/");
+}
+
+/// The example of RFC 3986, section 3, with userinfo.
+#[test]
+fn each_part(rt: HostRuntime) {
+    let built = Uri::<String>::builder(rt.alloc())
+        .scheme(scheme(&rt, "foo"))
+        .authority_with(|authority| {
+            authority
+                .userinfo(EStr::new_or_panic("user"))
+                .host(EStr::<RegName>::new_or_panic("example.com"))
+                .port(8042)
+        })
+        .path(part(&rt, "/over/there"))
+        .query(part(&rt, "name=ferret"))
+        .fragment(part(&rt, "nose"))
+        .build();
+    is_uri(
+        &rt,
+        built,
+        "foo://user@example.com:8042/over/there?name=ferret#nose",
+    );
+}
+
+/// Userinfo and port may each be optional, and an IRI has its own names.
+#[test]
+fn address_of_either_version(rt: HostRuntime) {
+    let reference = IriRef::<String>::builder(rt.alloc())
+        .authority_with(|authority| {
+            authority
+                .optional(Builder::userinfo, None)
+                .host(IpAddr::V4(Ipv4Addr::LOCALHOST))
+                .optional(Builder::port, Some(80u16))
+        })
+        .path(part(&rt, ""))
+        .build()
+        .expect(&rt, "an IRI reference");
+    equal(reference.as_str(), "//127.0.0.1:80").expect(&rt, "an IRI reference");
+    let named = IriRef::<String>::builder(rt.alloc())
+        .authority_with(|authority| authority.host(EStr::new_or_panic("é")))
+        .path(part(&rt, ""))
+        .build()
+        .expect(&rt, "an IRI reference");
+    equal(named.as_str(), "//é").expect(&rt, "an IRI reference");
 }
 
 /// RFC 3986, section 3.3: behind an authority a path is empty or begins with `/`.

@@ -15,6 +15,7 @@ pub use uri_parts::error::{ParseError, ParseErrorKind};
 
 /// Building references (RFC 3986, section 5.3).
 pub mod build {
+    pub use uri_ops::build::host_port::{AsHost, AsPort, WithEncoder};
     pub use uri_ops::build::state::{AdvanceTo, To};
     pub use uri_ops::build::{BuildError, Builder, state};
 }

@@ -4,21 +4,22 @@ use Rattle.std.specs.Prelude.{codes, Option, Some, None, is_none}
 use Rattle.std.specs.Str.{IsUtf8}
 use Rattle.std.proofs.lemmas.Str.{IsUtf8-append, IsUtf8-from_is_utf8, is_utf8-from_IsUtf8}
 use Rattle.std.proofs.lemmas.Bool.{and_parts, and_from, false≢true}
-use Rattle.uri_pct.specs.Sets.{TableSet, digit_set, is_reg_name_char, is_sub_delim, is_unreserved, reg_name_set}
+use Rattle.uri_pct.specs.Sets.{TableSet, digit_set, reg_name_set}
 use Rattle.uri_pct.specs.Tokens.{IsValidFor, is_valid_for}
 use Rattle.uri_parts.specs.Authority.{AuthorityParts, IsAuthorityFor, authority_parts}
 use Rattle.uri_pct.proofs.Cuts.{excludes}
 use Rattle.uri_parts.specs.Components.{Lacks, marked}
 use Rattle.uri_parts.specs.Grammar.{Kind, is_authority}
-use Rattle.uri_parts.specs.Hosts.{HostKind, IsHost, Ipv4, Ipv6, IpvFuture, RegName, host_kind, is_host}
+use Rattle.uri_parts.specs.Hosts.{HostKind, IsHost, Ipv4, Ipv6, IpvFuture, RegName}
 use Rattle.uri_parts.proofs.Authority.{authority_parts-only, is_authority_for-complete, is_authority_for-sound}
 use Rattle.uri_parts.proofs.AuthorityPlaces.{empty_is}
 use Rattle.uri_parts.proofs.Futures.{ipv4_lacks, ipv6_lacks, ipv_future_lacks}
-use Rattle.uri_parts.proofs.Hosts.{is_host-sound, utf8_bracketed}
+use Rattle.uri_parts.proofs.Hosts.{utf8_bracketed}
 use Rattle.uri_parts.proofs.Spelt.{valid_lacks}
 use Rattle.uri_ops.specs.BuilderParts.{is_authority_text, takes_host, takes_port}
 use Rattle.uri_ops.specs.ComponentSets.{HasComponentSets}
 use Rattle.uri_ops.specs.Dots.{is_empty}
+use Rattle.uri_ops.specs.HostParts.{IsHostText}
 use Rattle.uri_ops.proofs.AuthorityMeanings.{keeps_apart, lacks_text, utf8_parts}
 use Rattle.uri_ops.proofs.Ends.{ends_outside, excludes_front}
 use Rattle.uri_ops.proofs.HostMeanings.{lacks_bracketed, slash_outside}
@@ -75,18 +76,17 @@ module _ (kind : Kind) (sets : HasComponentSets kind) where
   sound : (a : List ℕ) → is_authority_text kind a ≡ true → IsAuthorityFor kind.userinfo kind.reg_name a (authority_parts a)
   sound a e = is_authority_for-sound kind.userinfo kind.reg_name a (authority_meets kind a e)
 
-  pub host_parts : (a host : List ℕ) → is_authority_text kind a ≡ true → takes_host a ≡ true → IsUtf8 host → is_host kind.reg_name host ≡ true
-      → HasParts kind (a ++ host) (record { userinfo = (authority_parts a).userinfo; host = host; port = None })
-  host_parts a host e t u h =
+  pub host_parts : (a host : List ℕ) → is_authority_text kind a ≡ true → takes_host a ≡ true → IsHostText kind.reg_name host → HasParts kind (a ++ host) (record { userinfo = (authority_parts a).userinfo; host = host; port = None })
+  host_parts a host e t h =
       let p = authority_parts a in
       let both = and_parts (is_empty p.host) (takes_port a) t in
       let old = sound a e in
       let U : List ℕ = marked [] p.userinfo (codes "@") in
       let bare : U ++ [] ≡ a = sym (λ i. U ++ (no_host p.host both.0 i ++ marked (codes ":") (no_port p both.1 i) [])) ∙ old.whole in
-      has_parts (a ++ host) (record { userinfo = p.userinfo; host = host; port = None }) (IsUtf8-append a host (authority_utf8 kind a e) u) (record {
+      has_parts (a ++ host) (record { userinfo = p.userinfo; host = host; port = None }) (IsUtf8-append a host (authority_utf8 kind a e) h.utf8) (record {
         whole = ap (λ t. U ++ t) (append-nil host) ∙ ap (λ t. t ++ host) (sym (append-nil U) ∙ bare);
         userinfo = old.userinfo;
-        host = (host_kind host, is_host-sound kind.reg_name host h);
+        host = h.host;
         port = tt;
       })
 

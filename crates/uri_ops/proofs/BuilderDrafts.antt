@@ -6,12 +6,13 @@ use Rattle.std.proofs.lemmas.Str.{is_utf8-from_IsUtf8}
 use Rattle.std.proofs.lemmas.Bool.{and_parts, and_from}
 use Rattle.uri_pct.specs.Sets.{TableSet}
 use Rattle.uri_pct.specs.Tokens.{is_valid_for}
-use Rattle.uri_parts.specs.Grammar.{Kind, is_scheme}
+use Rattle.uri_parts.specs.Grammar.{Kind, is_authority, is_scheme}
 use Rattle.uri_ops.specs.declared.build.draft.Draft.{Draft}
 use Rattle.uri_ops.specs.declared.build.draft.Lengths.{Lengths}
-use Rattle.uri_ops.specs.BuilderParts.{BuilderParts, is_authority_text, is_scheme_text, is_text_for, with_authority, with_fragment, with_path, with_query, with_scheme}
-use Rattle.uri_ops.specs.Builders.{draft_kind, is_before_authority, is_before_fragment, is_before_path, is_before_query, is_fresh}
+use Rattle.uri_ops.specs.BuilderParts.{BuilderParts, is_scheme_text, is_text_for, with_authority, with_fragment, with_path, with_query, with_scheme}
+use Rattle.uri_ops.specs.Builders.{Follows, draft_kind, draft_parts, is_before_authority, is_before_fragment, is_before_path, is_before_query, is_fresh}
 use Rattle.uri_ops.specs.Drafts.{parts_in}
+use Rattle.uri_ops.proofs.BuilderAuthorities.{authority_from}
 use Rattle.uri_ops.proofs.BuilderSteps.{authority_step, fragment_step, path_step, query_step, scheme_step}
 use Rattle.uri_ops.proofs.Drafting.{IsStep, none_of}
 
@@ -42,7 +43,7 @@ pub two_pieces : (text one two first second : List ℕ) (f g : Bool) → (g ≡ 
     → g ≡ false → second ≡ text ++ (one ++ two)
 two_pieces text one two first second f g kept a b e = b e ∙ ap (λ t. t ++ two) (a (kept e)) ∙ append_assoc text one two
 
-module _ (a : Draft) (x new : List ℕ) (utf8 : IsUtf8 x) (g : Bool) (kept : g ≡ false → a.failed ≡ false) where
+module _ (a : Draft) (x : List ℕ) (utf8 : IsUtf8 x) where
   abbrev text : List ℕ
   text = string_bytes a.text
 
@@ -52,56 +53,57 @@ module _ (a : Draft) (x new : List ℕ) (utf8 : IsUtf8 x) (g : Bool) (kept : g �
   abbrev parts : BuilderParts
   parts = parts_in a.lengths text false
 
-  pub scheme_draft : is_fresh a ≡ true → is_scheme x ≡ true → (g ≡ false → new ≡ text ++ (x ++ codes ":")) → g ≡ false
-      → IsStep kind (with_scheme x parts) (record a.lengths { scheme = Some (length x) }) new
+  pub scheme_draft : is_fresh a ≡ true → is_scheme x ≡ true → a.failed ≡ false → IsStep kind (with_scheme x parts) (record a.lengths { scheme = Some (length x) }) (text ++ (x ++ codes ":"))
   unfolding is_fresh
-  scheme_draft before rule appended e =
-      let t = and_parts _ _ (holds _ _ (kept e) before) in
+  scheme_draft before rule whole =
+      let t = and_parts _ _ (holds _ _ whole before) in
       let s = and_parts _ _ t.1 in
       let p = and_parts _ _ s.1 in
       let q = and_parts _ _ p.1 in
-      subst (IsStep kind (with_scheme x parts) (record a.lengths { scheme = Some (length x) })) (sym (appended e))
-      (scheme_step kind a.lengths text (a.ok (kept e)) x (none_of _ t.0) (none_of _ s.0) (none_of _ p.0) (none_of _ q.0) (none_of _ q.1) (scheme_from x utf8 rule))
+      scheme_step kind a.lengths text (a.ok whole) x (none_of _ t.0) (none_of _ s.0) (none_of _ p.0) (none_of _ q.0) (none_of _ q.1) (scheme_from x utf8 rule)
 
-  pub authority_draft : is_before_authority a ≡ true → (a.failed ≡ false → is_authority_text kind x ≡ true) → (g ≡ false → new ≡ text ++ (codes "//" ++ x)) → g ≡ false
-      → IsStep kind (with_authority x parts) (record a.lengths { authority = Some (length x) }) new
+  pub authority_draft : is_before_authority a ≡ true → (a.failed ≡ false → is_authority kind x ≡ true) → a.failed ≡ false → IsStep kind (with_authority x parts) (record a.lengths { authority = Some (length x) }) (text ++ (codes "//" ++ x))
   unfolding is_before_authority
-  authority_draft before rule appended e =
-      let t = and_parts _ _ (holds _ _ (kept e) before) in
+  authority_draft before rule whole =
+      let t = and_parts _ _ (holds _ _ whole before) in
       let s = and_parts _ _ t.1 in
       let p = and_parts _ _ s.1 in
       let q = and_parts _ _ p.1 in
-      subst (IsStep kind (with_authority x parts) (record a.lengths { authority = Some (length x) })) (sym (appended e))
-      (authority_step kind a.lengths text (a.ok (kept e)) x (none_of _ s.0) (none_of _ p.0) (none_of _ q.0) (none_of _ q.1) (rule (kept e)))
+      authority_step kind a.lengths text (a.ok whole) x (none_of _ s.0) (none_of _ p.0) (none_of _ q.0) (none_of _ q.1) (authority_from kind x utf8 (rule whole))
 
-  pub path_draft : is_before_path a ≡ true → (a.failed ≡ false → is_valid_for kind.path x ≡ true) → (g ≡ false → new ≡ text ++ x) → g ≡ false
-      → IsStep kind (with_path x parts) (record a.lengths { path = Some (length x) }) new
+  pub path_draft : is_before_path a ≡ true → (a.failed ≡ false → is_valid_for kind.path x ≡ true) → a.failed ≡ false → IsStep kind (with_path x parts) (record a.lengths { path = Some (length x) }) (text ++ x)
   unfolding is_before_path
-  path_draft before rule appended e =
-      let t = and_parts _ _ (holds _ _ (kept e) before) in
+  path_draft before rule whole =
+      let t = and_parts _ _ (holds _ _ whole before) in
       let p = and_parts _ _ t.1 in
       let q = and_parts _ _ p.1 in
-      subst (IsStep kind (with_path x parts) (record a.lengths { path = Some (length x) })) (sym (appended e))
-      (path_step kind a.lengths text (a.ok (kept e)) x (none_of _ p.0) (none_of _ q.0) (none_of _ q.1) (text_from kind.path x utf8 (rule (kept e))))
+      path_step kind a.lengths text (a.ok whole) x (none_of _ p.0) (none_of _ q.0) (none_of _ q.1) (text_from kind.path x utf8 (rule whole))
 
-  pub query_draft : is_before_query a ≡ true → (a.failed ≡ false → is_valid_for kind.query x ≡ true) → (g ≡ false → new ≡ text ++ (codes "?" ++ x)) → g ≡ false
-      → IsStep kind (with_query x parts) (record a.lengths { query = Some (length x) }) new
+  pub query_draft : is_before_query a ≡ true → (a.failed ≡ false → is_valid_for kind.query x ≡ true) → a.failed ≡ false → IsStep kind (with_query x parts) (record a.lengths { query = Some (length x) }) (text ++ (codes "?" ++ x))
   unfolding is_before_query
-  query_draft before rule appended e =
-      let t = and_parts _ _ (holds _ _ (kept e) before) in
+  query_draft before rule whole =
+      let t = and_parts _ _ (holds _ _ whole before) in
       let p = and_parts _ _ t.1 in
       let q = and_parts _ _ p.1 in
-      subst (IsStep kind (with_query x parts) (record a.lengths { query = Some (length x) })) (sym (appended e))
-      (query_step kind a.lengths text (a.ok (kept e)) x (none_of _ q.0) (none_of _ q.1) (text_from kind.query x utf8 (rule (kept e))))
+      query_step kind a.lengths text (a.ok whole) x (none_of _ q.0) (none_of _ q.1) (text_from kind.query x utf8 (rule whole))
 
-  pub fragment_draft : is_before_fragment a ≡ true → (a.failed ≡ false → is_valid_for kind.fragment x ≡ true) → (g ≡ false → new ≡ text ++ (codes "#" ++ x)) → g ≡ false
-      → IsStep kind (with_fragment x parts) (record a.lengths { fragment = Some (length x) }) new
+  pub fragment_draft : is_before_fragment a ≡ true → (a.failed ≡ false → is_valid_for kind.fragment x ≡ true) → a.failed ≡ false → IsStep kind (with_fragment x parts) (record a.lengths { fragment = Some (length x) }) (text ++ (codes "#" ++ x))
   unfolding is_before_fragment
-  fragment_draft before rule appended e =
-      let t = and_parts _ _ (holds _ _ (kept e) before) in
+  fragment_draft before rule whole =
+      let t = and_parts _ _ (holds _ _ whole before) in
       let p = and_parts _ _ t.1 in
-      subst (IsStep kind (with_fragment x parts) (record a.lengths { fragment = Some (length x) })) (sym (appended e))
-      (fragment_step kind a.lengths text (a.ok (kept e)) x (none_of _ p.1) (text_from kind.fragment x utf8 (rule (kept e))))
+      fragment_step kind a.lengths text (a.ok whole) x (none_of _ p.1) (text_from kind.fragment x utf8 (rule whole))
+
+-- what a draft holds that goes on from another, and where it stands
+pub adds_of : (change : BuilderParts → BuilderParts) (a b : Draft) (lengths : Lengths) (more : List ℕ) → Follows a b → b.lengths ≡ lengths → (b.failed ≡ false → string_bytes b.text ≡ string_bytes a.text ++ more)
+    → (a.failed ≡ false → parts_in lengths (string_bytes a.text ++ more) false ≡ change (parts_in a.lengths (string_bytes a.text) false))
+    → b.failed ≡ false → draft_parts b ≡ change (parts_in a.lengths (string_bytes a.text) a.failed)
+adds_of change a b lengths more follows same appended step e =
+    let kept = follows.failed e in
+    (λ i. parts_in (same i) (appended e i) (e i)) ∙ step kept ∙ ap (λ f. change (parts_in a.lengths (string_bytes a.text) f)) (sym kept)
+
+pub stands : (test : Lengths → Bool → Bool) (a b : Draft) (lengths : Lengths) → Follows a b → b.lengths ≡ lengths → (b.failed || test lengths a.needs_scheme) ≡ true → (b.failed || test b.lengths b.needs_scheme) ≡ true
+stands test a b lengths follows same h = (λ i. b.failed || test (same i) (follows.needs_scheme i)) ∙ h
 
 -- the place behind each step
 module _ (a : Draft) (g : Bool) (kept : g ≡ false → a.failed ≡ false) where

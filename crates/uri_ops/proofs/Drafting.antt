@@ -1,6 +1,6 @@
 -- The text of the parts of a builder: the parts are read back from it, and a text with these parts is such a text.
 use Rattle.std.proofs.Common.{◌≡◌, ℕ, ◌+◌, Bool, true, false, List, [], ◌++◌, length, take, drop, refl, sym, ap, ◌∙◌, arith, append_assoc, append-nil, length-append}
-use Rattle.std.specs.Prelude.{codes, Option, Some, None, option_map, unwrap_or, is_some, is_none}
+use Rattle.std.specs.Prelude.{codes, Option, Some, None, option_map, unwrap_or, is_none}
 use Rattle.std.proofs.lemmas.Bool.{and_parts, and_from, false≢true}
 use Rattle.std.proofs.Math.Seq.{drop-append_seam, take-append_seam}
 use Rattle.uri_parts.specs.Components.{marked, recompose}

@@ -3,7 +3,7 @@ use Rattle.std.proofs.Common.{◌≡◌, ℕ, Bool, true, false, List, refl}
 use Rattle.std.specs.Prelude.{codes}
 use Rattle.std.specs.List.{list_any}
 use Rattle.std.proofs.lemmas.Bool.{or_left, false≢true}
-use Rattle.uri_pct.specs.Sets.{TableSet, is_unreserved, is_sub_delim, is_reg_name_char, is_userinfo_char, is_pchar, is_path_char, is_query_char}
+use Rattle.uri_pct.specs.Sets.{TableSet, is_unreserved, is_reg_name_char, is_userinfo_char, is_pchar, is_path_char, is_query_char}
 use Rattle.uri_parts.specs.Grammar.{Kind, uri, uri_ref, iri, iri_ref}
 use Rattle.uri_ops.specs.ComponentSets.{IsComponentSet, HasComponentSets}
 

@@ -14,7 +14,7 @@ use Rattle.std.proofs.lemmas.List.Folds.{list_all-append}
 use Rattle.std.proofs.lemmas.Bool.Decides.{nat_tests}
 use Rattle.std.proofs.lemmas.Str.{IsUtf8-append}
 use Rattle.std.proofs.NetLemmas.Alphabet.{IsDigitOrDot, All-ipv4_text}
-use Rattle.uri_pct.specs.Sets.{TableSet, is_one_of, ipv_future_set, is_userinfo_char, is_reg_name_char, is_unreserved, is_sub_delim}
+use Rattle.uri_pct.specs.Sets.{TableSet, is_one_of, ipv_future_set, is_userinfo_char, is_unreserved}
 use Rattle.uri_pct.specs.Tokens.{print, is_valid_for}
 use Rattle.uri_pct.specs.Reading.{lower_token, read}
 use Rattle.uri_pct.proofs.Cuts.{excludes}
@@ -51,7 +51,7 @@ lacks_bracketed address h =
     lacks_append (codes "/?#") (codes "[") (address ++ codes "]") (test_lacks (codes "/?#") (codes "[") refl)
     (lacks_append (codes "/?#") address (codes "]") h (test_lacks (codes "/?#") (codes "]") refl))
 
-utf8_in_brackets : (address : List ℕ) → IsUtf8 address → IsUtf8 (bracketed address)
+pub utf8_in_brackets : (address : List ℕ) → IsUtf8 address → IsUtf8 (bracketed address)
 utf8_in_brackets address u =
     IsUtf8-append (codes "[") (address ++ codes "]") (utf8_ascii (codes "[") refl) (IsUtf8-append address (codes "]") u (utf8_ascii (codes "]") refl))
 
@@ -65,7 +65,7 @@ plain_addresses (c ∷ text) e =
     let p = and_parts (is_address_char c) (list_all is_address_char text) e in
     and_from _ _ (and_from _ _ (address_plain c p.0) p.0) (plain_addresses text p.1)
 
-utf8_address : (text : List ℕ) → is_address_text text ≡ true → IsUtf8 text
+pub utf8_address : (text : List ℕ) → is_address_text text ≡ true → IsUtf8 text
 unfolding is_address_text
 utf8_address text e = utf8_plain is_address_char text (plain_addresses text e)
 
@@ -144,6 +144,10 @@ pub ipv4_chars : (text octets : List ℕ) → IsDotted text octets → All IsDig
 ipv4_chars text octets h =
     subst (All IsDigitOrDot) (sym h.spelled) (All-ipv4_text (h.a ∷ h.b ∷ h.c ∷ h.d ∷ []) (four_fit h.a h.b h.c h.d h.fit.0 h.fit.1 h.fit.2 h.fit.3))
 
+pub name_passes : (names : TableSet) (text : List ℕ) → starts 91 text ≡ false → is_valid_for names text ≡ true → is_host names text ≡ true
+unfolding is_host
+name_passes names text e valid = cond-false _ _ _ e ∙ or_right _ _ valid
+
 module _ (names : TableSet) (w : IsComponentSet (codes "/?#[]@:") names) (apart : excludes names (codes "@:[") ≡ true) where
   outside : excludes names (codes "/?#") ≡ true
   outside = excludes_front (codes "/?#") (codes "[]@:") names (ends_outside (codes "/?#[]@:") names refl w.ends)
@@ -154,8 +158,8 @@ module _ (names : TableSet) (w : IsComponentSet (codes "/?#[]@:") names) (apart 
   name_meaning text (Some octets) = refl
 
   pub at_name : (text : List ℕ) → starts 91 text ≡ false → is_valid_for names text ≡ true → (host_kind text ≡ name_kind (ipv4_value text)) × (is_host names text ≡ true)
-  unfolding host_kind is_host
-  at_name text e valid = (cond-false _ _ _ e, cond-false _ _ _ e ∙ or_right _ _ valid)
+  unfolding host_kind
+  at_name text e valid = (cond-false _ _ _ e, name_passes names text e valid)
 
   named : (text : List ℕ) → is_part names text ≡ true → IsHostOf names (Name (map lower_token (read names text))) (print (map lower_token (read names text)))
   named text part =

@@ -60,5 +60,7 @@ pub mod BuilderSteps
 pub mod BuilderDrafts
 pub mod BuilderPlaces
 pub mod BuilderKinds
+pub mod BuilderHosts
+pub mod BuilderGrowth
 pub mod Built
 pub mod SpeltTexts

@@ -6,7 +6,7 @@ use Rattle.std.specs.Str.{IsUtf8, chars}
 use Rattle.std.proofs.Math.Utf8.{low_scalar}
 use Rattle.std.proofs.lemmas.Str.{IsUtf8-encode, encode_ascii}
 use Rattle.std.proofs.lemmas.Bool.{cases_Bool, cond-true, cond-false, cond_both, and_from, and_parts, eqb-true}
-use Rattle.uri_pct.specs.Sets.{TableSet, is_unreserved}
+use Rattle.uri_pct.specs.Sets.{TableSet}
 use Rattle.uri_pct.specs.Tokens.{tokens_of, is_valid_for}
 use Rattle.uri_pct.specs.Reading.{read}
 use Rattle.uri_pct.proofs.Validity.{allows-ascii}

@@ -6,7 +6,7 @@ use Rattle.std.proofs.lemmas.Str.{IsUtf8-append, IsUtf8-nil, IsUtf8-encode, enco
 use Rattle.std.proofs.Math.Utf8.{low_scalar}
 use Rattle.std.proofs.lemmas.List.{append-nil, map-append}
 use Rattle.std.proofs.lemmas.Bool.{and_parts, and_from, not_from_false}
-use Rattle.uri_pct.specs.Sets.{TableSet, LacksPercent, IsSubset, unreserved_set, is_unreserved, allows}
+use Rattle.uri_pct.specs.Sets.{TableSet, LacksPercent, IsSubset, unreserved_set, allows}
 use Rattle.uri_pct.specs.Tokens.{is_valid_for}
 use Rattle.uri_pct.proofs.Validity.{allows-ascii}
 use Rattle.uri_parts.specs.Components.{IsRooted}

@@ -5,7 +5,7 @@ use Rattle.std.specs.List.{list_any}
 use Rattle.std.specs.Str.{chars}
 use Rattle.std.proofs.lemmas.List.{append-nil}
 use Rattle.std.proofs.lemmas.Bool.{cases_Bool, and_left, or_parts, or_from, eqb-true, false≢true}
-use Rattle.uri_pct.specs.Sets.{TableSet, LacksPercent, IsSubset, unreserved_set, is_unreserved}
+use Rattle.uri_pct.specs.Sets.{TableSet, LacksPercent, IsSubset, unreserved_set}
 use Rattle.uri_pct.specs.Tokens.{tokens, tokens_of, token_bytes}
 use Rattle.uri_parts.specs.Components.{Lacks, starts, has_authority, before_any}
 use Rattle.uri_parts.specs.Grammar.{has_colon_first}

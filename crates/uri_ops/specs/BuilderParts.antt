@@ -1,6 +1,7 @@
 -- What a builder holds, and the text of it: RFC 3986, section 5.3.
-use Rattle.std.specs.Prelude.{◌≡◌, ◌&&◌, ℕ, Bool, false, List, [], ◌++◌, Option, Some, None}
-use Rattle.std.specs.Prelude.{is_none, option_map, unwrap_or, if◌then◌else◌}
+use Rattle.std.specs.Prelude.{◌≡◌, ◌==◌, ◌&&◌, ℕ, Bool, false, List, [], ◌++◌, Option, Some, None}
+use Rattle.std.specs.Prelude.{codes, is_none, option_map, unwrap_or, if◌then◌else◌}
+use Rattle.std.specs.Fmt.{decimal}
 use Rattle.std.specs.Str.{is_utf8}
 use Rattle.uri_pct.specs.Sets.{TableSet}
 use Rattle.uri_pct.specs.Tokens.{is_valid_for}
@@ -57,6 +58,20 @@ with_authority text p = record p { authority = Some text }
 abbrev pub with_more_authority : List ℕ → BuilderParts → BuilderParts
 with_more_authority text p =
     record p { authority = option_map (λ authority. authority ++ text) p.authority }
+
+-- section 3.2: userinfo ends in `@`, and a port begins with `:`
+abbrev pub with_userinfo : List ℕ → BuilderParts → BuilderParts
+with_userinfo text = with_more_authority (text ++ codes "@")
+
+abbrev pub with_host : List ℕ → BuilderParts → BuilderParts
+with_host text = with_more_authority text
+
+abbrev pub with_port : List ℕ → BuilderParts → BuilderParts
+with_port digits = with_more_authority (codes ":" ++ digits)
+
+-- a number as the port, unless it is the default one
+abbrev pub with_port_but : ℕ → ℕ → BuilderParts → BuilderParts
+with_port_but default port p = if port == default then p else with_port (decimal port) p
 
 abbrev pub with_path : List ℕ → BuilderParts → BuilderParts
 with_path text p = record p { path = Some text }

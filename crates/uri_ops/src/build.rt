@@ -5,17 +5,23 @@ ghost use Rattle.uri_pct.specs.EStrs.{text_of};
 ghost use Rattle.uri_parts.specs.AuthorityTexts.{authority_text};
 ghost use Rattle.uri_parts.specs.Schemes.{scheme_text};
 ghost use Rattle.uri_ops.specs.BuilderParts.{no_parts, parts_text, with_authority, with_fragment};
-ghost use Rattle.uri_ops.specs.BuilderParts.{with_path, with_query, with_scheme};
+ghost use Rattle.uri_ops.specs.BuilderParts.{with_host, with_path, with_port, with_port_but};
+ghost use Rattle.uri_ops.specs.BuilderParts.{with_query, with_scheme, with_userinfo};
 ghost use Rattle.uri_ops.specs.Builders.{IsStep, builder_parts, is_for};
 
+mod appending;
 #[doc(hidden)]
 pub mod draft;
+#[doc(hidden)]
+pub mod host_port;
+mod order;
 pub mod state;
 
 use crate::build::draft::Draft;
+use crate::build::host_port::{AsPort, WithEncoder};
 use crate::build::state::{
-    AdvanceTo, AuthorityEnd, AuthorityStart, End, FragmentEnd, NonRefStart, PathEnd, QueryEnd,
-    SchemeEnd, Start, State, To,
+    AdvanceTo, AuthorityEnd, AuthorityStart, End, FragmentEnd, HostEnd, NonRefStart, PathEnd,
+    PortEnd, QueryEnd, SchemeEnd, Start, State, To, UserinfoEnd,
 };
 use crate::traits::{RiMaybeRef, owned};
 use std::alloc::Global;
@@ -47,7 +53,24 @@ pub enum BuildError {
 ///
 /// The parts are given from the first to the last, each at most once. A URI or an IRI needs a
 /// scheme, and each reference a path, which may be empty; all else may be left out. The types see
-/// to this.
+/// to this. Userinfo, host and port are given within `authority_with`, the host always.
+///
+/// One whole, whose text is `foo://user@example.com:8042/over/there?name=ferret#nose`:
+///
+/// ```
+/// Uri::<String>::builder(alloc)
+///     .scheme(Scheme::new_or_panic("foo"))
+///     .authority_with(|authority| {
+///         authority
+///             .userinfo(EStr::new_or_panic("user"))
+///             .host(EStr::new_or_panic("example.com"))
+///             .port(8042)
+///     })
+///     .path(EStr::new_or_panic("/over/there"))
+///     .query(EStr::new_or_panic("name=ferret"))
+///     .fragment(EStr::new_or_panic("nose"))
+///     .build()
+/// ```
 ///
 /// A step that is refused memory marks the builder failed. Later steps keep the mark, and `build`
 /// answers `OutOfMemory`.
@@ -176,6 +199,8 @@ impl<R: RiMaybeRef, S: State> Builder<R, S> {
     /// Gives the authority (RFC 3986, section 3.2) part by part: the closure is called with this
     /// builder and an empty authority begun, and the answer is the builder that it returns. It may
     /// be called on every builder.
+    ///
+    /// `authority_with(|authority| authority.host(Ipv4Addr::LOCALHOST))` writes `//127.0.0.1`.
     pub fn authority_with<F, T: State>(self, parts: F) -> Builder<R, AuthorityEnd>
     where
         S: To<AuthorityStart>,
@@ -214,6 +239,84 @@ impl<R: RiMaybeRef, S: State> Builder<R, S> {
                     .with_authority(authority.as_str()),
             },
             made: PhantomData,
+        }
+    }
+
+    /// Gives the userinfo (RFC 3986, section 3.2.1), without its `@`.
+    ///
+    /// `authority.userinfo(EStr::new_or_panic("user"))` writes `user@`.
+    pub fn userinfo(self, userinfo: EStr<'_, R::UserinfoE>) -> Builder<R, UserinfoEnd>
+    where
+        S: To<UserinfoEnd>,
+        ensures { IsStep R.kind (with_userinfo (text_of userinfo.entry)) (S.held self.state)
+            (⟦<UserinfoEnd as State>⟧.held result.state) }
+    {
+        Builder {
+            state: UserinfoEnd {
+                draft: self.taken::<UserinfoEnd>().with_userinfo(userinfo.as_str()),
+            },
+            made: PhantomData,
+        }
+    }
+
+    /// Gives the host (RFC 3986, section 3.2.2): an IP address, or a registered name of the kind.
+    ///
+    /// An IPv6 address is written in brackets, by RFC 5952. A name that spells an IPv4 address is
+    /// one. The case of ASCII letters makes no difference; it should be lower.
+    ///
+    /// `authority.host(Ipv6Addr::LOCALHOST)` writes `[::1]`.
+    pub fn host<H>(self, host: H) -> Builder<R, HostEnd>
+    where
+        S: To<HostEnd>,
+        H: WithEncoder<R::RegNameE>,
+        ensures { IsStep R.kind (with_host (H.host_text host)) (S.held self.state)
+            (⟦<HostEnd as State>⟧.held result.state) }
+    {
+        Builder {
+            state: HostEnd {
+                draft: self.taken::<HostEnd>().with_host::<R::RegNameE, H>(host),
+            },
+            made: PhantomData,
+        }
+    }
+
+    /// Gives the port (RFC 3986, section 3.2.3): a number, which is written in decimal, or digits.
+    ///
+    /// It should be neither empty nor the default port of the scheme. Behind a host, `port(8042)`
+    /// writes `:8042`.
+    pub fn port<P: AsPort>(self, port: P) -> Builder<R, PortEnd>
+    where
+        S: To<PortEnd>,
+        ensures { IsStep R.kind (with_port (P.port_digits port)) (S.held self.state)
+            (⟦<PortEnd as State>⟧.held result.state) }
+    {
+        Builder {
+            state: PortEnd {
+                draft: self.taken::<PortEnd>().with_port(port),
+            },
+            made: PhantomData,
+        }
+    }
+
+    /// Gives the port (RFC 3986, section 3.2.3), unless it is the default one, which is left out.
+    ///
+    /// `port_with_default(8080, 80)` writes `:8080`, and `port_with_default(80, 80)` nothing.
+    #[tactic(auto, using(crate::proofs::BuilderPlaces::port_authority))]
+    pub fn port_with_default(self, port: u16, default: u16) -> Builder<R, PortEnd>
+    where
+        S: To<PortEnd>,
+        ensures { IsStep R.kind (with_port_but default port) (S.held self.state)
+            (⟦<PortEnd as State>⟧.held result.state) }
+    {
+        if port == default {
+            Builder {
+                state: PortEnd {
+                    draft: self.taken::<PortEnd>(),
+                },
+                made: PhantomData,
+            }
+        } else {
+            self.port(port)
         }
     }
 

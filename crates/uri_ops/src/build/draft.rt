@@ -1,17 +1,21 @@
 //! The text that a builder writes, with the lengths of its parts (RFC 3986, section 5.3).
-ghost use Rattle.std.specs.Prelude.{◌≡◌, ◌==◌, ◌&&◌, ◌+◌, ◌≤◌, IfSome, [], codes, false, length};
-ghost use Rattle.std.specs.Prelude.{unwrap_or, true, string_bytes};
+ghost use Rattle.std.specs.Prelude.{◌≡◌, ◌==◌, ◌&&◌, ◌+◌, ◌++◌, ◌≤◌, IfSome, [], false};
+ghost use Rattle.std.specs.Prelude.{length, unwrap_or, true, string_bytes};
 ghost use Rattle.uri_pct.specs.Tokens.{is_valid_for};
 ghost use Rattle.uri_parts.specs.Appending.{Pushes};
 ghost use Rattle.uri_parts.specs.Grammar.{has_colon_first, is_authority, is_scheme};
-ghost use Rattle.uri_ops.specs.BuilderParts.{Adds, known_kind, no_parts, with_authority};
-ghost use Rattle.uri_ops.specs.BuilderParts.{with_fragment, with_path, with_query, with_scheme};
+ghost use Rattle.uri_ops.specs.BuilderParts.{Adds, known_kind, no_parts};
+ghost use Rattle.uri_ops.specs.BuilderParts.{with_authority, with_fragment, with_host, with_path};
+ghost use Rattle.uri_ops.specs.BuilderParts.{with_port, with_query, with_scheme, with_userinfo};
 ghost use Rattle.uri_ops.specs.Built.{refusal_of};
 ghost use Rattle.uri_ops.specs.Drafts.{IsDraft, behind_part};
 
 use crate::build::BuildError;
+use crate::build::appending::{append, append_host, append_port, grown};
+use crate::build::host_port::{AsPort, WithEncoder};
 use crate::slashes::{begins_with_slash, begins_with_two_slashes};
 use std::alloc::Global;
+use uri_pct::encoder::Encoder;
 
 /// How long each part is, where it is there, in bytes.
 #[doc(hidden)]
@@ -40,18 +44,11 @@ pub struct Draft {
         → IsDraft (known_kind international needs_scheme) lengths (string_bytes text) },
 }
 
-/// Appends to a text, unless it has failed, and answers whether it has failed now.
-fn append(text: &mut String, failed: bool, piece: &str) -> bool
-    ensures kept { result ≡ false → failed ≡ false }
-    ensures text { result ≡ false → Pushes text.old text.new piece.now }
-{
-    failed || text.push_str(piece).is_err()
-}
-
 impl Draft {
     ghost use Rattle.uri_ops.specs.Builders.{Follows, draft_kind, draft_parts, is_before_authority};
-    ghost use Rattle.uri_ops.specs.Builders.{is_before_fragment, is_before_path, is_before_query};
-    ghost use Rattle.uri_ops.specs.Builders.{is_before_userinfo, is_at_end, is_fresh, same};
+    ghost use Rattle.uri_ops.specs.Builders.{is_at_end, is_before_fragment, is_before_host};
+    ghost use Rattle.uri_ops.specs.Builders.{is_before_path, is_before_port, is_before_query};
+    ghost use Rattle.uri_ops.specs.Builders.{is_before_userinfo, is_fresh, is_in_authority, same};
     ghost use Rattle.uri_ops.specs.Built.{refusal};
 
     /// A draft that holds nothing.
@@ -98,6 +95,33 @@ impl Draft {
         }
     }
 
+    /// With these two pieces behind the text, and parts of these lengths.
+    fn appended(self, first: &str, second: &str, lengths: Lengths) -> Draft
+        requires { self.failed ≡ false → IsDraft (draft_kind self) lengths
+            (string_bytes self.text ++ (first.now ++ second.now)) }
+        ensures text { result.failed ≡ false
+            → Pushes self.text result.text (first.now ++ second.now) }
+        ensures lengths { result.lengths ≡ lengths }
+        ensures follows { Follows self result }
+    {
+        let Draft {
+            mut text,
+            failed,
+            international,
+            needs_scheme,
+            ..
+        } = self;
+        let failed = append(&mut text, failed, first);
+        let failed = append(&mut text, failed, second);
+        Draft {
+            text,
+            lengths,
+            failed,
+            international,
+            needs_scheme,
+        }
+    }
+
     /// With a scheme, and its `:`.
     pub fn with_scheme(self, scheme: &str) -> Draft
         requires before { is_fresh self ≡ true }
@@ -106,25 +130,11 @@ impl Draft {
         ensures follows { Follows self result }
         ensures at { is_before_authority result ≡ true }
     {
-        let Draft {
-            mut text,
-            lengths,
-            failed,
-            international,
-            needs_scheme,
-        } = self;
-        let failed = append(&mut text, failed, scheme);
-        let failed = append(&mut text, failed, ":");
-        Draft {
-            text,
-            lengths: Lengths {
-                scheme: Some(scheme.len()),
-                ..lengths
-            },
-            failed,
-            international,
-            needs_scheme,
-        }
+        let lengths = Lengths {
+            scheme: Some(scheme.len()),
+            ..self.lengths
+        };
+        self.appended(scheme, ":", lengths)
     }
 
     /// With an authority behind its `//`.
@@ -136,6 +146,22 @@ impl Draft {
         ensures at { is_before_path result ≡ true }
         ensures start { authority.now ≡ [] → is_before_userinfo result ≡ true }
     {
+        let lengths = Lengths {
+            authority: Some(authority.len()),
+            ..self.lengths
+        };
+        self.appended("//", authority, lengths)
+    }
+
+    /// With userinfo and its `@`, where an authority is begun.
+    pub fn with_userinfo(self, userinfo: &str) -> Draft
+        requires before { is_before_userinfo self ≡ true }
+        requires rule { self.failed ≡ false
+            → is_valid_for (draft_kind self).userinfo userinfo.now ≡ true }
+        ensures adds { Adds (with_userinfo userinfo.now) (draft_parts self) (draft_parts result) }
+        ensures follows { Follows self result }
+        ensures at { is_before_host result ≡ true }
+    {
         let Draft {
             mut text,
             lengths,
@@ -143,14 +169,68 @@ impl Draft {
             international,
             needs_scheme,
         } = self;
-        let failed = append(&mut text, failed, "//");
-        let failed = append(&mut text, failed, authority);
+        let old = text.len();
+        let failed = append(&mut text, failed, userinfo);
+        let failed = append(&mut text, failed, "@");
+        let lengths = grown(lengths, failed, old, text.len());
         Draft {
             text,
-            lengths: Lengths {
-                authority: Some(authority.len()),
-                ..lengths
-            },
+            lengths,
+            failed,
+            international,
+            needs_scheme,
+        }
+    }
+
+    /// With a host.
+    pub fn with_host<E: Encoder, H: WithEncoder<E>>(self, host: H) -> Draft
+        requires before { is_before_host self ≡ true }
+        requires rule { self.failed ≡ false → E.set ≡ (draft_kind self).reg_name }
+        ensures adds { Adds (with_host (H.host_text host)) (draft_parts self) (draft_parts result) }
+        ensures follows { Follows self result }
+        ensures at { is_before_port result ≡ true }
+    {
+        let Draft {
+            mut text,
+            lengths,
+            failed,
+            international,
+            needs_scheme,
+        } = self;
+        let old = text.len();
+        let failed = append_host::<E, H>(&mut text, failed, &host);
+        let lengths = grown(lengths, failed, old, text.len());
+        Draft {
+            text,
+            lengths,
+            failed,
+            international,
+            needs_scheme,
+        }
+    }
+
+    /// With a port behind its `:`.
+    pub fn with_port<P: AsPort>(self, port: P) -> Draft
+        requires before { is_before_port self ≡ true }
+        ensures adds { Adds (with_port (P.port_digits port))
+            (draft_parts self) (draft_parts result) }
+        ensures follows { Follows self result }
+        ensures at { is_in_authority result ≡ true }
+    {
+        let Draft {
+            mut text,
+            lengths,
+            failed,
+            international,
+            needs_scheme,
+        } = self;
+        let old = text.len();
+        let begun = append(&mut text, failed, ":");
+        let failed = append_port(&mut text, begun, &port);
+        let lengths = grown(lengths, failed, old, text.len());
+        Draft {
+            text,
+            lengths,
             failed,
             international,
             needs_scheme,
@@ -165,24 +245,11 @@ impl Draft {
         ensures follows { Follows self result }
         ensures at { is_before_query result ≡ true }
     {
-        let Draft {
-            mut text,
-            lengths,
-            failed,
-            international,
-            needs_scheme,
-        } = self;
-        let failed = append(&mut text, failed, path);
-        Draft {
-            text,
-            lengths: Lengths {
-                path: Some(path.len()),
-                ..lengths
-            },
-            failed,
-            international,
-            needs_scheme,
-        }
+        let lengths = Lengths {
+            path: Some(path.len()),
+            ..self.lengths
+        };
+        self.appended("", path, lengths)
     }
 
     /// With a query behind its `?`.
@@ -194,25 +261,11 @@ impl Draft {
         ensures follows { Follows self result }
         ensures at { is_before_fragment result ≡ true }
     {
-        let Draft {
-            mut text,
-            lengths,
-            failed,
-            international,
-            needs_scheme,
-        } = self;
-        let failed = append(&mut text, failed, "?");
-        let failed = append(&mut text, failed, query);
-        Draft {
-            text,
-            lengths: Lengths {
-                query: Some(query.len()),
-                ..lengths
-            },
-            failed,
-            international,
-            needs_scheme,
-        }
+        let lengths = Lengths {
+            query: Some(query.len()),
+            ..self.lengths
+        };
+        self.appended("?", query, lengths)
     }
 
     /// With a fragment behind its `#`.
@@ -224,25 +277,11 @@ impl Draft {
         ensures follows { Follows self result }
         ensures at { is_at_end result ≡ true }
     {
-        let Draft {
-            mut text,
-            lengths,
-            failed,
-            international,
-            needs_scheme,
-        } = self;
-        let failed = append(&mut text, failed, "#");
-        let failed = append(&mut text, failed, fragment);
-        Draft {
-            text,
-            lengths: Lengths {
-                fragment: Some(fragment.len()),
-                ..lengths
-            },
-            failed,
-            international,
-            needs_scheme,
-        }
+        let lengths = Lengths {
+            fragment: Some(fragment.len()),
+            ..self.lengths
+        };
+        self.appended("#", fragment, lengths)
     }
 
     /// Why the parts are refused, if they are.

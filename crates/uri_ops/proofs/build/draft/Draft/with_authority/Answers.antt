@@ -1,33 +1,26 @@
-use Rattle.std.proofs.Common.{◌≡◌, false, length, codes, string_bytes}
-use Rattle.std.specs.Prelude.{Some}
+use Rattle.std.proofs.Common.{◌==◌, ◌&&◌, ◌||◌, ◌++◌, not, false, length, codes}
+use Rattle.std.specs.Prelude.{Some, is_some, is_none}
+use Rattle.std.specs.Option.{option_map_or}
 use Rattle.uri_ops.specs.BuilderParts.{with_authority}
-use Rattle.uri_ops.specs.Builders.{draft_kind, is_before_path, is_before_userinfo}
-use Rattle.uri_ops.proofs.BuilderAuthorities.{authority_from}
-use Rattle.uri_ops.proofs.BuilderDrafts.{adds_from, at_authority, authority_draft, behind_authority, two_pieces}
+use Rattle.uri_ops.specs.Builders.{is_before_path, is_before_userinfo}
+use Rattle.uri_ops.proofs.BuilderDrafts.{adds_of, at_authority, behind_authority, authority_draft, stands}
 use Rattle.uri_ops.proofs.build.draft.Draft.with_authority.Goals as goal
 
-pub invariant_of-result : goal.invariant_of-result
-invariant_of-result c =
-    let kept = λ (e : c.append-failed-2.result ≡ false). c.append-failed.ensures.kept (c.append-failed-2.ensures.kept e) in
-    let old = string_bytes c.args.self.text in
-    let new = string_bytes c.append-failed-2.new.text in
-    let written = two_pieces old (codes "//") c.args.authority.now (string_bytes c.append-failed.new.text) new c.append-failed.result c.append-failed-2.result c.append-failed-2.ensures.kept c.append-failed.ensures.text c.append-failed-2.ensures.text in
-    let step = authority_draft c.args.self c.args.authority.now new c.utf8.authority c.append-failed-2.result kept c.requires.before (λ f. authority_from (draft_kind c.args.self) c.args.authority.now c.utf8.authority (c.requires.rule f)) written in
-    record { ok = λ e. (step e).draft }
+pub appended-requires : goal.appended-requires
+appended-requires c = λ e. (authority_draft c.args.self c.args.authority.now c.utf8.authority c.requires.before c.requires.rule e).draft
 
 pub returns-clause-adds : goal.returns-clause-adds
 returns-clause-adds c =
-    let kept = λ (e : c.append-failed-2.result ≡ false). c.append-failed.ensures.kept (c.append-failed-2.ensures.kept e) in
-    let old = string_bytes c.args.self.text in
-    let new = string_bytes c.append-failed-2.new.text in
-    let written = two_pieces old (codes "//") c.args.authority.now (string_bytes c.append-failed.new.text) new c.append-failed.result c.append-failed-2.result c.append-failed-2.ensures.kept c.append-failed.ensures.text c.append-failed-2.ensures.text in
-    let step = authority_draft c.args.self c.args.authority.now new c.utf8.authority c.append-failed-2.result kept c.requires.before (λ f. authority_from (draft_kind c.args.self) c.args.authority.now c.utf8.authority (c.requires.rule f)) written in
-    adds_from (with_authority c.args.authority.now) c.args.self.lengths (record c.args.self.lengths { authority = Some (length c.args.authority.now) }) old new c.args.self.failed c.append-failed-2.result kept (λ e. (step e).parts)
+    adds_of (with_authority c.args.authority.now) c.args.self c.appended.result (record c.args.self.lengths { authority = Some (length c.args.authority.now) }) (codes "//" ++ c.args.authority.now) c.appended.ensures.follows c.appended.ensures.lengths c.appended.ensures.text (λ e. (authority_draft c.args.self c.args.authority.now c.utf8.authority c.requires.before c.requires.rule e).parts)
 
 pub returns-clause-at : goal.returns-clause-at
 unfolding is_before_path
-returns-clause-at c = behind_authority c.args.self c.append-failed-2.result (λ e. c.append-failed.ensures.kept (c.append-failed-2.ensures.kept e)) c.requires.before
+returns-clause-at c =
+    stands (λ l n. (is_some l.scheme || not n) && (is_none l.path && (is_none l.query && is_none l.fragment))) c.args.self c.appended.result (record c.args.self.lengths { authority = Some (length c.args.authority.now) }) c.appended.ensures.follows c.appended.ensures.lengths
+    (behind_authority c.args.self c.appended.result.failed c.appended.ensures.follows.failed c.requires.before)
 
 pub returns-clause-start : goal.returns-clause-start
 unfolding is_before_userinfo
-returns-clause-start c = λ empty. at_authority c.args.self c.append-failed-2.result (λ e. c.append-failed.ensures.kept (c.append-failed-2.ensures.kept e)) c.args.authority.now empty c.requires.before
+returns-clause-start c = λ empty.
+    stands (λ l n. (is_some l.scheme || not n) && (option_map_or (λ k. k == 0) l.authority false && (is_none l.path && (is_none l.query && is_none l.fragment)))) c.args.self c.appended.result (record c.args.self.lengths { authority = Some (length c.args.authority.now) }) c.appended.ensures.follows c.appended.ensures.lengths
+    (at_authority c.args.self c.appended.result.failed c.appended.ensures.follows.failed c.args.authority.now empty c.requires.before)

@@ -1,0 +1,19 @@
+-- What a builder writes as the host of an authority: RFC 3986, section 3.2.2.
+use Rattle.std.specs.Prelude.{ℕ, List}
+use Rattle.std.specs.Str.{IsUtf8}
+use Rattle.uri_pct.specs.Sets.{TableSet}
+use Rattle.std.specs.Net.Text.{ipv4_text, ipv6_text}
+use Rattle.uri_parts.specs.Addresses.{ipv4_octets, ipv6_segments}
+use Rattle.uri_parts.specs.Hosts.{HostKind, IsHost, bracketed}
+use Rattle.uri_parts.specs.declared.net.IpAddr.{IpAddr}
+use Rattle.uri_parts.specs.declared.net.IpAddr.TheVariants.{V4, V6}
+
+-- UTF-8 that is a host of one kind, a name by these characters
+pub record IsHostText (names : TableSet) (text : List ℕ) : Type 0 where
+  pub utf8 : IsUtf8 text
+  pub host : (kind : HostKind) × IsHost names text kind
+
+-- the host that an address of either version is
+abbrev pub ip_host : IpAddr → List ℕ
+ip_host (V4 a) = ipv4_text (ipv4_octets a)
+ip_host (V6 a) = bracketed (ipv6_text (ipv6_segments a))

@@ -1,0 +1,146 @@
+//! Hosts and ports as a builder takes them (RFC 3986, sections 3.2.2 and 3.2.3).
+ghost use Rattle.std.specs.Prelude.{◌≡◌, OnOk, codes, true};
+ghost use Rattle.uri_parts.specs.Appending.{Pushes};
+
+use std::alloc::AllocError;
+use std::fmt::Write;
+use uri_parts::laws;
+use uri_parts::net::{IpAddr, Ipv4Addr, Ipv6Addr};
+use uri_pct::encoder::{Encoder, IRegName, Port, RegName};
+use uri_pct::pct_enc::EStr;
+
+/// What `Builder::host` takes: an IP address, or a registered name (RFC 3986, section 3.2.2).
+///
+/// It is implemented for `Ipv4Addr`, `Ipv6Addr`, `IpAddr`, `EStr<RegName>` and `EStr<IRegName>`.
+pub trait AsHost: Drop {
+    ghost use Rattle.std.specs.Prelude.{ℕ, List};
+
+    ghost host_text: { Self → List ℕ };
+}
+
+/// A host of the references whose registered names are `E`'s: an IP address of all, and a name of
+/// its own.
+pub trait WithEncoder<E: Encoder>: AsHost {
+    ghost use Rattle.uri_ops.specs.HostParts.{IsHostText};
+
+    /// Appends the host, as it stands in an authority.
+    #[doc(hidden)]
+    fn push_host(&self, out: &mut String) -> Result<(), AllocError>
+        ensures text { OnOk result (Pushes out.old out.new (Self.host_text self.now)) }
+        ensures host { IsHostText E.set (Self.host_text self.now) };
+}
+
+/// Written as four decimal numbers.
+impl AsHost for Ipv4Addr {
+    ghost use Rattle.std.specs.Net.Text.{ipv4_text};
+    ghost use Rattle.uri_parts.specs.Addresses.{ipv4_octets};
+
+    ghost host_text = { λ address. ipv4_text (ipv4_octets address) };
+}
+
+impl<E: Encoder> WithEncoder<E> for Ipv4Addr {
+    fn push_host(&self, out: &mut String) -> Result<(), AllocError> {
+        laws::ipv4_text_is_read_back(self);
+        write!(out, "{self}")
+    }
+}
+
+/// Written in brackets, by RFC 5952.
+impl AsHost for Ipv6Addr {
+    ghost use Rattle.std.specs.Net.Text.{ipv6_text};
+    ghost use Rattle.uri_parts.specs.Addresses.{ipv6_segments};
+    ghost use Rattle.uri_parts.specs.Hosts.{bracketed};
+
+    ghost host_text = { λ address. bracketed (ipv6_text (ipv6_segments address)) };
+}
+
+impl<E: Encoder> WithEncoder<E> for Ipv6Addr {
+    fn push_host(&self, out: &mut String) -> Result<(), AllocError> {
+        laws::ipv6_text_is_read_back(self);
+        write!(out, "[{self}]")
+    }
+}
+
+/// Written as the address in it.
+impl AsHost for IpAddr {
+    ghost use Rattle.uri_ops.specs.HostParts.{ip_host};
+
+    ghost host_text = { ip_host };
+}
+
+impl<E: Encoder> WithEncoder<E> for IpAddr {
+    fn push_host(&self, out: &mut String) -> Result<(), AllocError> {
+        match self {
+            IpAddr::V4(address) => <Ipv4Addr as WithEncoder<E>>::push_host(address, out),
+            IpAddr::V6(address) => <Ipv6Addr as WithEncoder<E>>::push_host(address, out),
+        }
+    }
+}
+
+/// Written as it stands.
+impl AsHost for EStr<'_, RegName> {
+    ghost use Rattle.uri_pct.specs.EStrs.{text_of};
+
+    ghost host_text = { λ name. text_of name };
+}
+
+impl WithEncoder<RegName> for EStr<'_, RegName> {
+    fn push_host(&self, out: &mut String) -> Result<(), AllocError> {
+        out.push_str(self.as_str())
+    }
+}
+
+/// Written as it stands.
+impl AsHost for EStr<'_, IRegName> {
+    ghost use Rattle.uri_pct.specs.EStrs.{text_of};
+
+    ghost host_text = { λ name. text_of name };
+}
+
+impl WithEncoder<IRegName> for EStr<'_, IRegName> {
+    fn push_host(&self, out: &mut String) -> Result<(), AllocError> {
+        out.push_str(self.as_str())
+    }
+}
+
+/// What `Builder::port` takes: a number, or digits (RFC 3986, section 3.2.3).
+///
+/// It is implemented for `u16` and for `EStr<Port>`, which may be empty.
+pub trait AsPort: Drop {
+    ghost use Rattle.std.specs.Prelude.{ℕ, List};
+    ghost use Rattle.uri_pct.specs.Sets.{digit_set};
+    ghost use Rattle.uri_ops.specs.BuilderParts.{is_text_for};
+
+    ghost port_digits: { Self → List ℕ };
+
+    /// Appends the digits.
+    #[doc(hidden)]
+    fn push_digits(&self, out: &mut String) -> Result<(), AllocError>
+        ensures text { OnOk result (Pushes out.old out.new (port_digits self.now)) }
+        ensures digits { is_text_for digit_set (port_digits self.now) ≡ true };
+}
+
+/// Written in decimal.
+#[tactic(auto, using(crate::proofs::BuilderHosts::decimal_port))]
+impl AsPort for u16 {
+    ghost use Rattle.std.specs.Fmt.{decimal};
+
+    ghost port_digits = { decimal };
+
+    fn push_digits(&self, out: &mut String) -> Result<(), AllocError> {
+        let port = *self;
+        write!(out, "{port}")
+    }
+}
+
+/// Written as they stand.
+#[tactic(auto, using(crate::proofs::BuilderDrafts::text_from))]
+impl AsPort for EStr<'_, Port> {
+    ghost use Rattle.uri_pct.specs.EStrs.{text_of};
+
+    ghost port_digits = { λ digits. text_of digits };
+
+    fn push_digits(&self, out: &mut String) -> Result<(), AllocError> {
+        out.push_str(self.as_str())
+    }
+}
