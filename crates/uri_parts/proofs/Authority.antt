@@ -65,7 +65,7 @@ port_read None = refl
 port_read (Some digits) = ap Some (append-nil digits)
 
 -- a host in brackets, or with no mark in it
-abbrev HasShape : List ℕ → Type 0
+abbrev pub HasShape : List ℕ → Type 0
 HasShape host = ((address : List ℕ) × (host ≡ bracketed address) × Lacks (codes "]") address) ⊎ Lacks (codes "@:[") host
 
 begins_other : (text : List ℕ) → Begins (codes ":") text → starts 91 text ≡ false
@@ -77,7 +77,7 @@ bare_start [] tail lacks begins = begins_other tail begins
 bare_start (c ∷ host) tail lacks begins = lacks_starts (codes "[") (c ∷ host) 91 refl lacks
 
 -- the host is cut where it ends
-host_cut : (host tail : List ℕ) → HasShape host → Begins (codes ":") tail → (host_before (host ++ tail) ≡ host) × (behind_host (host ++ tail) ≡ tail)
+pub host_cut : (host tail : List ℕ) → HasShape host → Begins (codes ":") tail → (host_before (host ++ tail) ≡ host) × (behind_host (host ++ tail) ≡ tail)
 host_cut host tail (inl (address, e, lacks)) begins =
     let text : List ℕ = bracketed address ++ tail in
     let same : text ≡ (91 ∷ address) ++ (93 ∷ tail) = append_assoc (91 ∷ address) (codes "]") tail in
@@ -93,7 +93,7 @@ host_cut host tail (inr lacks) begins =
 pub literal_outside : (excludes ipv_future_set (codes "]") ≡ true) × (excludes ipv_future_set (codes "@") ≡ true)
 literal_outside = (refl, refl)
 
-lacks_at_bracketed : (address : List ℕ) → Lacks (codes "@") address → Lacks (codes "@") (bracketed address)
+pub lacks_at_bracketed : (address : List ℕ) → Lacks (codes "@") address → Lacks (codes "@") (bracketed address)
 lacks_at_bracketed address h =
     lacks_first (codes "@") 91 (address ++ codes "]") refl (lacks_append (codes "@") address (codes "]") h (lacks_first (codes "@") 93 [] refl (lacks_nil (codes "@"))))
 

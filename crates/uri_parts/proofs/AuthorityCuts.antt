@@ -9,6 +9,10 @@ use Rattle.std.proofs.lemmas.List.{drop-drop}
 pub length-before : (marks text : List ℕ) → length (before_any marks text) ≡ to_mark marks text
 length-before marks text = length-prefix_len (λ c. not (is_one_of marks c)) text
 
--- behind a host, a mark and a port
-pub behind_port : (n k : ℕ) (bs : List ℕ) → drop k (drop 1 (drop n bs)) ≡ drop (n + 1 + k) bs
-behind_port n k bs = ap (drop k) (drop-drop 1 n bs) ∙ drop-drop k (n + 1) bs
+-- what is passed in two steps
+pub behind : (n k : ℕ) (bs : List ℕ) → drop k (drop n bs) ≡ drop (n + k) bs
+behind n k bs = drop-drop k n bs
+
+-- behind a mark, and what is passed there
+pub behind_mark : (k : ℕ) (bs : List ℕ) → drop k (drop 1 bs) ≡ drop (1 + k) bs
+behind_mark k bs = drop-drop k 1 bs

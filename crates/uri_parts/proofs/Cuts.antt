@@ -23,16 +23,16 @@ at_mark marks c rest h = cond-false _ _ _ (not_from_true _ h)
 past_other : (marks : List ℕ) (c : ℕ) (rest : List ℕ) → is_one_of marks c ≡ false → length_before marks (c ∷ rest) ≡ suc (length_before marks rest)
 past_other marks c rest h = cond-true _ _ _ (not_from_false _ h) ∙ omega arith
 
-before_at_mark : (marks : List ℕ) (c : ℕ) (rest : List ℕ) → is_one_of marks c ≡ true → before_any marks (c ∷ rest) ≡ []
+pub before_at_mark : (marks : List ℕ) (c : ℕ) (rest : List ℕ) → is_one_of marks c ≡ true → before_any marks (c ∷ rest) ≡ []
 before_at_mark marks c rest h = ap (λ n. take n (c ∷ rest)) (at_mark marks c rest h)
 
-from_at_mark : (marks : List ℕ) (c : ℕ) (rest : List ℕ) → is_one_of marks c ≡ true → from_any marks (c ∷ rest) ≡ c ∷ rest
+pub from_at_mark : (marks : List ℕ) (c : ℕ) (rest : List ℕ) → is_one_of marks c ≡ true → from_any marks (c ∷ rest) ≡ c ∷ rest
 from_at_mark marks c rest h = ap (λ n. drop n (c ∷ rest)) (at_mark marks c rest h)
 
-before_past_other : (marks : List ℕ) (c : ℕ) (rest : List ℕ) → is_one_of marks c ≡ false → before_any marks (c ∷ rest) ≡ c ∷ before_any marks rest
+pub before_past_other : (marks : List ℕ) (c : ℕ) (rest : List ℕ) → is_one_of marks c ≡ false → before_any marks (c ∷ rest) ≡ c ∷ before_any marks rest
 before_past_other marks c rest h = ap (λ n. take n (c ∷ rest)) (past_other marks c rest h)
 
-from_past_other : (marks : List ℕ) (c : ℕ) (rest : List ℕ) → is_one_of marks c ≡ false → from_any marks (c ∷ rest) ≡ from_any marks rest
+pub from_past_other : (marks : List ℕ) (c : ℕ) (rest : List ℕ) → is_one_of marks c ≡ false → from_any marks (c ∷ rest) ≡ from_any marks rest
 from_past_other marks c rest h = ap (λ n. drop n (c ∷ rest)) (past_other marks c rest h)
 
 Lacks-parts : (marks : List ℕ) (c : ℕ) (text : List ℕ) → Lacks marks (c ∷ text) → (is_one_of marks c ≡ false) × Lacks marks text

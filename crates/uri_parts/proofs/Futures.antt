@@ -64,7 +64,7 @@ hex_userinfo c e = grind (arith, nat_tests)
 letter_userinfo : (c : ℕ) → is_one_of (codes "vV") c ≡ true → is_userinfo_char c ≡ true
 letter_userinfo c e = grind (arith, nat_tests)
 
-digit_reg_name : (c : ℕ) → IsDigitOrDot c → is_reg_name_char c ≡ true
+pub digit_reg_name : (c : ℕ) → IsDigitOrDot c → is_reg_name_char c ≡ true
 digit_reg_name c (inl range) = grind (arith, nat_tests)
 digit_reg_name c (inr dot) = grind (arith, nat_tests)
 
@@ -91,11 +91,14 @@ plain set marks outside c e = ⊎_elim
     (λ m. m)
     (cases_Bool (is_one_of marks c))
 
-pub ipv4_lacks : (marks : List ℕ) → excludes reg_name_set marks ≡ true → (text octets : List ℕ) → IsDotted text octets → Lacks marks text
-ipv4_lacks marks outside text octets h =
+-- an IPv4 address is digits and dots
+pub ipv4_digits : (text octets : List ℕ) → IsDotted text octets → All IsDigitOrDot text
+ipv4_digits text octets h =
     let fits = four_fit h.a h.b h.c h.d h.fit.0 h.fit.1 h.fit.2 h.fit.3 in
-    let chars = All-ipv4_text (h.a ∷ h.b ∷ h.c ∷ h.d ∷ []) fits in
-    subst (Lacks marks) (sym h.spelled) (lacks_from marks IsDigitOrDot (λ c d. plain reg_name_set marks outside c (digit_reg_name c d)) _ chars)
+    subst (All IsDigitOrDot) (sym h.spelled) (All-ipv4_text (h.a ∷ h.b ∷ h.c ∷ h.d ∷ []) fits)
+
+pub ipv4_lacks : (marks : List ℕ) → excludes reg_name_set marks ≡ true → (text octets : List ℕ) → IsDotted text octets → Lacks marks text
+ipv4_lacks marks outside text octets h = lacks_from marks IsDigitOrDot (λ c d. plain reg_name_set marks outside c (digit_reg_name c d)) text (ipv4_digits text octets h)
 
 future_percent : LacksPercent ipv_future_set
 future_percent = refl

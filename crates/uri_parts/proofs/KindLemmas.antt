@@ -1,10 +1,11 @@
 -- The kinds keep apart what has to be apart, and their tables stand for their sets.
 use Rattle.std.proofs.Common.{◌≡◌, ℕ, Bool, true, false, refl, sym, ap, ◌∙◌, arith, ◌||◌, ◌&&◌, not, ⊎_elim, List, []}
 use Rattle.std.specs.Prelude.{codes, is_some}
+use Rattle.std.specs.Char.{is_ascii_digit}
 use Rattle.std.specs.Str.{chars}
 use Rattle.std.proofs.lemmas.Bool.{cases_lt, cond-true, cond-false, lt-ltb, le-ltb, and_parts, and_from}
 use Rattle.std.proofs.lemmas.Bool.Decides.{nat_tests}
-use Rattle.uri_pct.specs.Sets.{TableSet, is_one_of, is_scheme_char, is_segment_nz_nc_char, is_path_char, segment_nz_nc_set, isegment_nz_nc_set, path_set, userinfo_set, reg_name_set, query_set, fragment_set, allows_past_ascii}
+use Rattle.uri_pct.specs.Sets.{TableSet, is_one_of, is_scheme_char, is_segment_nz_nc_char, is_path_char, is_reg_name_char, is_userinfo_char, segment_nz_nc_set, isegment_nz_nc_set, path_set, userinfo_set, reg_name_set, query_set, fragment_set, allows_past_ascii}
 use Rattle.uri_pct.specs.Tokens.{is_valid_for, tokens_of}
 use Rattle.uri_pct.specs.Fronts.{allows_first}
 use Rattle.uri_parts.specs.Grammar.{Kind, uri, uri_ref, iri, iri_ref, IsOfKind}
@@ -19,6 +20,12 @@ segment_in_path c e = grind (arith, nat_tests)
 
 path_in_segment : (c : ℕ) → is_one_of (codes ":/") c ≡ false → is_segment_nz_nc_char c ≡ false → is_path_char c ≡ false
 path_in_segment c m e = grind (arith, nat_tests)
+
+name_in_userinfo : (c : ℕ) → is_reg_name_char c ≡ true → is_userinfo_char c ≡ true
+name_in_userinfo c e = grind (arith, nat_tests)
+
+digit_in_userinfo : (c : ℕ) → is_ascii_digit c ≡ true → is_userinfo_char c ≡ true
+digit_in_userinfo c e = grind (arith, nat_tests)
 
 -- the sets of the four kinds differ in flags alone
 abbrev international : Bool → TableSet → TableSet
@@ -59,6 +66,11 @@ separates ucschar iprivate needs_scheme = record {
   path_marks = refl;
   query_marks = refl;
   segment_marks = refl;
+  userinfo_starts = refl;
+  name_within = record { ascii = name_in_userinfo; pct_encoded = λ e. e; ucschar = λ e. e; iprivate = λ e. e };
+  digits_within = record { ascii = digit_in_userinfo; pct_encoded = λ e. refl; ucschar = λ e. absurd (cc e); iprivate = λ e. e };
+  colon_within = refl;
+  address_within = record { ascii = λ c e. e; pct_encoded = λ e. e; ucschar = λ e. absurd (cc e); iprivate = λ e. e };
   scheme_within = record { ascii = scheme_in_segment; pct_encoded = λ e. refl; ucschar = λ e. absurd (cc e); iprivate = λ e. e };
   within = record { ascii = segment_in_path; pct_encoded = λ e. e; ucschar = λ e. e; iprivate = λ e. e };
   octets = refl;

@@ -15,7 +15,7 @@ pub mod Separations
 pub mod Stops
 pub mod Accepts
 pub mod Relative
-pub mod PlainNames
+pub mod HostReading
 pub mod FoundAuthorities
 pub mod Hierarchies
 pub mod Texts

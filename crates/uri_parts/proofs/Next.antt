@@ -8,7 +8,8 @@ use Rattle.uri_pct.specs.Sets.{TableSet, is_one_of}
 use Rattle.uri_pct.specs.Fronts.{front, after, IsStrayPercent}
 use Rattle.uri_pct.proofs.Fronts.{front-after, stray-digits}
 use Rattle.uri_parts.specs.Components.{starts}
-use Rattle.uri_parts.specs.Reading.{is_end, begins_any}
+use Rattle.uri_parts.specs.AuthorityReading.{begins_any}
+use Rattle.uri_parts.specs.Reading.{is_end}
 
 pub starts_at : (mark i : ℕ) (text : List ℕ) → starts mark (drop i text) ≡ (ltb i (length text) && eqb (get_or text i 0) mark)
 starts_at mark i text = ⊎_elim

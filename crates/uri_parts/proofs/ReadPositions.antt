@@ -13,7 +13,8 @@ use Rattle.uri_parts.specs.declared.positions.AuthorityPositions.{AuthorityPosit
 use Rattle.uri_parts.specs.Components.{before_any, from_any, starts, has_authority, has_scheme, after_authority, components, when}
 use Rattle.uri_parts.specs.Positions.{positions_of, marked_length, authority_at}
 use Rattle.uri_parts.specs.Grammar.{Kind}
-use Rattle.uri_parts.specs.Reading.{is_stray, reads_fragment, reads_end, reads_path, finds_authority, found_length, reads_authority, reads_relative, reads_hier, reads_schemeless, reads, query_end_at, path_positions, authority_positions, hier_positions, relative_positions, schemeless_positions, read_positions}
+use Rattle.uri_parts.specs.AuthorityReading.{finds_authority, found_length}
+use Rattle.uri_parts.specs.Reading.{is_stray, reads_fragment, reads_end, reads_path, reads_authority, reads_relative, reads_hier, reads_schemeless, reads, query_end_at, path_positions, authority_positions, hier_positions, relative_positions, schemeless_positions, read_positions}
 use Rattle.uri_parts.proofs.Stops.{stop_cases, utf8_from, utf8_past, utf8_slashes}
 use Rattle.uri_parts.proofs.AuthorityCuts.{length-before}
 use Rattle.uri_parts.proofs.Separations.{Separates}
@@ -91,9 +92,10 @@ module _ (segment : TableSet) (kind : Kind) (w : Separates segment kind) where
       authority_positions kind scheme_end place rest ≡ tail_positions scheme_end (Some (authority_at place (before_any (codes "/?#") rest))) (place + length (before_any (codes "/?#") rest)) (from_any (codes "/?#") rest)
   unfolding reads_authority authority_positions
   authority_case scheme_end place rest u h =
-      let f = is_found segment kind w rest u in
-      let p = (and_parts (finds_authority kind rest) _ h).1 in
-      let r = behind_found segment kind w rest u in
+      let both = and_parts (finds_authority kind rest) _ h in
+      let f = is_found segment kind w rest u both.0 in
+      let p = both.1 in
+      let r = behind_found segment kind w rest u both.0 in
       let at = λ (a : AuthorityPositions) (k : ℕ) (t : List ℕ). path_positions kind scheme_end (Some a) (place + k) (place + k) t in
       let host : List ℕ = before_any (codes "/?#") rest in
       ap (λ a. at a (found_length kind rest) (drop (found_length kind rest) rest)) (f.found place)

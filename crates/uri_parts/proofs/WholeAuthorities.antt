@@ -1,4 +1,4 @@
--- What is read of a whole authority is the test of the grammar.
+-- An authority that is cut out, taken apart from left to right: that is the test of the grammar.
 use Rattle.std.proofs.Common.{◌≡◌, ℕ, Bool, true, false, cond, eqb, List, [], ◌∷◌, ◌++◌, length, take, drop, refl, sym, ap, ◌∙◌, arith, ◌||◌, ◌&&◌, ⊎_elim, append_assoc, append-nil, length-append}
 use Rattle.std.specs.Prelude.{codes, Option, Some, is_some, bytes_eq}
 use Rattle.std.specs.Option.{option_map_or}
@@ -8,12 +8,31 @@ use Rattle.std.proofs.lemmas.Slice.Eq.{bytes_eq-Decides}
 use Rattle.uri_pct.specs.Sets.{TableSet, digit_set, is_one_of}
 use Rattle.uri_pct.specs.Tokens.{is_valid_for}
 use Rattle.uri_parts.specs.Components.{marked, starts, before_any, from_any, when, Lacks}
-use Rattle.uri_parts.specs.Hosts.{is_host, bracketed, ipv6_value, is_ipv_future}
+use Rattle.uri_parts.specs.Hosts.{is_host, bracketed, ipv4_value, ipv6_value, is_ipv_future}
 use Rattle.uri_parts.specs.Authority.{host_before, behind_host, is_authority_for}
-use Rattle.uri_parts.specs.AuthorityReading.{is_literal, is_name, ends_in_port, reads_host_and_port, reads_whole_authority}
+use Rattle.uri_parts.specs.AuthorityReading.{is_literal}
 use Rattle.uri_pct.proofs.Cuts.{other_len}
 use Rattle.uri_parts.proofs.Cuts.{Begins, IsCut-any}
 use Rattle.uri_parts.proofs.Hosts.{literal_at}
+
+-- a host that stands in no brackets
+unfoldable pub is_name : TableSet → List ℕ → Bool
+is_name names text = is_some (ipv4_value text) || is_valid_for names text
+
+-- nothing is left, or a port
+unfoldable pub ends_in_port : List ℕ → Bool
+ends_in_port [] = true
+ends_in_port (b ∷ rest) = starts 58 (b ∷ rest) && is_valid_for digit_set rest
+
+unfoldable pub reads_host_and_port : TableSet → List ℕ → Bool
+reads_host_and_port names rest = cond (starts 91 rest)
+    (starts 93 (from_any (codes "]") (drop 1 rest)) && (is_literal (before_any (codes "]") (drop 1 rest)) && ends_in_port (drop 1 (from_any (codes "]") (drop 1 rest)))))
+    (is_name names (before_any (codes ":") rest) && ends_in_port (from_any (codes ":") rest))
+
+unfoldable pub reads_whole_authority : TableSet → TableSet → List ℕ → Bool
+reads_whole_authority users names text = cond (starts 64 (from_any (codes "@") text))
+    (is_valid_for users (before_any (codes "@") text) && reads_host_and_port names (drop 1 (from_any (codes "@") text)))
+    (reads_host_and_port names text)
 
 same : (xs ys : List ℕ) → xs ≡ ys → bytes_eq xs ys ≡ true
 same xs ys e = (bytes_eq-Decides xs ys).1 e

@@ -1,12 +1,11 @@
 -- What the parser reads, as functions of the text that is left.
-use Rattle.std.specs.Prelude.{ℕ, length, codes, ◌+◌, Bool, true, false, not, ◌&&◌, ◌||◌, ◌==◌, List}
+use Rattle.std.specs.Prelude.{ℕ, ◌+◌, Bool, true, false, not, ◌&&◌, ◌==◌, List}
 use Rattle.std.specs.Prelude.{[], ◌∷◌, drop, slice_index, Option, Some, None, if◌then◌else◌}
 use Rattle.std.specs.Char.{is_ascii_alphabetic}
-use Rattle.uri_pct.specs.Sets.{TableSet, scheme_set, digit_set, is_one_of}
+use Rattle.uri_pct.specs.Sets.{TableSet, scheme_set}
 use Rattle.uri_pct.specs.Fronts.{front, after}
-use Rattle.uri_parts.specs.AuthorityReading.{reads_whole_authority}
-use Rattle.uri_parts.specs.Components.{starts, has_authority, before_any}
-use Rattle.uri_parts.specs.Positions.{authority_at}
+use Rattle.uri_parts.specs.AuthorityReading.{finds_authority, found_length, found_authority}
+use Rattle.uri_parts.specs.Components.{starts, has_authority}
 use Rattle.uri_parts.specs.Grammar.{Kind}
 use Rattle.uri_parts.specs.declared.positions.Positions.{Positions}
 use Rattle.uri_parts.specs.declared.positions.AuthorityPositions.{AuthorityPositions}
@@ -37,70 +36,6 @@ reads_end kind rest =
 -- a path, and what follows it
 unfoldable pub reads_path : Kind → List ℕ → Bool
 reads_path kind rest = reads_after kind.path (reads_end kind) rest
-
--- the text begins with one of these characters, or is empty
-unfoldable pub begins_any : List ℕ → List ℕ → Bool
-begins_any marks [] = true
-begins_any marks (b ∷ rest) = is_one_of marks b
-
--- `:` and digits, if they are next
-unfoldable pub port_length : List ℕ → ℕ
-port_length rest = if starts 58 rest then 1 + front digit_set (drop 1 rest) else 0
-
--- a registered name, perhaps with a port
-unfoldable pub name_length : Kind → List ℕ → ℕ
-name_length kind rest = front kind.reg_name rest + port_length (after kind.reg_name rest)
-
--- An authority ends where `/`, `?`, `#` or nothing follows. Most are a registered name, perhaps
--- with a port, and some have userinfo before it. These are read at once.
-unfoldable pub finds_name : Kind → List ℕ → Bool
-finds_name kind rest = begins_any (codes "/?#") (drop (name_length kind rest) rest)
-
--- what stands behind userinfo and a mark
-abbrev pub behind_user : Kind → List ℕ → List ℕ
-behind_user kind rest = drop 1 (after kind.userinfo rest)
-
-unfoldable pub finds_user : Kind → List ℕ → Bool
-finds_user kind rest =
-    starts 64 (after kind.userinfo rest) && finds_name kind (behind_user kind rest)
-
--- an authority of any other form is cut out, and taken apart
-unfoldable pub finds_other : Kind → List ℕ → Bool
-finds_other kind rest = finds_user kind rest
-    || reads_whole_authority kind.userinfo kind.reg_name (before_any (codes "/?#") rest)
-
-unfoldable pub finds_authority : Kind → List ℕ → Bool
-finds_authority kind rest = finds_name kind rest || finds_other kind rest
-
-unfoldable pub other_length : Kind → List ℕ → ℕ
-other_length kind rest =
-    if finds_user kind rest
-    then front kind.userinfo rest + 1 + name_length kind (behind_user kind rest)
-    else length (before_any (codes "/?#") rest)
-
-unfoldable pub found_length : Kind → List ℕ → ℕ
-found_length kind rest =
-    if finds_name kind rest then name_length kind rest else other_length kind rest
-
--- an authority that begins at a place, with a registered name from another on
-abbrev pub name_at : Kind → ℕ → ℕ → List ℕ → AuthorityPositions
-name_at kind start host rest =
-    record {
-      start = start;
-      host_start = host;
-      host_end = host + front kind.reg_name rest;
-      end = host + name_length kind rest;
-    }
-
-unfoldable pub other_authority : Kind → ℕ → List ℕ → AuthorityPositions
-other_authority kind place rest =
-    if finds_user kind rest
-    then name_at kind place (place + front kind.userinfo rest + 1) (behind_user kind rest)
-    else authority_at place (before_any (codes "/?#") rest)
-
-unfoldable pub found_authority : Kind → ℕ → List ℕ → AuthorityPositions
-found_authority kind place rest =
-    if finds_name kind rest then name_at kind place place rest else other_authority kind place rest
 
 -- an authority, and what follows it
 unfoldable pub reads_authority : Kind → List ℕ → Bool

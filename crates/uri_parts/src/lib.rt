@@ -1,6 +1,8 @@
 //! The parts of a reference: its components, and the grammar of each kind.
 #![tactic(auto)]
 
+#[doc(hidden)]
+pub mod authority_reader;
 pub mod component;
 #[doc(hidden)]
 pub mod connect;
@@ -9,13 +11,9 @@ pub mod core_text;
 mod default_ports;
 pub mod error;
 #[doc(hidden)]
-pub mod fault;
-#[doc(hidden)]
 pub mod fragment;
 #[doc(hidden)]
 pub mod grammar;
-#[doc(hidden)]
-pub mod host_places;
 #[doc(hidden)]
 pub mod laws;
 #[doc(hidden)]

@@ -9,21 +9,18 @@ ghost use Rattle.uri_parts.specs.Grammar.{IsOfKind, uri, uri_ref, iri, iri_ref};
 ghost use Rattle.uri_parts.specs.Grammars.{kind_of, segment_nz_nc_of};
 ghost use Rattle.uri_parts.specs.Positions.{AreAt};
 ghost use Rattle.uri_parts.specs.Readers.{rest_of, text_of, place_of, positions_from};
-ghost use Rattle.uri_parts.specs.Reading.{reads_fragment, reads_end, reads_path, finds_name};
-ghost use Rattle.uri_parts.specs.Reading.{name_length, finds_other, other_authority};
-ghost use Rattle.uri_parts.specs.Reading.{finds_authority, found_length, found_authority};
+ghost use Rattle.uri_parts.specs.Reading.{reads_fragment, reads_end, reads_path};
 ghost use Rattle.uri_parts.specs.Reading.{reads_authority, reads_relative, reads_hier};
 ghost use Rattle.uri_parts.specs.Reading.{reads_schemeless, reads, query_end_at};
 ghost use Rattle.uri_parts.specs.Reading.{authority_positions, relative_positions, hier_positions};
 ghost use Rattle.uri_parts.specs.Reading.{schemeless_positions, read_positions};
 
+use crate::authority_reader::find_authority;
 use crate::error::ParseError;
-use crate::fault::authority_fault;
 use crate::grammar::{Grammar, iri_grammar, uri_grammar};
-use crate::host_places::find_host;
 use crate::positions::{AuthorityPositions, Positions};
 use crate::reader::Reader;
-use uri_pct::table::{DIGIT, SCHEME};
+use uri_pct::table::SCHEME;
 
 /// A fragment if there is one, and then the end.
 #[tactic(auto, unfolding(crate::specs::Reading::reads_fragment))]
@@ -89,105 +86,6 @@ fn read_path(
         path_end,
         query_end,
     })
-}
-
-/// Passes a registered name and the port behind it, if there is one. Answers where the name ends,
-/// if nothing else of the authority is left.
-#[tactic(auto, using(uri_pct::proofs::Constants::digit_table, crate::proofs::AuthorityCuts::behind_port), unfolding(crate::specs::Reading::finds_name, crate::specs::Reading::name_length, crate::specs::Reading::port_length))]
-#[inline(always)]
-fn find_name(reader: &mut Reader<'_>, grammar: &Grammar) -> Option<usize>
-    ensures finds { is_some result ≡ finds_name (kind_of grammar.now) (rest_of reader.old) }
-    ensures end { IfSome result (λ n.
-        n ≡ place_of reader.old + front (set_of grammar.now.reg_name) (rest_of reader.old)) }
-    ensures text { text_of reader.new ≡ text_of reader.old }
-    ensures place { place_of reader.new
-        ≡ place_of reader.old + name_length (kind_of grammar.now) (rest_of reader.old) }
-    ensures rest { rest_of reader.new
-        ≡ drop (name_length (kind_of grammar.now) (rest_of reader.old)) (rest_of reader.old) }
-{
-    reader.read(&grammar.reg_name);
-    let name_end = reader.position();
-    if reader.skip(b':') {
-        reader.read(&DIGIT);
-    }
-    if reader.ends_authority() {
-        Some(name_end)
-    } else {
-        None
-    }
-}
-
-/// An authority that is more than a name and a port: where it lies, and its host.
-#[tactic(auto, unfolding(crate::specs::Reading::finds_user, crate::specs::Reading::finds_other, crate::specs::Reading::other_authority))]
-#[inline(never)]
-fn find_other_authority(
-    reader: Reader<'_>,
-    grammar: &Grammar,
-) -> Result<AuthorityPositions, ParseError>
-    ensures accepts { is_ok result ≡ finds_other (kind_of grammar.now) (rest_of reader.entry) }
-    ensures found { IfOk result (λ a.
-        a ≡ other_authority (kind_of grammar.now) (place_of reader.entry) (rest_of reader.entry)) }
-    ensures boundary { IfOk result (λ a. IsCharBoundary (text_of reader.entry) a.end) }
-    ensures err { IfErr result (IsErrorIn (text_of reader.entry)) }
-{
-    let start = reader.position();
-    let mut name = reader;
-    name.read(&grammar.userinfo);
-    if name.skip(b'@') {
-        let host_start = name.position();
-        if let Some(host_end) = find_name(&mut name, grammar) {
-            return Ok(AuthorityPositions {
-                start,
-                host_start,
-                host_end,
-                end: name.position(),
-            });
-        }
-    }
-    let mut whole = reader;
-    let authority = whole.pass_authority();
-    match find_host(grammar, authority) {
-        Some(host) => Ok(AuthorityPositions {
-            start,
-            host_start: start + host.start,
-            host_end: start + host.end,
-            end: whole.position(),
-        }),
-        None => Err(authority_fault(reader, grammar)),
-    }
-}
-
-/// An authority: where it lies, and its host.
-#[tactic(auto, unfolding(crate::specs::Reading::finds_authority, crate::specs::Reading::found_length, crate::specs::Reading::found_authority, crate::specs::Reading::other_length, crate::specs::Reading::other_authority))]
-#[inline(always)]
-fn find_authority(
-    reader: &mut Reader<'_>,
-    grammar: &Grammar,
-) -> Result<AuthorityPositions, ParseError>
-    ensures accepts { is_ok result ≡ finds_authority (kind_of grammar.now) (rest_of reader.old) }
-    ensures found { IfOk result (λ a.
-        a ≡ found_authority (kind_of grammar.now) (place_of reader.old) (rest_of reader.old)) }
-    ensures text { text_of reader.new ≡ text_of reader.old }
-    ensures place { OnOk result (place_of reader.new
-        ≡ place_of reader.old + found_length (kind_of grammar.now) (rest_of reader.old)) }
-    ensures rest { OnOk result (rest_of reader.new
-        ≡ drop (found_length (kind_of grammar.now) (rest_of reader.old)) (rest_of reader.old)) }
-    ensures err { IfErr result (IsErrorIn (text_of reader.old)) }
-{
-    let start = reader.position();
-    let mut name = *reader;
-    if let Some(host_end) = find_name(&mut name, grammar) {
-        *reader = name;
-        return Ok(AuthorityPositions {
-            start,
-            host_start: start,
-            host_end,
-            end: name.position(),
-        });
-    }
-    let authority = find_other_authority(*reader, grammar)?;
-    *reader = Reader::at(reader.text(), authority.end);
-    Ok(authority)
 }
 
 /// An authority, of what stands before a path.

@@ -4,7 +4,6 @@ ghost use Rattle.std.specs.Prelude.{IfErr, is_ok, if◌then◌else◌};
 ghost use Rattle.std.specs.Str.{IsCharBoundary};
 
 use crate::error::{ParseError, ParseErrorKind};
-use crate::slicing::cut_before;
 use std::alloc::AllocError;
 use uri_pct::table::Table;
 
@@ -33,9 +32,10 @@ impl<'a> Copy for Reader<'a> {}
 impl<'a> Reader<'a> {
     ghost use Rattle.uri_pct.specs.Tables.{set_of};
     ghost use Rattle.uri_pct.specs.Fronts.{front, after};
-    ghost use Rattle.uri_parts.specs.Components.{starts, has_authority, before_any};
+    ghost use Rattle.uri_parts.specs.AuthorityReading.{begins_any};
+    ghost use Rattle.uri_parts.specs.Components.{starts, has_authority};
     ghost use Rattle.uri_parts.specs.Errors.{IsErrorIn};
-    ghost use Rattle.uri_parts.specs.Reading.{is_end, is_stray, begins_any};
+    ghost use Rattle.uri_parts.specs.Reading.{is_end, is_stray};
     ghost use Rattle.uri_parts.specs.Readers.{rest_of, text_of, place_of};
 
     /// The text from its beginning.
@@ -97,20 +97,6 @@ impl<'a> Reader<'a> {
             Some(byte) => matches!(byte, b'/' | b'?' | b'#'),
             None => true,
         }
-    }
-
-    /// Passes what stands before the first of `/?#`, and answers it.
-    pub fn pass_authority(&mut self) -> &'a str
-        ensures value { result.now ≡ before_any (codes "/?#") (rest_of self.old) }
-        ensures text { text_of self.new ≡ text_of self.old }
-        ensures place { place_of self.new
-            ≡ place_of self.old + length (before_any (codes "/?#") (rest_of self.old)) }
-        ensures rest { rest_of self.new
-            ≡ drop (length (before_any (codes "/?#") (rest_of self.old))) (rest_of self.old) }
-    {
-        let (authority, _) = cut_before(&self.text[self.position..], b"/?#");
-        self.position += authority.len();
-        authority
     }
 
     /// Passes the longest front of the rest that the table allows; a `%` behind it that begins no
