@@ -1,0 +1,81 @@
+//! What `tools/bench/run` counts, done by the port: one sort of work on one text, again and again.
+//! It is proved to be safe and to end; what it calls has the contracts.
+#![tactic(auto)]
+
+mod calls;
+
+use crate::calls as call;
+use fluent_uri::{Iri, Uri, UriRef};
+use std::alloc::Global;
+
+/// What a refused text answers, in place of the length of the answer.
+const REFUSED: u64 = u64::MAX;
+
+/// Makes a call so many times, and answers how long the last answer was.
+macro_rules! length_of {
+    ($rounds:expr, $call:expr) => {{
+        let mut length = REFUSED;
+        for _ in 0..$rounds {
+            length = match $call {
+                Some(answer) => answer.as_str().len() as u64,
+                None => REFUSED,
+            };
+        }
+        length
+    }};
+}
+
+/// Does the work so many times with the text, and with the base where it needs one: the numbers of
+/// the works stand in `tools/bench/run`.
+#[unsafe(no_mangle)]
+pub extern "C" fn bench(alloc: Global, work: u32, text: &[u8], base: &[u8], rounds: u64) -> u64 {
+    let Ok(text) = std::str::from_utf8(text) else {
+        return REFUSED;
+    };
+    let Ok(base) = std::str::from_utf8(base) else {
+        return REFUSED;
+    };
+    match work {
+        0 => length_of!(rounds, call::parse_uri(text).ok()),
+        1 => length_of!(rounds, call::parse_uri_ref(text).ok()),
+        2 => length_of!(rounds, call::parse_iri(text).ok()),
+        3 => length_of!(rounds, call::parse_iri_ref(text).ok()),
+        4 => length_of!(rounds, call::normalize_uri(alloc, text)),
+        5 => length_of!(rounds, call::normalize_uri_ref(alloc, text)),
+        6 => length_of!(rounds, call::normalize_iri(alloc, text)),
+        7 => length_of!(rounds, call::normalize_iri_ref(alloc, text)),
+        8 => length_of!(rounds, call::resolve_uri(alloc, base, text)),
+        9 => length_of!(rounds, call::resolve_iri(alloc, base, text)),
+        10 => resolve_values(alloc, base, text, rounds),
+        11 => length_of!(rounds, call::resolve_normalized(alloc, base, text)),
+        12 => decode(alloc, text, rounds),
+        13 => length_of!(rounds, call::encode(alloc, text)),
+        14 => length_of!(rounds, call::to_uri(alloc, text)),
+        15 => build(alloc, text, rounds),
+        _ => REFUSED,
+    }
+}
+
+fn resolve_values(alloc: Global, base: &str, reference: &str, rounds: u64) -> u64 {
+    let Ok(base) = Uri::<&str>::parse(base) else {
+        return REFUSED;
+    };
+    let Ok(reference) = UriRef::<&str>::parse(reference) else {
+        return REFUSED;
+    };
+    length_of!(rounds, call::resolve_values(alloc, base, reference))
+}
+
+fn decode(alloc: Global, text: &str, rounds: u64) -> u64 {
+    let Ok(value) = Iri::<&str>::parse(text) else {
+        return REFUSED;
+    };
+    length_of!(rounds, call::decode(alloc, value.path()))
+}
+
+fn build(alloc: Global, text: &str, rounds: u64) -> u64 {
+    let Ok(value) = Uri::<&str>::parse(text) else {
+        return REFUSED;
+    };
+    length_of!(rounds, call::build(alloc, value))
+}
