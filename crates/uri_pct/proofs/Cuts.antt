@@ -114,7 +114,7 @@ skips_chars marks ascii (c ∷ cs) =
 skips_text : (marks : List ℕ) → AreAscii marks → (text : List ℕ) → IsUtf8 text → skips marks 0 text ≡ true
 skips_text marks ascii text u = ap (skips marks 0) (sym u.1.1) ∙ skips_chars marks ascii u.0
 
-len_ascii : (b : ℕ) → b < 128 → continuation_len b ≡ 0
+pub len_ascii : (b : ℕ) → b < 128 → continuation_len b ≡ 0
 len_ascii b h = cond-true _ _ _ (lt-ltb b 128 h)
 
 hex_below : (b : ℕ) → is_ascii_hexdigit b ≡ true → b < 128

@@ -1,10 +1,9 @@
 -- The parts of a text that is decoded: what stands before a `%`, and the octet that it begins.
-use Rattle.std.proofs.Common.{◌≡◌, ℕ, suc, ◌+◌, ◌*◌, ◌<◌, ◌≤◌, ◌≢◌, Bool, true, false, cond, eqb, ltb, not, List, [], ◌∷◌, ◌++◌, length, get_or, take, drop, map, refl, sym, ap, ◌∙◌, subst, arith, ⊎_elim, Some, None, append_assoc, lit<, add-zero}
-use Rattle.std.specs.Option.{unwrap_or}
+use Rattle.std.proofs.Common.{◌≡◌, ℕ, suc, ◌+◌, ◌*◌, ◌<◌, ◌≤◌, ◌≢◌, Bool, true, false, eqb, not, List, [], ◌∷◌, ◌++◌, length, get_or, take, drop, map, refl, sym, ap, ◌∙◌, subst, arith, ⊎_elim, append_assoc, lit<, add-zero}
 use Rattle.std.specs.List.{list_all, position_or_len, prefix_len}
 use Rattle.std.specs.Char.{encode_utf8, digit_value, is_ascii_hexdigit}
 use Rattle.std.specs.Str.{chars, encode_utf8_all, all_scalars, IsUtf8, IsCharBoundary}
-use Rattle.std.proofs.lemmas.Bool.{cases_Bool, cases_lt, cond-true, cond-false, and_parts, and_from, lt-ltb, le-ltb, eqb-true, eqb-false, ne_eqb, not-true, not-false, not_from_false, false≢true, false_from_ne_true}
+use Rattle.std.proofs.lemmas.Bool.{cases_Bool, cases_lt, cond-true, cond-false, and_parts, and_from, eqb-true, eqb-false, ne_eqb, not-true, not-false, not_from_false, false≢true, false_from_ne_true}
 use Rattle.std.proofs.lemmas.List.{append-nil, take-append-drop, drop_all, length-drop, get_or-drop}
 use Rattle.std.proofs.lemmas.List.Folds.{list_all-append}
 use Rattle.std.proofs.lemmas.List.Sums.{prefix_len-le-length, prefix_len_stops}
@@ -16,12 +15,6 @@ use Rattle.uri_pct.specs.Chunks.{Chunk, Text, Byte, onto_chunks, chunks_of, chun
 use Rattle.uri_pct.proofs.Printing.{char_first}
 use Rattle.uri_pct.proofs.TokenCuts.{chars-ascii}
 use Rattle.uri_pct.proofs.Characters.{hex_ascii}
-
-pub unwrap_position : (n m : ℕ) → n ≤ m → unwrap_or (cond (ltb n m) (Some n) None) m ≡ n
-unwrap_position n m h = ⊎_elim
-    (λ l. ap (λ b. unwrap_or (cond b (Some n) None) m) (lt-ltb n m l))
-    (λ l. ap (λ b. unwrap_or (cond b (Some n) None) m) (le-ltb n m l) ∙ omega arith)
-    (cases_lt n m)
 
 -- characters other than `%` are tokens by themselves, whatever follows them
 tokens_of-lacks : (cs ds : List ℕ) → lacks 37 cs ≡ true → tokens_of (cs ++ ds) ≡ map Char cs ++ tokens_of ds

@@ -5,7 +5,7 @@ use Rattle.std.specs.Char.{encode_utf8, len_utf8}
 use Rattle.std.specs.Str.{chars, encode_utf8_all, all_scalars, IsUtf8}
 use Rattle.std.proofs.Math.Seq.{take-append_seam}
 use Rattle.std.proofs.lemmas.Bool.{cases_Bool, cond-true, cond-false, and_parts}
-use Rattle.std.proofs.lemmas.List.{append-nil, drop-drop, length-take, take-append-le, take-take, take_all, drop_all, length-drop, nil_from_length}
+use Rattle.std.proofs.lemmas.List.{append-nil, drop-drop, length-take, take-append-le, take-take, nil_from_length}
 use Rattle.std.proofs.lemmas.List.Concat.{flat_map-append}
 use Rattle.std.proofs.lemmas.List.Elements.{All-head, All-tail}
 use Rattle.std.proofs.lemmas.Str.{chars_past_char, encodes-chars, scalars-chars, length-encode}
@@ -84,65 +84,14 @@ kept_more old new more e =
     let long : length old ≤ length new = omega (arith, length-take (length old) new, ap length e) in
     take-append-le (length old) new more long ∙ e
 
-pub kept_behind : (old new more : List ℕ) → new ≡ old ++ more → take (length old) new ≡ old
-kept_behind old new more e = ap (take (length old)) e ∙ take-append_seam old more
-
 pub kept_on : (old mid new : List ℕ) → take (length old) mid ≡ old → take (length mid) new ≡ mid → take (length old) new ≡ old
 kept_on old mid new e f =
     let long : length old ≤ length mid = omega (arith, length-take (length old) mid, ap length e) in
     sym (take-take (length old) (length mid) new long) ∙ ap (take (length old)) f ∙ e
 
-pub kept_behind_more : (old out mid new x y : List ℕ) → take (length old) out ≡ old → mid ≡ out ++ x → new ≡ mid ++ y → take (length old) new ≡ old
-kept_behind_more old out mid new x y e f g =
-    ap (take (length old)) g ∙ kept_more old mid y (ap (take (length old)) f ∙ kept_more old out x e)
-
--- what is written, with the part that is still to be copied and what is still to be encoded
-abbrev pub Whole : TableSet → List ℕ → List ℕ → ℕ → ℕ → List ℕ → Type 0
-Whole set out text start end all = out ++ (take (end - start) (drop start text) ++ print (encode_text set (drop end text))) ≡ all
-
--- one more character that is copied
-pub copied_step : (set : TableSet) (out text all : List ℕ) (start end next c : ℕ) → IsUtf8 (drop end text) → drop end text ≡ encode_utf8 c ++ drop (end + len_utf8 c) text → next ≡ end + len_utf8 c
-    → start ≤ end → allows set c ≡ true → Whole set out text start end all → Whole set out text start next all
-copied_step set out text all start end next c u spelt place ordered allowed whole =
-    let n = end + len_utf8 c in
-    let part = take (end - start) (drop start text) in
-    let rest = print (encode_text set (drop n text)) in
-    let first : print (encode_text set (drop end text)) ≡ encode_utf8 c ++ rest =
-    ap print (encode_text-first set (drop end text) (drop n text) c u spelt) ∙ print-append (encode_char set c) (encode_text set (drop n text)) ∙ ap (λ x. x ++ rest) (encode_char-kept set c allowed) in
-    rw place (ap (λ x. out ++ (x ++ rest)) (part_longer text start end c ordered spelt)
-    ∙ ap (λ x. out ++ x) (append_assoc part (encode_utf8 c) rest ∙ ap (λ x. part ++ x) (sym first)) ∙ whole)
-
--- one that is written as octets, behind what was to be copied
-pub octets_step : (set : TableSet) (out mid new text all : List ℕ) (start end next c : ℕ) → IsUtf8 (drop end text) → drop end text ≡ encode_utf8 c ++ drop (end + len_utf8 c) text → next ≡ end + len_utf8 c
-    → allows set c ≡ false → mid ≡ out ++ take (end - start) (drop start text) → new ≡ mid ++ print (map Octet (take (next - end) (drop end text)))
-    → Whole set out text start end all → Whole set new text next next all
-octets_step set out mid new text all start end next c u spelt place refused copied octets whole =
-    let n = end + len_utf8 c in
-    let part = take (end - start) (drop start text) in
-    let rest = print (encode_text set (drop n text)) in
-    let size : n - end ≡ len_utf8 c = omega arith in
-    let none : n - n ≡ 0 = omega arith in
-    let bytes : take (n - end) (drop end text) ≡ encode_utf8 c =
-    ap (λ k. take k (drop end text)) size ∙ ap (take (len_utf8 c)) spelt ∙ ap (λ k. take k (encode_utf8 c ++ drop n text)) (sym (length-encode c)) ∙ take-append_seam (encode_utf8 c) (drop n text) in
-    let first : print (encode_text set (drop end text)) ≡ print (map Octet (encode_utf8 c)) ++ rest =
-    ap print (encode_text-first set (drop end text) (drop n text) c u spelt) ∙ print-append (encode_char set c) (encode_text set (drop n text)) ∙ ap (λ ts. print ts ++ rest) (encode_char-octets set c refused) in
-    let written : new ≡ (out ++ part) ++ print (map Octet (encode_utf8 c)) =
-    octets ∙ ap (λ x. x ++ print (map Octet (take (next - end) (drop end text)))) copied ∙ ap (λ k. (out ++ part) ++ print (map Octet (take (k - end) (drop end text)))) place ∙ ap (λ x. (out ++ part) ++ print (map Octet x)) bytes in
-    ap (λ k. new ++ (take (k - k) (drop k text) ++ print (encode_text set (drop k text)))) place
-    ∙ ap (λ k. new ++ (take k (drop n text) ++ rest)) none
-    ∙ ap (λ x. x ++ rest) written ∙ append_assoc (out ++ part) (print (map Octet (encode_utf8 c))) rest ∙ append_assoc out part (print (map Octet (encode_utf8 c)) ++ rest)
-    ∙ ap (λ x. out ++ (part ++ x)) (sym first) ∙ whole
-
-encode_none : (set : TableSet) → print (encode_text set []) ≡ []
+pub encode_none : (set : TableSet) → print (encode_text set []) ≡ []
 unfolding chars
 encode_none set = refl
-
--- at the end of the text
-pub last_step : (set : TableSet) (out new text all : List ℕ) (start end : ℕ) → length text ≤ end → end ≤ length text → start ≤ end → new ≡ out ++ drop start text → Whole set out text start end all → new ≡ all
-last_step set out new text all start end past within ordered copied whole =
-    let part : take (end - start) (drop start text) ≡ drop start text = take_all (end - start) (drop start text) (omega (arith, length-drop start text)) in
-    let none : print (encode_text set (drop end text)) ≡ [] = ap (λ x. print (encode_text set x)) (drop_all end text past) ∙ encode_none set in
-    copied ∙ ap (λ x. out ++ x) (sym (append-nil (drop start text)) ∙ ap (λ x. x ++ []) (sym part) ∙ ap (λ x. take (end - start) (drop start text) ++ x) (sym none)) ∙ whole
 
 -- the characters of a text are its pieces
 chars_pieces : (set : TableSet) (cs : List ℕ) → all_scalars cs ≡ true → flat_map (encode_piece set) (map of_char cs) ≡ flat_map (encode_char set) cs

@@ -33,6 +33,7 @@ pub mod PartPieces
 pub mod Taking
 pub mod Appending
 pub mod Encodings
+pub mod KeptFronts
 pub mod Kept
 pub mod EncodedTokens
 pub mod Growing
@@ -44,3 +45,4 @@ pub mod AsciiRuns
 pub mod LaneBits
 pub mod OctetLanes
 pub mod SpeltRuns
+pub mod LeadBytes

@@ -1,5 +1,5 @@
 -- Two words as a set of ASCII characters.
-use Rattle.std.proofs.Common.{◌≡◌, ℕ, ◌+◌, ◌-◌, ◌*◌, ◌/◌, ◌%◌, ◌^◌, ◌<◌, ◌≤◌, min, max, Bool, true, false, not, eqb, List, refl, sym, ap, ◌∙◌, arith, bit_and, bit_or, ◌&&◌, ◌||◌, ⊎_elim, w64}
+use Rattle.std.proofs.Common.{◌≡◌, ℕ, ◌+◌, ◌-◌, ◌*◌, ◌/◌, ◌%◌, ◌^◌, ◌<◌, ◌≤◌, min, max, Bool, true, false, not, eqb, ltb, List, refl, sym, ap, ◌∙◌, arith, bit_and, bit_or, ◌&&◌, ◌||◌, ⊎_elim, w64}
 use Rattle.std.specs.Prelude.{slice_index_or}
 use Rattle.std.specs.Int.{bit_at, bit_not}
 use Rattle.std.proofs.Math.Bool.{or-false}
@@ -173,3 +173,8 @@ has_bit_is low high test same none c =
     (λ (below : c < 128). agree_below_at (has_bit low high) test 128 c same below)
     (λ (past : 128 ≤ c). has_no_bit low high c past ∙ sym (none c past))
     (cases_lt c 128)
+
+-- where all bits are set, each ASCII character
+pub all_bits : (c : ℕ) → has_bit 0xFFFFFFFFFFFFFFFF 0xFFFFFFFFFFFFFFFF c ≡ ltb c 128
+unfolding has_bit
+all_bits c = has_bit_is 0xFFFFFFFFFFFFFFFF 0xFFFFFFFFFFFFFFFF (λ b. ltb b 128) refl (λ b h. le-ltb b 128 h) c

@@ -1,10 +1,10 @@
 -- Which tokens a text or bytes are encoded as (RFC 3986, section 2.1; RFC 3987, section 3.1).
-use Rattle.std.specs.Prelude.{ℕ, List, [], ◌∷◌, map, if◌then◌else◌}
+use Rattle.std.specs.Prelude.{◌≡◌, ◌-◌, ℕ, List, [], ◌∷◌, ◌++◌, map, take, drop, if◌then◌else◌}
 use Rattle.std.specs.Char.{encode_utf8}
 use Rattle.std.specs.List.{flat_map}
 use Rattle.std.specs.Str.{chars}
 use Rattle.uri_pct.specs.Sets.{TableSet, allows}
-use Rattle.uri_pct.specs.Tokens.{Token, Char, Octet}
+use Rattle.uri_pct.specs.Tokens.{Token, Char, Octet, print}
 use Rattle.uri_pct.specs.Pieces.{Piece, WellFormed, IllFormed, char_of, utf8_pieces}
 
 -- a character that the set allows stands for itself, and each other is the octets of its UTF-8
@@ -13,6 +13,10 @@ encode_char set c = if allows set c then Char c ∷ [] else map Octet (encode_ut
 
 abbrev pub encode_text : TableSet → List ℕ → List Token
 encode_text set text = flat_map (encode_char set) (chars text)
+
+-- the part of a text from start to end is encoded as what is written for it, and what is behind it by itself
+abbrev pub IsEncodedBy : (List ℕ → List ℕ) → TableSet → List ℕ → ℕ → ℕ → Type 0
+IsEncodedBy written set text start end = print (encode_text set (drop start text)) ≡ written (take (end - start) (drop start text)) ++ print (encode_text set (drop end text))
 
 -- of bytes, the characters likewise, and each byte of an ill-formed part is an octet
 abbrev pub encode_piece : TableSet → Piece → List Token

@@ -1,6 +1,9 @@
 //! Percent-encoding of texts and bytes (RFC 3986, section 2.1).
-ghost use Rattle.std.specs.Prelude.{◌≡◌, ◌++◌, OnOk, OnErr, length, map, take, string_bytes};
-ghost use Rattle.uri_pct.specs.Encoding.{encode_text, encode_bytes};
+ghost use Rattle.std.specs.Prelude.{◌≡◌, ◌≤◌, ◌<◌, ◌++◌, ℕ, List, false, OnOk, OnErr, length, map};
+ghost use Rattle.std.specs.Prelude.{take, drop, encode_utf8, string_bytes};
+ghost use Rattle.std.specs.Str.{IsCharBoundary};
+ghost use Rattle.uri_pct.specs.Encoding.{encode_text, encode_bytes, IsEncodedBy};
+ghost use Rattle.uri_pct.specs.Sets.{allows};
 ghost use Rattle.uri_pct.specs.Tables.{set_of};
 ghost use Rattle.uri_pct.specs.Tokens.{Octet, print};
 
@@ -22,6 +25,43 @@ pub fn push_octets(bytes: &[u8], out: &mut String) -> Result<(), AllocError>
     Ok(())
 }
 
+/// Where the characters end, from `start` on, that the table allows.
+#[inline(always)]
+fn kept_end(table: &Table, text: &str, start: usize) -> usize
+    requires { IsCharBoundary text.now start }
+    ensures from { start ≤ result }
+    ensures boundary { IsCharBoundary text.now result }
+    ensures kept { IsEncodedBy (λ bytes. bytes) (set_of table.now) text.now start result }
+    ensures stop { (c : ℕ) (rest : List ℕ) → drop result text.now ≡ encode_utf8 c ++ rest
+        → allows (set_of table.now) c ≡ false }
+{
+    table.without_octets().read(text, start)
+}
+
+/// Where the characters end, from `start` on, that the table does not allow.
+#[inline(always)]
+fn refused_end(table: &Table, text: &str, start: usize) -> usize
+    requires { IsCharBoundary text.now start }
+    ensures from { start ≤ result }
+    ensures boundary { IsCharBoundary text.now result }
+    ensures octets { IsEncodedBy (λ bytes. print (map Octet bytes)) (set_of table.now) text.now
+        start result }
+    ensures goes { start < length text.now
+        → ((c : ℕ) (rest : List ℕ) → drop start text.now ≡ encode_utf8 c ++ rest
+        → allows (set_of table.now) c ≡ false)
+        → start < result }
+{
+    let mut end = start;
+    while end < text.len() {
+        let ch = char_at(text, end);
+        if table.allows(ch) {
+            return end;
+        }
+        end += ch.len_utf8();
+    }
+    end
+}
+
 /// Appends the text: each character as it is where the table allows it, and else as octets.
 ///
 /// After an error some of it may stand behind what was there.
@@ -31,19 +71,15 @@ pub fn push_text(table: &Table, text: &str, out: &mut String) -> Result<(), Allo
         (string_bytes out.new ≡ string_bytes out.old ++ print (encode_text (set_of table.now) text.now)) }
     ensures keeps { take (length (string_bytes out.old)) (string_bytes out.new) ≡ string_bytes out.old }
 {
-    let mut start = 0;
-    let mut end = 0;
-    while end < text.len() {
-        let ch = char_at(text, end);
-        let next = end + ch.len_utf8();
-        if !table.allows(ch) {
-            out.push_str(&text[start..end])?;
-            push_octets(&text.as_bytes()[end..next], out)?;
-            start = next;
-        }
-        end = next;
+    let mut done = 0;
+    while done < text.len() {
+        let end = kept_end(table, text, done);
+        out.push_str(&text[done..end])?;
+        let next = refused_end(table, text, end);
+        push_octets(&text.as_bytes()[end..next], out)?;
+        done = next;
     }
-    out.push_str(&text[start..])
+    Ok(())
 }
 
 /// Appends the bytes: each character as `push_text` does, and each byte of an ill-formed part as

@@ -1,6 +1,6 @@
 //! Sets of ASCII characters by their two masks, a byte at a time or sixteen.
 ghost use Rattle.std.specs.Prelude.{◌≡◌, ◌+◌, ◌≤◌, ◌<◌, ◌/◌, ◌%◌, ℕ, true, not, length, map};
-ghost use Rattle.std.specs.Prelude.{slice_index};
+ghost use Rattle.std.specs.Prelude.{slice_index, nat_lt};
 ghost use Rattle.std.specs.Simd.Lanes.{mask_l, chunk};
 ghost use Rattle.std.specs.Int.{bit_at};
 ghost use Rattle.uri_pct.specs.ByteRuns.{IsRun, AreSpelt};
@@ -98,6 +98,16 @@ pub fn run_end(low: u64, high: u64, bytes: &[u8], start: usize) -> usize
         return len;
     }
     i + mask.trailing_zeros() as usize
+}
+
+/// Where the longest run of ASCII characters ends that begins at `start`.
+#[inline(always)]
+pub fn ascii_end(bytes: &[u8], start: usize) -> usize
+    requires within { start ≤ length bytes.now }
+    requires long { LANES ≤ length bytes.now }
+    ensures { IsRun (λ b. nat_lt b 128) bytes.now start result }
+{
+    run_end(u64::MAX, u64::MAX, bytes, start)
 }
 
 /// At which of the sixteen bytes from `at` on octets begin that end among them.

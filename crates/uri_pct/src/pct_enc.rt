@@ -106,7 +106,7 @@ impl<'a, E: Encoder> EStr<'a, E> {
     pub fn is_unencoded(self) -> bool
         ensures { result ≡ is_unencoded (text_of self.entry) }
     {
-        self.text.as_bytes().iter().all(|&byte| byte != b'%')
+        !self.text.as_bytes().contains(&b'%')
     }
 
     /// The same text, for an encoder whose table allows all that the table of `E` allows:

@@ -101,6 +101,33 @@ impl Table {
         }
     }
 
+    /// The length of the character past ASCII at `index`, or 0 where the table does not allow it.
+    ///
+    /// Where all that begin with the same byte are allowed, it is not decoded.
+    #[inline(always)]
+    fn past_ascii_len(&self, text: &str, index: usize) -> usize
+        requires here { IsCharBoundary text.now index }
+        requires inside { index < length text.now }
+        requires past { 128 ≤ slice_index text.now index }
+        ensures boundary { IsCharBoundary text.now (index + result) }
+        ensures allowed { 0 < result → front (set_of self.now) (drop index text.now)
+            ≡ front (set_of self.now) (drop (index + result) text.now) + result }
+        ensures refused { result ≡ 0 → front (set_of self.now) (drop index text.now) ≡ 0 }
+    {
+        let byte = text.as_bytes()[index];
+        if self.allows_lead(byte) {
+            if byte < 0xE0 {
+                return 2;
+            }
+            return 3;
+        }
+        let ch = char_at(text, index);
+        if !self.allows_past_ascii(ch) {
+            return 0;
+        }
+        ch.len_utf8()
+    }
+
     /// Where the longest piece ends that begins at `start` and is spelt by what the table allows,
     /// both as byte offsets.
     ///
@@ -136,11 +163,11 @@ impl Table {
         while i < bytes.len() {
             let byte = bytes[i];
             if byte >= 128 {
-                let ch = char_at(text, i);
-                if !self.allows_past_ascii(ch) {
+                let length = self.past_ascii_len(text, i);
+                if length == 0 {
                     break;
                 }
-                i += ch.len_utf8();
+                i += length;
             } else if byte == b'%' {
                 if !self.allows_pct_encoded() || !begins_octet(bytes, i) {
                     break;

@@ -1,6 +1,6 @@
 //! Sets of characters (RFC 3986, appendix A; RFC 3987, section 2.2).
-ghost use Rattle.std.specs.Prelude.{◌≡◌, ◌<◌, ◌↔◌, ◌==◌, ◌||◌, ℕ, IsTrue, true, false};
-ghost use Rattle.std.specs.Int.{bit_at};
+ghost use Rattle.std.specs.Prelude.{◌≡◌, ◌<◌, ◌↔◌, ◌==◌, ◌&&◌, ◌||◌, ℕ, IsTrue, true, false};
+ghost use Rattle.std.specs.Int.{bit_at, is_in_range};
 ghost use Rattle.std.specs.List.{list_all};
 ghost use Rattle.uri_pct.specs.Masks.{has_bit, is_plain_ascii};
 ghost use Rattle.uri_pct.specs.Reading.{is_readable};
@@ -84,6 +84,15 @@ impl Table {
         self
     }
 
+    /// The same table, without percent-encoded octets.
+    #[inline(always)]
+    pub(crate) fn without_octets(mut self) -> Table
+        ensures { set_of result ≡ record (set_of self) { pct_encoded = false } }
+    {
+        self.pct_encoded = false;
+        self
+    }
+
     /// The same table, with the characters of `ucschar` (RFC 3987, section 2.2) allowed.
     pub fn or_ucschar(mut self) -> Table
         ensures { set_of result ≡ record (set_of self) { ucschar = true } }
@@ -137,6 +146,16 @@ impl Table {
         ensures { has_bit result.0 result.1 ≡ (set_of self.now).ascii }
     {
         (self.low, self.high)
+    }
+
+    /// Whether the byte begins a character of U+00C0 to U+D7FF, which are all in `ucschar`, and the
+    /// table allows that.
+    #[tactic(auto, using(std::proofs::lemmas::Bool::Decides::nat_tests))]
+    #[inline(always)]
+    pub(crate) fn allows_lead(&self, byte: u8) -> bool
+        ensures { result ≡ ((set_of self.now).ucschar && is_in_range 0xC3 0xED byte) }
+    {
+        self.ucschar && matches!(byte, 0xC3..=0xED)
     }
 
     /// Whether some characters past ASCII are allowed.

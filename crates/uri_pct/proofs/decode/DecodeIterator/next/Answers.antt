@@ -1,5 +1,6 @@
-use Rattle.std.proofs.Common.{◌≡◌, ◌∷◌, [], ◌+◌, ◌*◌, ℕ, List, length, get_or, drop, sym, ap, ◌∙◌, subst, arith, rules}
+use Rattle.std.proofs.Common.{◌≡◌, ◌∷◌, [], ◌+◌, ◌*◌, ℕ, List, eqb, length, get_or, drop, sym, ap, ◌∙◌, subst, arith, rules}
 use Rattle.std.specs.Char.{digit_value, is_ascii_hexdigit}
+use Rattle.std.specs.List.{position_or_len}
 use Rattle.std.specs.Str.{IsUtf8}
 use Rattle.uri_pct.specs.Chunks.{Byte, Text, chunks, widest_set}
 use Rattle.uri_pct.specs.Tokens.{IsValidFor}
@@ -63,17 +64,17 @@ returns-then-bytes-eq37-clause-goes c = let shorter = ap length (octet_steps c) 
 
 pub split_at-requires : goal.split_at-requires
 split_at-requires c =
-    let t = text_of_bytes c.as_bytes-bytes.result.now c.args.self.now.rest.now c.unencoded_len.result c.as_bytes-bytes.ensures.value c.as_bytes-bytes.ensures.utf8 c.args.self.now.whole (sym c.is_empty.ensures ∙ c.if-is_empty.false) c.if-bytes-eq37.false c.unencoded_len.ensures in
+    let t = text_of_bytes c.as_bytes-bytes.result.now c.args.self.now.rest.now c.unencoded_len.result c.as_bytes-bytes.ensures.value c.as_bytes-bytes.ensures.utf8 c.args.self.now.whole (sym c.is_empty.ensures ∙ c.if-is_empty.false) c.if-bytes-eq37.false (c.unencoded_len.ensures ∙ ap (position_or_len (λ b. eqb b 37)) (sym c.as_bytes-bytes.ensures.value)) in
     t.1
 
 pub invariant_of-self-2 : goal.invariant_of-self-2
 invariant_of-self-2 c =
-    let t = text_of_bytes c.as_bytes-bytes.result.now c.args.self.now.rest.now c.unencoded_len.result c.as_bytes-bytes.ensures.value c.as_bytes-bytes.ensures.utf8 c.args.self.now.whole (sym c.is_empty.ensures ∙ c.if-is_empty.false) c.if-bytes-eq37.false c.unencoded_len.ensures in
+    let t = text_of_bytes c.as_bytes-bytes.result.now c.args.self.now.rest.now c.unencoded_len.result c.as_bytes-bytes.ensures.value c.as_bytes-bytes.ensures.utf8 c.args.self.now.whole (sym c.is_empty.ensures ∙ c.if-is_empty.false) c.if-bytes-eq37.false (c.unencoded_len.ensures ∙ ap (position_or_len (λ b. eqb b 37)) (sym c.as_bytes-bytes.ensures.value)) in
     record { whole = subst (IsValidFor widest_set) (sym c.split_at.ensures.back) t.0.valid }
 
 text_steps : (c : goal.After-text-2-1) → chunks c.args.self.now.rest.now ≡ Text c.split_at.result.0.now ∷ chunks c.split_at.result.1.now
 text_steps c =
-    let t = text_of_bytes c.as_bytes-bytes.result.now c.args.self.now.rest.now c.unencoded_len.result c.as_bytes-bytes.ensures.value c.as_bytes-bytes.ensures.utf8 c.args.self.now.whole (sym c.is_empty.ensures ∙ c.if-is_empty.false) c.if-bytes-eq37.false c.unencoded_len.ensures in
+    let t = text_of_bytes c.as_bytes-bytes.result.now c.args.self.now.rest.now c.unencoded_len.result c.as_bytes-bytes.ensures.value c.as_bytes-bytes.ensures.utf8 c.args.self.now.whole (sym c.is_empty.ensures ∙ c.if-is_empty.false) c.if-bytes-eq37.false (c.unencoded_len.ensures ∙ ap (position_or_len (λ b. eqb b 37)) (sym c.as_bytes-bytes.ensures.value)) in
     t.0.first ∙ ap (λ x. Text x ∷ chunks (drop c.unencoded_len.result c.args.self.now.rest.now)) (sym c.split_at.ensures.front)
     ∙ ap (λ x. Text c.split_at.result.0.now ∷ chunks x) (sym c.split_at.ensures.back)
 

@@ -1,28 +1,26 @@
-use Rattle.std.proofs.Common.{◌≡◌, ◌+◌, ◌<◌, true, false, length, drop, get_or, arith, rules, ◌++◌, ◌&&◌, encode_utf8, sym, ◌∙◌, ap}
-use Rattle.std.proofs.lemmas.Bool.{and_left, and_right, ne_eqb, cond-true, cond-false}
-use Rattle.std.proofs.lemmas.Str.{IsCharBoundary-after_ascii, IsCharBoundary-past_char, IsUtf8-drop}
-use Rattle.std.specs.Char.{len_utf8}
+use Rattle.std.proofs.Common.{◌≡◌, ◌+◌, ◌<◌, true, false, length, drop, get_or, arith, rules, ◌&&◌, sym, ◌∙◌, ap}
+use Rattle.std.proofs.lemmas.Bool.{and_left, and_right, ne_eqb}
+use Rattle.std.proofs.lemmas.Str.{IsCharBoundary-after_ascii}
 use Rattle.uri_pct.specs.Fronts.{front, has_digits}
 use Rattle.uri_pct.specs.Tables.{set_of}
-use Rattle.uri_pct.proofs.Fronts.{front-end, front-char, front-stop, front-stray, front-past-at}
+use Rattle.uri_pct.proofs.Fronts.{front-end, front-char, front-stop, front-stray}
 use Rattle.uri_pct.proofs.Percent.{lacks_percent}
 use Rattle.uri_pct.proofs.SpeltRuns.{octet_read}
 use Rattle.uri_pct.proofs.table.Table.read_on.Goals as goal
 use Rattle.uri_pct.proofs.table.Table.read_on.Goals.{then-not-allows_pct_encoded-via-then-not-allows_pct_encoded, then-not-allows_pct_encoded-via-else-not-allows_pct_encoded+then-not-begins_octet}
+
+pub past_ascii_len-length-requires-clause-past : goal.past_ascii_len-length-requires-clause-past
+past_ascii_len-length-requires-clause-past c = rw (← c.as_bytes-bytes.ensures.value) c.if-byte-ge128.true
 
 pub loop-i-preserved-then-byte-ge128 : goal.loop-i-preserved-then-byte-ge128
 loop-i-preserved-then-byte-ge128 c =
     let set = set_of c.args.self in
     let bs = c.as_bytes-bytes.result.now in
     let i = c.loop-i.i in
-    let ch = c.char_at-ch.result in
-    let utf8 = c.as_bytes-bytes.ensures.utf8 in
-    let here = c.loop-i.invariant.boundary in
-    let spelt : drop i bs ≡ encode_utf8 ch ++ drop (i + len_utf8 ch) bs = rw c.as_bytes-bytes.ensures.value c.char_at-ch.ensures in
-    let e : front set (drop i bs) ≡ front set (drop (i + len_utf8 ch) bs) + len_utf8 ch =
-    front-past-at set bs i ch utf8 here spelt c.if-byte-ge128.true ∙ cond-true _ _ _ (sym c.allows_past_ascii.ensures ∙ c.if-not-allows_past_ascii.false) in
-    let b = IsCharBoundary-past_char bs (drop (i + len_utf8 ch) bs) i ch (omega (arith, c.loop-i-test.true)) (IsUtf8-drop bs i utf8 here) spelt in
-    rw c.len_utf8-i.ensures.value (record { boundary = b; total = omega (arith, c.loop-i.invariant.total, e) })
+    let n = c.past_ascii_len-length.result in
+    let same : bs ≡ c.args.text.now = c.as_bytes-bytes.ensures.value in
+    let e : front set (drop i bs) ≡ front set (drop (i + n) bs) + n = rw same (c.past_ascii_len-length.ensures.allowed (omega (arith, c.if-length-eq0.false))) in
+    record { boundary = rw same c.past_ascii_len-length.ensures.boundary; total = omega (arith, c.loop-i.invariant.total, e) }
 
 pub pass_blocks-i-requires-clause-here : goal.pass_blocks-i-requires-clause-here
 pass_blocks-i-requires-clause-here c =
@@ -70,15 +68,12 @@ returns-after-loop-i-clause-end c =
     let none : front set (drop i bs) ≡ 0 = front-end set bs i (omega (arith, c.loop-i-test.false)) in
     rw (← c.as_bytes-bytes.ensures.value) (omega (arith, c.loop-i.invariant.total, none))
 
-pub returns-then-not-allows_past_ascii-clause-end : goal.returns-then-not-allows_past_ascii-clause-end
-returns-then-not-allows_past_ascii-clause-end c =
+pub returns-then-length-eq0-clause-end : goal.returns-then-length-eq0-clause-end
+returns-then-length-eq0-clause-end c =
     let set = set_of c.args.self in
     let bs = c.as_bytes-bytes.result.now in
     let i = c.loop-i.i in
-    let ch = c.char_at-ch.result in
-    let spelt : drop i bs ≡ encode_utf8 ch ++ drop (i + len_utf8 ch) bs = rw c.as_bytes-bytes.ensures.value c.char_at-ch.ensures in
-    let none : front set (drop i bs) ≡ 0 =
-    front-past-at set bs i ch c.as_bytes-bytes.ensures.utf8 c.loop-i.invariant.boundary spelt c.if-byte-ge128.true ∙ cond-false _ _ _ (sym c.allows_past_ascii.ensures ∙ c.if-not-allows_past_ascii.true) in
+    let none : front set (drop i bs) ≡ 0 = rw c.as_bytes-bytes.ensures.value (c.past_ascii_len-length.ensures.refused c.if-length-eq0.true) in
     rw (← c.as_bytes-bytes.ensures.value) (omega (arith, c.loop-i.invariant.total, none))
 
 pub returns-then-not-allows_pct_encoded-clause-end : goal.returns-then-not-allows_pct_encoded-clause-end

@@ -1,0 +1,7 @@
+use Rattle.std.proofs.Common.{not, ap, ◌∙◌}
+use Rattle.uri_pct.specs.Texts.{is_unencoded}
+use Rattle.uri_pct.proofs.Percent.{lacks_unless_found}
+use Rattle.uri_pct.proofs.decode.Decode.is_unencoded.Goals as goal
+
+pub returns : goal.returns
+returns c = ap not c.contains.ensures.value ∙ lacks_unless_found 37 c.as_bytes.result.now ∙ ap is_unencoded c.as_bytes.ensures.value
