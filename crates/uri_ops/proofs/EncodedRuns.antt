@@ -1,8 +1,8 @@
 -- The bytes of a text are encoded in runs.
-use Rattle.std.proofs.Common.{◌≡◌, ℕ, suc, ◌+◌, ◌-◌, ◌<◌, ◌≤◌, List, [], ◌∷◌, ◌++◌, length, get_or, take, drop, sym, ap, subst, ◌∙◌, arith, append_assoc}
+use Rattle.std.proofs.Common.{◌≡◌, ℕ, zero, suc, ◌+◌, ◌-◌, ◌<◌, ◌≤◌, List, [], ◌∷◌, ◌++◌, length, get_or, take, drop, sym, ap, subst, ◌∙◌, arith, append_assoc}
 use Rattle.std.specs.Str.{IsUtf8}
 use Rattle.std.proofs.Math.Seq.{take-suc, take-add}
-use Rattle.std.proofs.lemmas.List.{append-nil, length-drop, get_or-drop, take_all}
+use Rattle.std.proofs.lemmas.List.{append-nil, length-append, length-drop, get_or-drop, take_all}
 use Rattle.uri_ops.specs.Encoded.{encoded_text}
 use Rattle.uri_ops.proofs.EncodedTokens.{octet_text, IsUtf8-encoded}
 use Rattle.uri_ops.proofs.EncodedPaths.{encoded-append, encoded-nil, encoded_first, encoded_octet}
@@ -26,6 +26,23 @@ pub octet_more : (bytes : List ℕ) (i : ℕ) → i < length bytes → 128 ≤ g
 octet_more bytes i h high =
     ap encoded_text (one_more bytes i h) ∙ encoded-append (take i bytes) (get_or bytes i 0 ∷ [])
     ∙ ap (λ t. encoded_text (take i bytes) ++ t) (encoded_octet (get_or bytes i 0) [] high ∙ ap (λ t. octet_text (get_or bytes i 0) ++ t) encoded-nil ∙ append-nil (octet_text (get_or bytes i 0)))
+
+-- a run of ASCII characters
+pub run_plain : (bytes : List ℕ) (n : ℕ) → n ≤ length bytes → ((k : ℕ) → k < n → get_or bytes k 0 < 128) → encoded_text (take n bytes) ≡ take n bytes
+run_plain bytes zero h low = encoded-nil
+run_plain bytes (suc n) h low =
+    let e : n + 1 ≡ suc n = omega arith in
+    subst (λ m. encoded_text (take m bytes) ≡ take m bytes) e (plain_more bytes n (omega arith) (low n (omega arith)) (run_plain bytes n (omega arith) (λ k l. low k (omega arith))))
+
+-- how long the encoded text is, with one more byte
+pub longer_by_one : (bytes : List ℕ) (i : ℕ) → i < length bytes → get_or bytes i 0 < 128 → length (encoded_text (take (i + 1) bytes)) ≡ length (encoded_text (take i bytes)) + 1
+longer_by_one bytes i h low =
+    let more = encoded_text (take i bytes) in
+    ap length (ap encoded_text (one_more bytes i h) ∙ encoded-append (take i bytes) (get_or bytes i 0 ∷ []) ∙ ap (λ t. more ++ t) (encoded_first (get_or bytes i 0) [] low ∙ ap (λ t. get_or bytes i 0 ∷ t) encoded-nil))
+    ∙ length-append more (get_or bytes i 0 ∷ [])
+
+pub longer_by_three : (bytes : List ℕ) (i : ℕ) → i < length bytes → 128 ≤ get_or bytes i 0 → length (encoded_text (take (i + 1) bytes)) ≡ length (encoded_text (take i bytes)) + 3
+longer_by_three bytes i h high = ap length (octet_more bytes i h high) ∙ length-append (encoded_text (take i bytes)) (octet_text (get_or bytes i 0))
 
 pub utf8_encoded : (text : List ℕ) → IsUtf8 text → IsUtf8 (encoded_text text)
 utf8_encoded text u = IsUtf8-encoded text u
