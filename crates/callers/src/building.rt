@@ -1,11 +1,10 @@
 //! Builders that are handed a closure.
 #![tactic(auto)]
 
+use fluent_uri::UriRef;
 use fluent_uri::build::{AsHost, AsPort, BuildError, Builder, WithEncoder};
-use fluent_uri::component::Scheme;
 use fluent_uri::pct_enc::EStr;
 use fluent_uri::pct_enc::encoder::{Path, Query, RegName};
-use fluent_uri::{Uri, UriRef};
 use std::alloc::Global;
 
 /// `optional` is handed a step of the builder.
@@ -28,22 +27,6 @@ pub fn with_no_authority(
     UriRef::<String>::builder(alloc)
         .authority_with(|_| UriRef::<String>::builder(alloc))
         .path(path)
-        .build()
-}
-
-/// Each part of a URI, at literals.
-pub fn with_each_part(alloc: Global) -> Result<Uri<String>, BuildError> {
-    Uri::<String>::builder(alloc)
-        .scheme(Scheme::new_or_panic("foo"))
-        .authority_with(|authority| {
-            authority
-                .userinfo(EStr::new_or_panic("user"))
-                .host(EStr::new_or_panic("example.com"))
-                .port(8042)
-        })
-        .path(EStr::new_or_panic("/over/there"))
-        .query(EStr::new_or_panic("name=ferret"))
-        .fragment(EStr::new_or_panic("nose"))
         .build()
 }
 

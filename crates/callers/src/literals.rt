@@ -1,12 +1,14 @@
 //! Texts and characters written out: texts for each encoder, with octets and letters, and schemes.
 
+use fluent_uri::Uri;
+use fluent_uri::build::BuildError;
 use fluent_uri::component::Scheme;
 use fluent_uri::pct_enc::encoder::{
     Data, Fragment, IData, IFragment, IPath, IQuery, IRegName, IUserinfo, Path, Port, Query,
     RegName, Userinfo,
 };
 use fluent_uri::pct_enc::{EStr, EString};
-use std::alloc::AllocError;
+use std::alloc::{AllocError, Global};
 
 /// A text for `Userinfo`.
 pub fn userinfo() -> EStr<'static, Userinfo> {
@@ -96,4 +98,20 @@ pub fn ipath_with_letters() -> EStr<'static, IPath> {
 /// A character past ASCII.
 pub fn push_a_letter(query: &mut EString<IQuery>) -> Result<(), AllocError> {
     query.push('é')
+}
+
+/// A URI, built of each part.
+pub fn built(alloc: Global) -> Result<Uri<String>, BuildError> {
+    Uri::<String>::builder(alloc)
+        .scheme(Scheme::new_or_panic("foo"))
+        .authority_with(|authority| {
+            authority
+                .userinfo(EStr::new_or_panic("user"))
+                .host(EStr::new_or_panic("example.com"))
+                .port(8042)
+        })
+        .path(EStr::new_or_panic("/over/there"))
+        .query(EStr::new_or_panic("name=ferret"))
+        .fragment(EStr::new_or_panic("nose"))
+        .build()
 }

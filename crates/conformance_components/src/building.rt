@@ -4,7 +4,7 @@ use fluent_uri::build::{BuildError, Builder};
 use fluent_uri::component::{Authority, Host, Scheme};
 use fluent_uri::net::{IpAddr, Ipv4Addr, Ipv6Addr};
 use fluent_uri::pct_enc::EStr;
-use fluent_uri::pct_enc::encoder::{Encoder, Port, RegName};
+use fluent_uri::pct_enc::encoder::{Encoder, IRegName, Port, RegName, Userinfo};
 use fluent_uri::{Iri, IriRef, Uri, UriRef};
 use std::process::Abort;
 
@@ -130,13 +130,10 @@ fn authority_of_another_uri(rt: HostRuntime) {
 /// left out.
 #[test]
 fn address_that_a_name_spells(rt: HostRuntime) {
+    let name: EStr<'_, RegName> = part(&rt, "127.0.0.1");
     let uri = Uri::<String>::builder(rt.alloc())
         .scheme(scheme(&rt, "http"))
-        .authority_with(|authority| {
-            authority
-                .host(EStr::<RegName>::new_or_panic("127.0.0.1"))
-                .port_with_default(80, 80)
-        })
+        .authority_with(|authority| authority.host(name).port_with_default(80, 80))
         .path(part(&rt, "/a"))
         .build()
         .expect(&rt, "a URI");
@@ -146,11 +143,7 @@ fn address_that_a_name_spells(rt: HostRuntime) {
     equal(is_ipv4, true).expect(&rt, "an IPv4 address");
     let rootless = Uri::<String>::builder(rt.alloc())
         .scheme(scheme(&rt, "http"))
-        .authority_with(|authority| {
-            authority
-                .host(EStr::<RegName>::new_or_panic("127.0.0.1"))
-                .port_with_default(80, 80)
-        })
+        .authority_with(|authority| authority.host(name).port_with_default(80, 80))
         .path(part(&rt, "a"))
         .build();
     equal(rootless.err(), Some(BuildError::NonemptyRootlessPath)).expect(&rt, "a refusal");
@@ -169,12 +162,9 @@ fn ipv6_address_and_a_port(rt: HostRuntime) {
 
 #[test]
 fn empty_port(rt: HostRuntime) {
+    let name: EStr<'_, RegName> = part(&rt, "h");
     let built = UriRef::<String>::builder(rt.alloc())
-        .authority_with(|authority| {
-            authority
-                .host(EStr::<RegName>::new_or_panic("h"))
-                .port(EStr::<Port>::EMPTY)
-        })
+        .authority_with(|authority| authority.host(name).port(EStr::<Port>::EMPTY))
         .path(part(&rt, ""))
         .build();
     is_uri_ref(&rt, built, "//h:");
@@ -182,13 +172,10 @@ fn empty_port(rt: HostRuntime) {
 
 #[test]
 fn port_that_is_not_the_default(rt: HostRuntime) {
+    let name: EStr<'_, RegName> = part(&rt, "h");
     let built = Uri::<String>::builder(rt.alloc())
         .scheme(scheme(&rt, "http"))
-        .authority_with(|authority| {
-            authority
-                .host(EStr::<RegName>::new_or_panic("h"))
-                .port_with_default(8080, 80)
-        })
+        .authority_with(|authority| authority.host(name).port_with_default(8080, 80))
         .path(part(&rt, "/"))
         .build();
     is_uri(&rt, built, "http://h:8080/");
@@ -197,14 +184,11 @@ fn port_that_is_not_the_default(rt: HostRuntime) {
 /// The example of RFC 3986, section 3, with userinfo.
 #[test]
 fn each_part(rt: HostRuntime) {
+    let user: EStr<'_, Userinfo> = part(&rt, "user");
+    let name: EStr<'_, RegName> = part(&rt, "example.com");
     let built = Uri::<String>::builder(rt.alloc())
         .scheme(scheme(&rt, "foo"))
-        .authority_with(|authority| {
-            authority
-                .userinfo(EStr::new_or_panic("user"))
-                .host(EStr::<RegName>::new_or_panic("example.com"))
-                .port(8042)
-        })
+        .authority_with(|authority| authority.userinfo(user).host(name).port(8042))
         .path(part(&rt, "/over/there"))
         .query(part(&rt, "name=ferret"))
         .fragment(part(&rt, "nose"))
@@ -230,8 +214,9 @@ fn address_of_either_version(rt: HostRuntime) {
         .build()
         .expect(&rt, "an IRI reference");
     equal(reference.as_str(), "//127.0.0.1:80").expect(&rt, "an IRI reference");
+    let name: EStr<'_, IRegName> = part(&rt, "é");
     let named = IriRef::<String>::builder(rt.alloc())
-        .authority_with(|authority| authority.host(EStr::new_or_panic("é")))
+        .authority_with(|authority| authority.host(name))
         .path(part(&rt, ""))
         .build()
         .expect(&rt, "an IRI reference");

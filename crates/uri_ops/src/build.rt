@@ -112,7 +112,8 @@ impl<R: RiMaybeRef> Builder<R, NonRefStart> {
 }
 
 impl<R, S: State> Builder<R, S> {
-    /// The same builder in a later state: the parts in between are left out.
+    /// The same builder in a later state, as by `advance::<AuthorityEnd>()`: the parts in between
+    /// are left out.
     pub fn advance<T: State>(self) -> Builder<R, T>
     where
         S: AdvanceTo<T>,
@@ -128,6 +129,7 @@ impl<R, S: State> Builder<R, S> {
     /// builder in the state behind the step.
     ///
     /// The step may be called on every builder, as each method of `Builder` may that asks nothing.
+    /// `optional(Builder::query, None)` adds nothing.
     pub fn optional<F, V, T: State>(self, step: F, value: Option<V>) -> Builder<R, T>
     where
         S: AdvanceTo<T>,
@@ -164,7 +166,7 @@ impl<R: RiMaybeRef, S: State> Builder<R, S> {
         }
     }
 
-    /// Gives the scheme (RFC 3986, section 3.1).
+    /// Gives the scheme (RFC 3986, section 3.1). `Scheme::new_or_panic("http")` writes `http:`.
     ///
     /// The case of its letters makes no difference; it should be lower.
     pub fn scheme(self, scheme: Scheme<'_>) -> Builder<R, SchemeEnd>
@@ -223,6 +225,7 @@ impl<R: RiMaybeRef, S: State> Builder<R, S> {
     }
 
     /// Gives the authority (RFC 3986, section 3.2): the empty one, or that of another reference.
+    /// `authority(Authority::EMPTY)` writes `//`.
     pub fn authority(
         self,
         authority: Authority<'_, R::UserinfoE, R::RegNameE>,
@@ -242,9 +245,7 @@ impl<R: RiMaybeRef, S: State> Builder<R, S> {
         }
     }
 
-    /// Gives the userinfo (RFC 3986, section 3.2.1), without its `@`.
-    ///
-    /// `authority.userinfo(EStr::new_or_panic("user"))` writes `user@`.
+    /// Gives the userinfo (RFC 3986, section 3.2.1), without its `@`. `EStr::EMPTY` writes `@`.
     pub fn userinfo(self, userinfo: EStr<'_, R::UserinfoE>) -> Builder<R, UserinfoEnd>
     where
         S: To<UserinfoEnd>,
@@ -320,7 +321,7 @@ impl<R: RiMaybeRef, S: State> Builder<R, S> {
         }
     }
 
-    /// Gives the path (RFC 3986, section 3.3).
+    /// Gives the path (RFC 3986, section 3.3). `EStr::EMPTY` writes nothing.
     pub fn path(self, path: EStr<'_, R::PathE>) -> Builder<R, PathEnd>
     where
         S: To<PathEnd>,
@@ -335,7 +336,7 @@ impl<R: RiMaybeRef, S: State> Builder<R, S> {
         }
     }
 
-    /// Gives the query (RFC 3986, section 3.4), without its `?`.
+    /// Gives the query (RFC 3986, section 3.4), without its `?`. `EStr::EMPTY` writes `?`.
     pub fn query(self, query: EStr<'_, R::QueryE>) -> Builder<R, QueryEnd>
     where
         S: To<QueryEnd>,
@@ -350,7 +351,7 @@ impl<R: RiMaybeRef, S: State> Builder<R, S> {
         }
     }
 
-    /// Gives the fragment (RFC 3986, section 3.5), without its `#`.
+    /// Gives the fragment (RFC 3986, section 3.5), without its `#`. `EStr::EMPTY` writes `#`.
     pub fn fragment(self, fragment: EStr<'_, R::FragmentE>) -> Builder<R, FragmentEnd>
     where
         S: To<FragmentEnd>,
@@ -370,10 +371,8 @@ impl<R: RiMaybeRef, S: State> Builder<R, S> {
     ///
     /// # Errors
     ///
-    /// `OutOfMemory` exactly if a step was refused memory. Else `NonemptyRootlessPath` if there is
-    /// an authority, and the path is neither empty nor begins with `/`; `PathStartsWithDoubleSlash`
-    /// if there is no authority, and the path begins with `//`; `FirstPathSegmentContainsColon` if
-    /// there is neither a scheme nor an authority, and the first segment of the path holds `:`.
+    /// `OutOfMemory` exactly if a step was refused memory. Else `NonemptyRootlessPath`,
+    /// `PathStartsWithDoubleSlash` or `FirstPathSegmentContainsColon`, where it applies.
     pub fn build(self) -> Result<R, BuildError>
     where
         S: To<End>,
