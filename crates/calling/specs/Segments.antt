@@ -1,0 +1,16 @@
+-- The path of segments: RFC 3986, section 3.3.
+use Rattle.std.specs.Prelude.{ℕ, Bool, ◌||◌, bytes_eq, List, [], ◌∷◌, ◌++◌, codes, String}
+use Rattle.std.specs.Prelude.{string_bytes}
+use Rattle.fluent_uri.specs.Encoding.{encode_text}
+use Rattle.fluent_uri.specs.Sets.{data_set}
+use Rattle.fluent_uri.specs.Tokens.{print}
+
+-- `.` or `..`
+abbrev pub is_dots : {Z : Type 0} → String Z → Bool
+is_dots s = bytes_eq (string_bytes s) (codes ".") || bytes_eq (string_bytes s) (codes "..")
+
+-- the segments behind a path, each as data behind a `/`
+abbrev pub path_from : {Z : Type 0} → List ℕ → List (String Z) → List ℕ
+path_from path [] = path
+path_from path (segment ∷ segments) =
+    path_from ((path ++ codes "/") ++ print (encode_text data_set (string_bytes segment))) segments

@@ -1,0 +1,15 @@
+//! What users of `fluent_uri` write: small programs over that crate alone, each with a contract
+//! that says what it does. `docs/CALLING.md` goes through them, and quotes them.
+#![tactic(auto, using(fluent_uri::proofs::Calling::calling))]
+
+pub mod frontier;
+pub mod links;
+pub mod normal;
+pub mod pairs;
+pub mod parts;
+pub mod reach;
+pub mod refusal;
+pub mod segments;
+pub mod service;
+pub mod task;
+pub mod visits;
