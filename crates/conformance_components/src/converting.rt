@@ -106,8 +106,16 @@ fn owned_values_keep_their_texts(rt: HostRuntime) {
 /// RFC 3987, section 3.1.
 const IRIS: &[(&str, &str)] = &[
     (
-        "http://example.com/\u{10300}",
-        "http://example.com/%F0%90%8C%80",
+        "http://example.com/\u{10300}\u{10301}\u{10302}",
+        "http://example.com/%F0%90%8C%80%F0%90%8C%81%F0%90%8C%82",
+    ),
+    (
+        "http://résumé.example.org",
+        "http://r%C3%A9sum%C3%A9.example.org",
+    ),
+    (
+        "foo://user@example.com:8042/over/there?name=ferret#nose",
+        "foo://user@example.com:8042/over/there?name=ferret#nose",
     ),
     (
         "http://www.example.org/red%09rosé#red",

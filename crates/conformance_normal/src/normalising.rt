@@ -67,8 +67,41 @@ const REFERENCES: &[(&str, &str)] = &[
     ("//[1:0:0:2:3:0:0:4]", "//[1::2:3:0:0:4]"),
     ("//[1:0:2:3:4:5:6:7]", "//[1:0:2:3:4:5:6:7]"),
     ("//[v1FdE.AddR]", "//[v1fde.addr]"),
-    // A port: RFC 3986, section 6.2.3.
+    ("//127.0.0.1", "//127.0.0.1"),
+    ("//[::1]", "//[::1]"),
+    ("//[0000:0000:0000::1]", "//[::1]"),
+    // A port, and an empty path: RFC 3986, section 6.2.3.
     ("http://example.com:/", "http://example.com/"),
+    ("http://example.com:80/", "http://example.com/"),
+    ("http://example.com/", "http://example.com/"),
+    ("http://example.com", "http://example.com"),
+    // What else the tests of fluent-uri 0.4.1 assert.
+    ("%3a", "%3A"),
+    ("HTTP://www.EXAMPLE.com/", "http://www.example.com/"),
+    ("HTTP://%45XAMPLE.%43Om", "http://example.com"),
+    ("http://a/../../../g", "http://a/g"),
+    ("foo/../bar", "foo/../bar"),
+    ("foo:/bar/./../baz", "foo:/baz"),
+    (
+        "%41%42%43%44%45%46%47%48%49%4A%4B%4C%4D%4E%4F%50%51%52%53%54%55%56%57%58%59%5A",
+        "ABCDEFGHIJKLMNOPQRSTUVWXYZ",
+    ),
+    (
+        "%61%62%63%64%65%66%67%68%69%6A%6B%6C%6D%6E%6F%70%71%72%73%74%75%76%77%78%79%7A",
+        "abcdefghijklmnopqrstuvwxyz",
+    ),
+    (
+        "%30%31%32%33%34%35%36%37%38%39%2D%2E%5F%7E",
+        "0123456789-._~",
+    ),
+    (
+        "%3A%2F%3F%23%5B%5D%40%21%24%26%27%28%29%2A%2B%2C%3B%3D%25",
+        "%3A%2F%3F%23%5B%5D%40%21%24%26%27%28%29%2A%2B%2C%3B%3D%25",
+    ),
+    (
+        "foo://user@example.com:8042/over/there?name=ferret#nose",
+        "foo://user@example.com:8042/over/there?name=ferret#nose",
+    ),
 ];
 
 #[test]
@@ -141,6 +174,19 @@ fn international_references(rt: HostRuntime) {
 const IRIS: &[(&str, &str)] = &[
     ("HTTP://R%c3%89/É", "http://rÉ/É"),
     ("HTTP://R%c3%89/%C3%89", "http://rÉ/É"),
+    // RFC 3987, section 3.2.1.
+    (
+        "http://www.example.org/r%E9sum%E9.html",
+        "http://www.example.org/r%E9sum%E9.html",
+    ),
+    (
+        "http://www.example.org/D%C3%BCrst",
+        "http://www.example.org/Dürst",
+    ),
+    (
+        "http://www.example.org/D%FCrst",
+        "http://www.example.org/D%FCrst",
+    ),
 ];
 
 #[test]

@@ -80,14 +80,19 @@ const NORMAL_EXAMPLES: &[(&str, &str)] = &[
     ("?y", "http://a/b/c/d;p?y"),
     ("g?y", "http://a/b/c/g?y"),
     ("#s", "http://a/b/c/d;p?q#s"),
+    ("g#s", "http://a/b/c/g#s"),
     ("g?y#s", "http://a/b/c/g?y#s"),
     (";x", "http://a/b/c/;x"),
+    ("g;x", "http://a/b/c/g;x"),
+    ("g;x?y#s", "http://a/b/c/g;x?y#s"),
     ("", "http://a/b/c/d;p?q"),
     (".", "http://a/b/c/"),
+    ("./", "http://a/b/c/"),
     ("..", "http://a/b/"),
     ("../", "http://a/b/"),
     ("../g", "http://a/b/g"),
     ("../..", "http://a/"),
+    ("../../", "http://a/"),
     ("../../g", "http://a/g"),
 ];
 
@@ -104,9 +109,12 @@ fn normal_examples(rt: HostRuntime) {
 /// References and their targets (RFC 3986, section 5.4.2), in the strict form.
 const ABNORMAL_EXAMPLES: &[(&str, &str)] = &[
     ("../../../g", "http://a/g"),
+    ("../../../../g", "http://a/g"),
     ("/./g", "http://a/g"),
     ("/../g", "http://a/g"),
     ("g.", "http://a/b/c/g."),
+    (".g", "http://a/b/c/.g"),
+    ("g..", "http://a/b/c/g.."),
     ("..g", "http://a/b/c/..g"),
     ("./../g", "http://a/b/g"),
     ("./g/.", "http://a/b/c/g/"),
@@ -114,7 +122,10 @@ const ABNORMAL_EXAMPLES: &[(&str, &str)] = &[
     ("g/../h", "http://a/b/c/h"),
     ("g;x=1/./y", "http://a/b/c/g;x=1/y"),
     ("g;x=1/../y", "http://a/b/c/y"),
+    ("g?y/./x", "http://a/b/c/g?y/./x"),
     ("g?y/../x", "http://a/b/c/g?y/../x"),
+    ("g#s/./x", "http://a/b/c/g#s/./x"),
+    ("g#s/../x", "http://a/b/c/g#s/../x"),
     ("http:g", "http:g"),
 ];
 
@@ -157,6 +168,14 @@ const OTHER_TARGETS: &[(&str, &str, &str)] = &[
     ("http://a/b/%2E%2e", ".%2E/c", "http://a/c"),
     ("foo:/bar/..", "g", "foo:/g"),
     ("http://a//", "..", "http://a/"),
+    // A base without an authority whose path begins with no `/`.
+    ("foo:bar", "", "foo:bar"),
+    ("foo:bar", "#baz", "foo:bar#baz"),
+    ("foo:bar", "http://example.com/", "http://example.com/"),
+    ("foo:bar", "foo:baz", "foo:baz"),
+    ("foo:bar", "bar:baz", "bar:baz"),
+    ("foo:bar/..", "", "foo:bar/.."),
+    ("foo:bar/..", "#a", "foo:bar/..#a"),
 ];
 
 #[test]
@@ -195,6 +214,21 @@ const REFUSED: &[(&str, &str, ResolveError)] = &[
         ResolveError::InvalidReferenceAgainstOpaqueBase,
     ),
     ("foo:bar#x", "//g", ResolveError::BaseWithFragment),
+    (
+        "http://example.com/#title1",
+        "foo",
+        ResolveError::BaseWithFragment,
+    ),
+    (
+        "foo:bar",
+        "baz",
+        ResolveError::InvalidReferenceAgainstOpaqueBase,
+    ),
+    (
+        "foo:bar",
+        "?baz",
+        ResolveError::InvalidReferenceAgainstOpaqueBase,
+    ),
     ("foo:", "g", ResolveError::InvalidReferenceAgainstOpaqueBase),
     (
         "foo:bar/..",
@@ -221,8 +255,11 @@ fn refused_references(rt: HostRuntime) {
 /// Bases and references whose dot segments underflow (RFC 3986, section 5.2.4).
 const UNDERFLOWS: &[(&str, &str)] = &[
     ("http://a/b/c/d;p?q", "../../../g"),
+    ("http://a/b/c/d;p?q", "../../../../g"),
     ("http://a/b/c/d;p?q", "/../g"),
+    ("foo:/..", ""),
     ("foo:/..", "?a"),
+    ("foo:/..", "#a"),
     ("http://a/b/%2E%2e", ".%2E/c"),
 ];
 

@@ -5,6 +5,10 @@
 #[cfg(test)]
 mod addresses;
 #[cfg(test)]
+mod examples;
+#[cfg(test)]
+mod hosts;
+#[cfg(test)]
 mod original;
 #[cfg(test)]
 mod parsing;
