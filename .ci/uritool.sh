@@ -3,7 +3,7 @@
 # with them stands in no contract. `rt ci` builds the program; another may be named.
 set -u
 program=${1:-$(dirname "$0")/../crates/uritool/out/uritool}
-usage='usage: uritool parse KIND TEXT | normalize KIND TEXT | resolve uri|iri BASE REF'
+usage='usage: uritool parse KIND TEXT | normalize KIND TEXT | resolve uri|iri BASE REF | links BASE REF...'
 work=$(mktemp -d)
 trap 'rm -rf "$work"' EXIT
 trap 'exit 1' HUP INT TERM
@@ -35,6 +35,8 @@ run normalize uri 'HTTP://h:80/%7e'
 ends 'a normal form' 0 "http://h/~${newline}" ''
 run resolve uri 'http://a/b/c/d;p?q' '../g'
 ends 'a target' 0 "http://a/b/g${newline}" ''
+run links 'foo:bar' 'foo:x' '//g'
+ends 'links' 0 "new 0 foo:x${newline}refused when base has a rootless path and no authority, reference should either have scheme, be empty or start with '#'${newline}" ''
 run parse uri 'a b'
 ends 'a refused text' 1 '' "error: unexpected character at index 1${newline}"
 run

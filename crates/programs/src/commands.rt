@@ -10,7 +10,7 @@ use uri_commands::refusal::Refusal;
 use uri_commands::run::run;
 
 const USAGE: &str =
-    "usage: uritool parse KIND TEXT | normalize KIND TEXT | resolve uri|iri BASE REF\n";
+    "usage: uritool parse KIND TEXT | normalize KIND TEXT | resolve uri|iri BASE REF | links BASE REF...\n";
 
 const WHOLE: &[&str] = &[
     "parse",
@@ -93,6 +93,32 @@ const ANSWERED: &[(&[&str], &str)] = &[
         "HTTP://A/d\n",
     ),
     (&["resolve", "iri", "http://é/a/b", "../ü"], "http://é/ü\n"),
+    // Links.
+    (
+        &[
+            "links",
+            "http://x/a/b",
+            "//X:80/",
+            "/",
+            "c",
+            "../a/%63",
+            "#t",
+        ],
+        "new 0 http://x/\nknown 0 http://x/\nnew 1 http://x/a/c\nknown 1 http://x/a/c\nnew 2 http://x/a/b#t\n",
+    ),
+    (
+        &["links", "foo:bar", "//g", "foo:x"],
+        "refused when base has a rootless path and no authority, reference should either have scheme, be empty or start with '#'\nnew 0 foo:x\n",
+    ),
+    (
+        &["links", "http://x/#f", "a"],
+        "refused base should not have fragment\n",
+    ),
+    // A base with a fragment refuses each reference, one with a scheme too.
+    (
+        &["links", "foo:bar#x", "//g", "s:"],
+        "refused base should not have fragment\nrefused base should not have fragment\n",
+    ),
 ];
 
 #[test]
@@ -179,6 +205,19 @@ const REFUSED: &[(&[&str], &str)] = &[
         &["resolve", "uri", "foo:bar", "//g"],
         "error: when base has a rootless path and no authority, reference should either have scheme, be empty or start with '#'\n",
     ),
+    // A base of links, or one of the references, of which the first is told.
+    (
+        &["links", "foo", "%"],
+        "error: base: unexpected character at index 3\n",
+    ),
+    (
+        &["links", "http://x/", "a", "%"],
+        "error: reference: invalid percent-encoded octet at index 0\n",
+    ),
+    (
+        &["links", "http://x/#f", "a b", "a", "%"],
+        "error: reference: unexpected character at index 1\n",
+    ),
 ];
 
 #[test]
@@ -230,7 +269,9 @@ const OTHERS: &[&[&str]] = &[
     &["resolve", "uri-ref", "http://a/", "b"],
     &["resolve", "iri-ref", "http://a/", "b"],
     &["resolve", "uri", "http://a/", "b", "c"],
-    &["links", "http://a/", "b"],
+    &["links"],
+    &["links", "http://x/"],
+    &["link", "http://x/", "a"],
 ];
 
 #[test]
@@ -256,6 +297,9 @@ fn says_that_the_output_failed(rt: HostRuntime) {
     }
     output_fails(&rt, alloc, &["normalize", "uri", "http://a/"], 0);
     output_fails(&rt, alloc, &["resolve", "uri", "http://a/", "b"], 0);
+    for writes in 0..3 {
+        output_fails(&rt, alloc, &["links", "foo:bar", "//g", "foo:x"], writes);
+    }
     let status = run_words(alloc, WHOLE, &mut Takes(100), &mut Vec::new(alloc));
     equal(status.expect(&rt, "memory"), 0).expect(&rt, "status");
 }
@@ -266,6 +310,8 @@ const WITHOUT_ERRORS: &[(&[&str], u8)] = &[
     (&["parse", "uri-ref", "%"], 1),
     (&["normalize", "uri-ref", "a"], 0),
     (&["normalize", "uri-ref", "%"], 1),
+    (&["links", "http://x/#f", "a"], 0),
+    (&["links", "http://x/", "%"], 1),
     (&["parse", "url", "a"], 2),
 ];
 

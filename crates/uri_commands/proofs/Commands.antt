@@ -1,11 +1,14 @@
 -- Which command the words are.
-use Rattle.std.proofs.Common.{◌≡◌, ◌≢◌, ◌≤◌, ◌<◌, ℕ, eqb, List, [], ◌∷◌, length, get_or, String, string_bytes, refl, sym, ap, ◌∙◌, arith}
-use Rattle.std.specs.Prelude.{if◌then◌else◌}
+use Rattle.std.proofs.Common.{◌≡◌, ◌≢◌, ◌≤◌, ◌<◌, ◌-◌, take, ℕ, eqb, true, false, List, [], ◌∷◌, codes, drop, length, get_or, String, string_bytes, refl, sym, ap, ◌∙◌, arith}
+use Rattle.std.proofs.lemmas.List.{length-drop, length-map, take_all}
+use Rattle.std.specs.Prelude.{MatchOption, Option, Some, None, if◌then◌else◌}
+use Rattle.uri_commands.specs.Asked.{asked}
+use Rattle.uri_commands.specs.declared.command.Command.{Command as Words}
 use Rattle.uri_commands.specs.declared.command.BaseName.{BaseName}
 use Rattle.uri_commands.specs.declared.command.BaseName.TheVariants as bases
 use Rattle.uri_commands.specs.declared.command.KindName.{KindName}
 use Rattle.uri_commands.specs.declared.command.KindName.TheVariants.{Uri, UriRef, Iri, IriRef}
-use Rattle.uri_commands.specs.Commands.{Command, Parse, Normalize, Resolve, IsCommand, word_of_base, words_of, output_of, texts}
+use Rattle.uri_commands.specs.Commands.{Command, Parse, Normalize, Resolve, Links, AreLinks, IsCommand, word_of_base, words_of, output_of, texts}
 
 -- the bytes of three words
 pub texts_of_three : {Z : Type 0} (words : List (String Z)) (a b c : String Z) → 3 ≤ length words → length words < 4
@@ -16,6 +19,22 @@ texts_of_three (u ∷ []) a b c least below x y z = absurd (omega arith)
 texts_of_three (u ∷ v ∷ []) a b c least below x y z = absurd (omega arith)
 texts_of_three (u ∷ v ∷ w ∷ []) a b c least below x y z = cc
 texts_of_three (u ∷ v ∷ w ∷ t ∷ rest) a b c least below x y z = absurd (omega arith)
+
+before_rest : {Z : Type 0} (words : List (String Z)) (a b c : String Z) → 3 ≤ length words
+    → a ≡ get_or words 0 a → b ≡ get_or words 1 b → c ≡ get_or words 2 c
+    → texts words ≡ string_bytes a ∷ string_bytes b ∷ string_bytes c ∷ texts (drop 3 words)
+before_rest [] a b c least x y z = absurd (omega arith)
+before_rest (u ∷ []) a b c least x y z = absurd (omega arith)
+before_rest (u ∷ v ∷ []) a b c least x y z = absurd (omega arith)
+before_rest (u ∷ v ∷ w ∷ rest) a b c least x y z = cc
+
+-- the bytes of three words and of those behind them
+pub texts_of_more : {Z : Type 0} (words : List (String Z)) (a b c : String Z) → 3 ≤ length words
+    → a ≡ get_or words 0 a → b ≡ get_or words 1 b → c ≡ get_or words 2 c
+    → texts words ≡ string_bytes a ∷ string_bytes b ∷ string_bytes c ∷ texts (take (length words - 3) (drop 3 words))
+texts_of_more words a b c least x y z =
+    let rest : take (length words - 3) (drop 3 words) ≡ drop 3 words = take_all (length words - 3) (drop 3 words) (omega (arith, length-drop 3 words)) in
+    before_rest words a b c least x y z ∙ ap (λ l. string_bytes a ∷ string_bytes b ∷ string_bytes c ∷ texts l) (sym rest)
 
 -- the bytes of four words
 pub texts_of_four : {Z : Type 0} (words : List (String Z)) (a b c d : String Z) → 4 ≤ length words → length words < 5
@@ -44,7 +63,8 @@ command_named words =
     let text = get_or words 2 [] in
     if eqb first 112 then Parse (kind_named word) text
     else if eqb first 110 then Normalize (kind_named word) text
-    else Resolve (base_named word) text (get_or words 3 [])
+    else if eqb first 114 then Resolve (base_named word) text (get_or words 3 [])
+    else Links word text (drop 3 words)
 
 command_named-words_of : (a : Command) → command_named (words_of a) ≡ a
 unfolding command_named kind_named base_named
@@ -58,6 +78,7 @@ command_named-words_of (Normalize Iri s) = refl
 command_named-words_of (Normalize IriRef s) = refl
 command_named-words_of (Resolve bases.Uri s r) = refl
 command_named-words_of (Resolve bases.Iri s r) = refl
+command_named-words_of (Links s r rs) = refl
 
 -- no two commands have the same words
 pub words_of_injective : (a b : Command) → words_of a ≡ words_of b → a ≡ b
@@ -67,14 +88,40 @@ words_of_injective a b same = sym (command_named-words_of a) ∙ ap command_name
 pub output_of_words : (a b : Command) → words_of a ≡ words_of b → output_of a ≡ output_of b
 output_of_words a b same = ap output_of (words_of_injective a b same)
 
--- four words whose second is no kind of base are no command
-pub not_a_base : (words : List (List ℕ)) (a b c d : List ℕ) → words ≡ a ∷ b ∷ c ∷ d ∷ [] → ((k : BaseName) → b ≢ word_of_base k) → Prim.¬◌ (IsCommand words)
-not_a_base words a b c d e none (Parse name text, is) =
+pub length_of_words : {Z : Type 0} (words : List (String Z)) (others : List (List ℕ)) → texts words ≡ others → length words ≡ length others
+length_of_words words others is = sym (length-map words string_bytes) ∙ ap length is
+
+-- four words that begin with `resolve` and whose second is no kind of base are no command
+pub not_a_base : (words : List (List ℕ)) (a b c d : List ℕ) → words ≡ a ∷ b ∷ c ∷ d ∷ [] → a ≡ codes "resolve" → ((k : BaseName) → b ≢ word_of_base k) → Prim.¬◌ (IsCommand words)
+not_a_base words a b c d e first none (Parse name text, is) =
     let four : length words ≡ 4 = ap length e in
     let three : length words ≡ 3 = ap length is in
     absurd (omega arith)
-not_a_base words a b c d e none (Normalize name text, is) =
+not_a_base words a b c d e first none (Normalize name text, is) =
     let four : length words ≡ 4 = ap length e in
     let three : length words ≡ 3 = ap length is in
     absurd (omega arith)
-not_a_base words a b c d e none (Resolve name base reference, is) = none name (ap (λ l. get_or l 1 []) (sym e ∙ is))
+not_a_base words a b c d e first none (Resolve name base reference, is) = none name (ap (λ l. get_or l 1 []) (sym e ∙ is))
+not_a_base words a b c d e first none (Links base reference others, is) =
+    let same : codes "links" ≡ codes "resolve" = ap (λ l. get_or l 0 []) (sym is ∙ e) ∙ first in
+    let no : true ≡ false = ap (λ l. eqb (length l) 5) same in cc
+
+of_command : (words : List (List ℕ)) → Prim.¬◌ (AreLinks words)
+    → ((name : KindName) (text : List ℕ) → words ≢ words_of (Parse name text))
+    → ((name : KindName) (text : List ℕ) → words ≢ words_of (Normalize name text))
+    → ((name : BaseName) (base reference : List ℕ) → words ≢ words_of (Resolve name base reference))
+    → (command : Command) → words ≢ words_of command
+of_command words links parse normalize resolve (Parse name text) = parse name text
+of_command words links parse normalize resolve (Normalize name text) = normalize name text
+of_command words links parse normalize resolve (Resolve name base reference) = resolve name base reference
+of_command words links parse normalize resolve (Links base reference others) = λ is. links (base, reference, others, is)
+
+-- words that are `links` or nothing, where they are none of the others
+pub or_links : (words : List (List ℕ)) (result : Option Words) → MatchOption result (Prim.¬◌ (AreLinks words)) (λ c. words ≡ words_of (asked c))
+    → ((name : KindName) (text : List ℕ) → words ≢ words_of (Parse name text))
+    → ((name : KindName) (text : List ℕ) → words ≢ words_of (Normalize name text))
+    → ((name : BaseName) (base reference : List ℕ) → words ≢ words_of (Resolve name base reference))
+    → MatchOption result (Prim.¬◌ (IsCommand words)) (λ c. words ≡ words_of (asked c))
+or_links words (Some c) is parse normalize resolve = is
+or_links words None none parse normalize resolve =
+    λ command. of_command words none parse normalize resolve command.0 command.1

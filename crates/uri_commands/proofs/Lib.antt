@@ -4,3 +4,5 @@ pub mod Targets
 pub mod Fronts
 pub mod Refusals
 pub mod Outputs
+pub mod LinkLines
+pub mod LinkWords

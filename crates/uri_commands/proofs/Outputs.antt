@@ -1,11 +1,12 @@
 -- A command that has an answer, which the output does not take.
-use Rattle.std.proofs.Common.{◌≡◌, List, ◌++◌, ℕ, Some, None, Result, codes, ap}
+use Rattle.std.proofs.Common.{◌≡◌, List, ◌∷◌, ◌++◌, ℕ, true, Some, None, Result, codes, ap}
 use Rattle.std.specs.Prelude.{IfErr, if◌then◌else◌}
 use Rattle.std.specs.Result.{IsErrAnd}
 use Rattle.fluent_uri.specs.Components.{components}
-use Rattle.fluent_uri.specs.Grammar.{IsOfKind}
-use Rattle.uri_commands.specs.Commands.{Parse, Normalize, Resolve, kind_of, kind_of_base, kind_of_references, normal_form_of, target_text}
+use Rattle.fluent_uri.specs.Grammar.{IsOfKind, uri, uri_ref}
+use Rattle.uri_commands.specs.Commands.{Parse, Normalize, Resolve, Links, are_of_kind, kind_of, kind_of_base, kind_of_references, normal_form_of, target_text}
 use Rattle.uri_commands.specs.Lines.{component_lines}
+use Rattle.uri_commands.specs.Links.{link_lines}
 use Rattle.uri_commands.specs.Refusals.{IsRefusalOf}
 use Rattle.uri_commands.specs.declared.command.BaseName.{BaseName}
 use Rattle.uri_commands.specs.declared.command.KindName.{KindName}
@@ -31,3 +32,9 @@ pub resolve_failed : {A : Type 0} (name : BaseName) (base reference target : Lis
     → IfErr result (λ why. why ≡ OutputFailed) → IfErr result (IsRefusalOf (Resolve name base reference))
 resolve_failed name base reference target result b r t given =
     refused_as (IsRefusalOf (Resolve name base reference)) result OutputFailed given (target ++ codes "\n", cc (b, r, t))
+
+pub links_failed : {A : Type 0} (base reference : List ℕ) (others : List (List ℕ)) (result : Result A Refusal)
+    → IsOfKind uri base → are_of_kind uri_ref (reference ∷ others) ≡ true
+    → IsErrAnd result (λ why. why ≡ OutputFailed) → IfErr result (IsRefusalOf (Links base reference others))
+links_failed base reference others result b r given =
+    refused_with (IsRefusalOf (Links base reference others)) result OutputFailed given (link_lines base (reference ∷ others), cc (b, r))

@@ -1,4 +1,4 @@
-use Rattle.uri_commands.specs.Commands.{Command, Parse, Normalize, Resolve}
+use Rattle.uri_commands.specs.Commands.{Command, Parse, Normalize, Resolve, Links, texts}
 use Rattle.uri_commands.specs.declared.command.Command.{Command as Words}
 use Rattle.uri_commands.specs.declared.command.Command.TheVariants as words
 
@@ -7,3 +7,4 @@ abbrev pub asked : Words → Command
 asked (words.Parse name text) = Parse name text.now
 asked (words.Normalize name text) = Normalize name text.now
 asked (words.Resolve name base reference) = Resolve name base.now reference.now
+asked (words.Links base reference others) = Links base.now reference.now (texts others.now)

@@ -1,6 +1,7 @@
 -- What the words of a command line ask for, and what is printed then.
-use Rattle.std.specs.Prelude.{◌≡◌, ℕ, ◌&&◌, List, [], ◌∷◌, ◌++◌, codes, map, String, string_bytes, Option, Some, None, option_map, if◌then◌else◌}
+use Rattle.std.specs.Prelude.{◌≡◌, Bool, ℕ, ◌&&◌, List, [], ◌∷◌, ◌++◌, codes, map, String, string_bytes, Option, Some, None, option_map, if◌then◌else◌}
 use Rattle.std.specs.Io.KnownBytes.{Appends}
+use Rattle.std.specs.List.{list_all}
 use Rattle.std.specs.Result.{result_ok}
 use Rattle.fluent_uri.specs.Components.{components}
 use Rattle.fluent_uri.specs.Grammar.{Kind, uri, uri_ref, iri, iri_ref, is_of_kind}
@@ -9,6 +10,7 @@ use Rattle.fluent_uri.specs.Normal.{normal_text}
 use Rattle.fluent_uri.specs.SchemePorts.{default_port}
 use Rattle.fluent_uri.specs.Target.{resolution_of}
 use Rattle.uri_commands.specs.Lines.{component_lines}
+use Rattle.uri_commands.specs.Links.{link_lines}
 use Rattle.uri_commands.specs.declared.command.BaseName.{BaseName}
 use Rattle.uri_commands.specs.declared.command.BaseName.TheVariants as bases
 use Rattle.uri_commands.specs.declared.command.KindName.{KindName}
@@ -39,17 +41,19 @@ abbrev pub word_of_base : BaseName → List ℕ
 word_of_base bases.Uri = codes "uri"
 word_of_base bases.Iri = codes "iri"
 
--- `parse KIND TEXT`, `normalize KIND TEXT`, `resolve uri|iri BASE REF`
+-- `parse KIND TEXT`, `normalize KIND TEXT`, `resolve uri|iri BASE REF`, and `links BASE REF...` with its first reference and the others
 pub data Command : Type 0 where
   Parse : KindName → List ℕ → Command
   Normalize : KindName → List ℕ → Command
   Resolve : BaseName → List ℕ → List ℕ → Command
+  Links : List ℕ → List ℕ → List (List ℕ) → Command
 
 -- the words that ask for it
 abbrev pub words_of : Command → List (List ℕ)
 words_of (Parse name text) = codes "parse" ∷ word_of_kind name ∷ text ∷ []
 words_of (Normalize name text) = codes "normalize" ∷ word_of_kind name ∷ text ∷ []
 words_of (Resolve name base reference) = codes "resolve" ∷ word_of_base name ∷ base ∷ reference ∷ []
+words_of (Links base reference others) = codes "links" ∷ base ∷ reference ∷ others
 
 -- the normal form of a text of the kind, under the default ports of schemes
 unfoldable pub normal_form_of : Kind → List ℕ → List ℕ
@@ -59,6 +63,10 @@ normal_form_of kind text = normal_text (meaning_of kind default_port text)
 unfoldable pub target_text : List ℕ → List ℕ → Option (List ℕ)
 target_text base reference = result_ok (resolution_of (components base) (components reference))
 
+-- each of the texts is of the kind
+abbrev pub are_of_kind : Kind → List (List ℕ) → Bool
+are_of_kind kind texts = list_all (is_of_kind kind) texts
+
 -- what is printed for it, or that it is refused
 abbrev pub output_of : Command → Option (List ℕ)
 output_of (Parse name text) = if is_of_kind (kind_of name) text then Some (component_lines (components text)) else None
@@ -66,6 +74,9 @@ output_of (Normalize name text) = if is_of_kind (kind_of name) text then Some (n
 output_of (Resolve name base reference) =
     if is_of_kind (kind_of_base name) base && is_of_kind (kind_of_references name) reference
     then option_map (λ target. target ++ codes "\n") (target_text base reference) else None
+output_of (Links base reference others) =
+    if is_of_kind uri base && are_of_kind uri_ref (reference ∷ others)
+    then Some (link_lines base (reference ∷ others)) else None
 
 -- the bytes of the words
 abbrev pub texts : {Z : Type 0} → List (String Z) → List (List ℕ)
@@ -73,6 +84,10 @@ texts words = map string_bytes words
 
 abbrev pub IsCommand : List (List ℕ) → Type 0
 IsCommand words = (command : Command) × (words ≡ words_of command)
+
+-- the words of `links`
+abbrev pub AreLinks : List (List ℕ) → Type 0
+AreLinks words = (base : List ℕ) × (reference : List ℕ) × (others : List (List ℕ)) × (words ≡ words_of (Links base reference others))
 
 -- known bytes grow by what is printed for it
 abbrev pub Prints : Option (List ℕ) → Option (List ℕ) → Command → Type 0

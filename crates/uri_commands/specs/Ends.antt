@@ -3,8 +3,6 @@ use Rattle.std.specs.Prelude.{◌≡◌, ℕ, List, Option, Result, OnOk, Some, 
 use Rattle.std.specs.Io.KnownBytes.{Appends, Keeps}
 use Rattle.uri_commands.specs.Commands.{Command, output_of, words_of}
 use Rattle.uri_commands.specs.Fronts.{AppendsFront}
-use Rattle.uri_commands.specs.Refusals.{IsRefusalOf, error_line}
-use Rattle.uri_commands.specs.declared.refusal.Refusal.{Refusal}
 
 -- the words are a command that has an answer: the output got it, and the error output nothing
 abbrev pub IsAnswered : List (List ℕ) → Option (List ℕ) → Option (List ℕ) → Option (List ℕ) → Option (List ℕ) → Type 0

@@ -1,10 +1,13 @@
 pub mod Lines
 pub mod Texts
+pub mod Messages
+pub mod Links
 pub mod Commands
 pub mod Asked
 pub mod Refusals
 pub mod Ends
 pub mod Fronts
+pub mod NotedLinks
 pub use Rattle.fluent_uri.specs.Components
 pub use Rattle.fluent_uri.specs.Errors
 pub use Rattle.fluent_uri.specs.Grammar
@@ -13,3 +16,4 @@ pub use Rattle.fluent_uri.specs.Normal
 pub use Rattle.fluent_uri.specs.Resolving
 pub use Rattle.fluent_uri.specs.SchemePorts
 pub use Rattle.fluent_uri.specs.Target
+pub use Rattle.uri_links.specs.Outcomes

@@ -1,32 +1,14 @@
 -- Why a command is refused, and the line that tells it.
-use Rattle.std.specs.Prelude.{◌≡◌, ℕ, List, ◌++◌, codes, decimal, Some}
+use Rattle.std.specs.Prelude.{◌≡◌, ℕ, List, ◌∷◌, ◌++◌, codes, Some, true, slice_get, take}
 use Rattle.fluent_uri.specs.Components.{components}
-use Rattle.fluent_uri.specs.Errors.{IsErrorIn, index_of, kind_of as fault_of}
-use Rattle.fluent_uri.specs.Grammar.{Kind, IsOfKind}
+use Rattle.fluent_uri.specs.Errors.{IsErrorIn}
+use Rattle.fluent_uri.specs.Grammar.{Kind, IsOfKind, uri, uri_ref}
 use Rattle.fluent_uri.specs.Resolving.{IsRefusalFor}
-use Rattle.uri_commands.specs.Commands.{Command, Parse, Normalize, Resolve, kind_of, kind_of_base, kind_of_references, output_of}
+use Rattle.uri_commands.specs.Commands.{Command, Parse, Normalize, Resolve, Links, are_of_kind, kind_of, kind_of_base, kind_of_references, output_of}
+use Rattle.uri_commands.specs.Messages.{error_text, resolve_error_text}
 use Rattle.uri_commands.specs.declared.refusal.Refusal.{Refusal}
 use Rattle.uri_commands.specs.declared.refusal.Refusal.TheVariants.{Text, Base, Reference, Target, OutOfMemory, OutputFailed}
 use Rattle.fluent_uri.specs.declared.ParseError.{ParseError}
-use Rattle.fluent_uri.specs.declared.ParseErrorKind.{ParseErrorKind}
-use Rattle.fluent_uri.specs.declared.ParseErrorKind.TheVariants.{InvalidPctEncodedOctet, UnexpectedChar, InvalidIpv6Addr}
-use Rattle.fluent_uri.specs.declared.resolve.ResolveError.{ResolveError}
-use Rattle.fluent_uri.specs.declared.resolve.ResolveError.TheVariants as resolve_errors
-
-abbrev pub fault_text : ParseErrorKind → List ℕ
-fault_text InvalidPctEncodedOctet = codes "invalid percent-encoded octet"
-fault_text UnexpectedChar = codes "unexpected character"
-fault_text InvalidIpv6Addr = codes "invalid IPv6 address"
-
-abbrev pub error_text : ParseError → List ℕ
-error_text e = fault_text (fault_of e) ++ codes " at index " ++ decimal (index_of e)
-
-abbrev pub resolve_error_text : ResolveError → List ℕ
-resolve_error_text resolve_errors.BaseWithFragment = codes "base should not have fragment"
-resolve_error_text resolve_errors.InvalidReferenceAgainstOpaqueBase =
-    codes "when base has a rootless path and no authority, reference should either have scheme, be empty or start with '#'"
-resolve_error_text resolve_errors.PathUnderflow = codes "underflow occurred in path resolution"
-resolve_error_text resolve_errors.OutOfMemory = codes "out of memory"
 
 abbrev pub message : Refusal → List ℕ
 message (Text e) = error_text e
@@ -41,13 +23,18 @@ error_line why = codes "error: " ++ message why ++ codes "\n"
 
 -- what is told where the words are no command
 abbrev pub usage_line : List ℕ
-usage_line = codes "usage: uritool parse KIND TEXT | normalize KIND TEXT | resolve uri|iri BASE REF\n"
+usage_line = codes "usage: uritool parse KIND TEXT | normalize KIND TEXT | resolve uri|iri BASE REF | links BASE REF...\n"
 
 -- the text is not of the kind, and this is what the parser says of it
 abbrev pub IsErrorOf : Kind → List ℕ → ParseError → Type 0
 IsErrorOf kind text e = ¬ IsOfKind kind text × IsErrorIn text e
 
--- Why a command has no answer. A base is read before its reference, and then the reference is resolved.
+-- the first of the texts that is not of the kind, and what the parser says of it
+abbrev pub IsErrorOfFirst : Kind → List (List ℕ) → ParseError → Type 0
+IsErrorOfFirst kind texts e = (n : ℕ) × (text : List ℕ)
+    × (slice_get texts n ≡ Some text) × (are_of_kind kind (take n texts) ≡ true) × IsErrorOf kind text e
+
+-- Why a command has no answer. A base is read before its references, all of them before any is resolved or noted.
 abbrev pub IsRefusalOf : Command → Refusal → Type 0
 IsRefusalOf (Parse name text) (Text e) = IsErrorOf (kind_of name) text e
 IsRefusalOf (Normalize name text) (Text e) = IsErrorOf (kind_of name) text e
@@ -58,6 +45,9 @@ IsRefusalOf (Resolve name base reference) (Reference e) =
 IsRefusalOf (Resolve name base reference) (Target e) =
     IsOfKind (kind_of_base name) base × IsOfKind (kind_of_references name) reference
     × IsRefusalFor (components base) (components reference) e
+IsRefusalOf (Links base reference others) (Base e) = IsErrorOf uri base e
+IsRefusalOf (Links base reference others) (Reference e) = IsOfKind uri base × IsErrorOfFirst uri_ref (reference ∷ others) e
+IsRefusalOf (Links base reference others) OutOfMemory = IsOfKind uri base × (are_of_kind uri_ref (reference ∷ others) ≡ true)
 -- it has one, which the output did not take
 IsRefusalOf command OutputFailed = (lines : List ℕ) × (output_of command ≡ Some lines)
 IsRefusalOf command why = ⊥

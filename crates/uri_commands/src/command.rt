@@ -1,6 +1,6 @@
 //! What the words of a command line ask for.
 ghost use Rattle.std.specs.Prelude.{◌≡◌, ◌≢◌, MatchOption};
-ghost use Rattle.uri_commands.specs.Commands.{IsCommand, word_of_base, word_of_kind, words_of, texts};
+ghost use Rattle.uri_commands.specs.Commands.{AreLinks, IsCommand, word_of_base, word_of_kind, words_of, texts};
 ghost use Rattle.uri_commands.specs.Asked.{asked};
 
 /// A kind, by its name on the command line.
@@ -34,6 +34,8 @@ pub enum Command<'a> {
     Normalize(KindName, &'a str),
     /// `resolve uri|iri BASE REF`
     Resolve(BaseName, &'a str, &'a str),
+    /// `links BASE REF...`, the first reference and those behind it
+    Links(&'a str, &'a str, &'a [String]),
 }
 
 impl<'a> Command<'a> {
@@ -53,8 +55,20 @@ impl<'a> Command<'a> {
                 let kind = base_named(kind.as_str())?;
                 Some(Command::Resolve(kind, base.as_str(), reference.as_str()))
             }
-            _ => None,
+            _ => links_from_words(words),
         }
+    }
+}
+
+fn links_from_words(words: &[String]) -> Option<Command<'_>>
+    ensures { MatchOption result (¬ AreLinks (texts words.now))
+        (λ c. texts words.now ≡ words_of (asked c)) }
+{
+    match words {
+        [command, base, reference, others @ ..] if command.as_str() == "links" => {
+            Some(Command::Links(base.as_str(), reference.as_str(), others))
+        }
+        _ => None,
     }
 }
 

@@ -3,6 +3,7 @@
 
 mod command;
 mod lines;
+mod links;
 mod normal;
 pub mod refusal;
 pub mod run;

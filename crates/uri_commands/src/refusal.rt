@@ -2,7 +2,8 @@
 ghost use Rattle.std.specs.Prelude.{◌≡◌, IfOk, OnOk};
 ghost use Rattle.std.specs.Io.KnownBytes.{Appends};
 ghost use Rattle.uri_commands.specs.Fronts.{AppendsFront};
-ghost use Rattle.uri_commands.specs.Refusals.{error_line, fault_text, resolve_error_text};
+ghost use Rattle.uri_commands.specs.Messages.{fault_text, resolve_error_text};
+ghost use Rattle.uri_commands.specs.Refusals.{error_line};
 
 use crate::told::put;
 use arrayvec::ArrayString;
@@ -79,7 +80,7 @@ struct Fault(ParseError);
 
 impl Display for Fault {
     ghost use Rattle.std.specs.Prelude.{Some};
-    ghost use Rattle.uri_commands.specs.Refusals.{error_text};
+    ghost use Rattle.uri_commands.specs.Messages.{error_text};
 
     ghost output = { λ fault. Some (error_text fault.0) };
 
@@ -103,7 +104,8 @@ fn fault_message(kind: ParseErrorKind) -> &'static str
     }
 }
 
-fn resolve_message(error: ResolveError) -> &'static str
+/// What is said of a reference that has no target.
+pub(crate) fn resolve_message(error: ResolveError) -> &'static str
     ensures { result.now ≡ resolve_error_text error }
 {
     match error {

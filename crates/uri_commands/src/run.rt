@@ -1,7 +1,7 @@
 //! The program, over any two writers.
 ghost use Rattle.std.specs.Prelude.{◌≡◌, ◌↔◌, ◌≤◌, ◌++◌, IsOk, IfOk, IfErr, OnOk, None, Some, List, codes, ℕ};
 ghost use Rattle.std.specs.Io.KnownBytes.{Appends, Keeps};
-ghost use Rattle.uri_commands.specs.Commands.{Command as Asked, Parse, Normalize, Resolve, IsCommand, Prints, kind_of, words_of, output_of, texts};
+ghost use Rattle.uri_commands.specs.Commands.{Command as Asked, Parse, Normalize, Resolve, Links, IsCommand, Prints, kind_of, words_of, output_of, texts};
 ghost use Rattle.uri_commands.specs.Asked.{asked};
 ghost use Rattle.uri_commands.specs.Ends.{IsAnswered, IsRefused, Takes};
 ghost use Rattle.uri_commands.specs.Fronts.{AppendsFront};
@@ -14,6 +14,7 @@ ghost use Rattle.fluent_uri.specs.Grammar.{IsOfKind};
 
 use crate::command::{BaseName, Command, KindName};
 use crate::lines::Texts;
+use crate::links::noted;
 use crate::normal::normal_form;
 use crate::refusal::Refusal;
 use crate::target::target;
@@ -99,6 +100,7 @@ fn answer<O: Write>(alloc: Global, command: Command<'_>, out: &mut O) -> Result<
         Command::Parse(kind, text) => parse(kind, text, out),
         Command::Normalize(kind, text) => normalize(alloc, kind, text, out),
         Command::Resolve(kind, base, reference) => resolve(alloc, kind, base, reference, out),
+        Command::Links(base, reference, others) => links(alloc, base, reference, others, out),
     }
 }
 
@@ -143,6 +145,24 @@ fn resolve<O: Write>(
 {
     let target = target(alloc, kind, base, reference)?;
     print_line(out, target.as_str())
+}
+
+fn links<O: Write>(
+    alloc: Global,
+    base: &str,
+    reference: &str,
+    others: &[String],
+    out: &mut O,
+) -> Result<(), Refusal>
+    ensures answered { OnOk result (Prints (O.contents out.old) (O.contents out.new)
+        (Links base.now reference.now (texts others.now))) }
+    ensures refused { IfErr result
+        (IsRefusalOf (Links base.now reference.now (texts others.now))) }
+    ensures keeps { output_of (Links base.now reference.now (texts others.now)) ≡ None
+        → Keeps (O.contents out.old) (O.contents out.new) }
+{
+    let noted = noted(alloc, base, reference, others)?;
+    Ok(noted.write_lines(out)?)
 }
 
 fn print_line<O: Write>(out: &mut O, text: &str) -> Result<(), Refusal>

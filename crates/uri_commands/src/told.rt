@@ -8,7 +8,7 @@ ghost use Rattle.uri_commands.specs.Refusals.{usage_line};
 use std::io::{self, ErrorKind, Write};
 
 const USAGE: &str =
-    "usage: uritool parse KIND TEXT | normalize KIND TEXT | resolve uri|iri BASE REF\n";
+    "usage: uritool parse KIND TEXT | normalize KIND TEXT | resolve uri|iri BASE REF | links BASE REF...\n";
 
 /// Writes the usage line. Where the writer fails, it got a front of the line.
 pub fn tell_usage<E: Write>(err: &mut E) -> io::Result<()>

@@ -1,0 +1,23 @@
+-- What is said of a text that the parser refuses, and of a reference that has no target.
+use Rattle.std.specs.Prelude.{ℕ, List, ◌++◌, codes, decimal}
+use Rattle.fluent_uri.specs.Errors.{index_of, kind_of as fault_of}
+use Rattle.fluent_uri.specs.declared.ParseError.{ParseError}
+use Rattle.fluent_uri.specs.declared.ParseErrorKind.{ParseErrorKind}
+use Rattle.fluent_uri.specs.declared.ParseErrorKind.TheVariants.{InvalidPctEncodedOctet, UnexpectedChar, InvalidIpv6Addr}
+use Rattle.fluent_uri.specs.declared.resolve.ResolveError.{ResolveError}
+use Rattle.fluent_uri.specs.declared.resolve.ResolveError.TheVariants as resolve_errors
+
+abbrev pub fault_text : ParseErrorKind → List ℕ
+fault_text InvalidPctEncodedOctet = codes "invalid percent-encoded octet"
+fault_text UnexpectedChar = codes "unexpected character"
+fault_text InvalidIpv6Addr = codes "invalid IPv6 address"
+
+abbrev pub error_text : ParseError → List ℕ
+error_text e = fault_text (fault_of e) ++ codes " at index " ++ decimal (index_of e)
+
+abbrev pub resolve_error_text : ResolveError → List ℕ
+resolve_error_text resolve_errors.BaseWithFragment = codes "base should not have fragment"
+resolve_error_text resolve_errors.InvalidReferenceAgainstOpaqueBase =
+    codes "when base has a rootless path and no authority, reference should either have scheme, be empty or start with '#'"
+resolve_error_text resolve_errors.PathUnderflow = codes "underflow occurred in path resolution"
+resolve_error_text resolve_errors.OutOfMemory = codes "out of memory"
