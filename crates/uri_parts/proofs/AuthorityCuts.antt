@@ -1,5 +1,5 @@
 -- The parts of an authority, as they are read.
-use Rattle.std.proofs.Common.{◌≡◌, ℕ, ◌+◌, not, List, length, drop, ap, ◌∙◌}
+use Rattle.std.proofs.Common.{◌≡◌, ℕ, ◌+◌, not, List, length, drop}
 use Rattle.uri_parts.specs.Components.{before_any}
 use Rattle.uri_pct.specs.Sets.{is_one_of}
 use Rattle.uri_pct.proofs.Cuts.{to_mark}

@@ -1,10 +1,10 @@
 -- An authority is read exactly where the one that is cut out is taken apart, and lies where it is cut.
-use Rattle.std.proofs.Common.{◌≡◌, ℕ, ◌+◌, Bool, true, false, cond, eqb, List, [], ◌∷◌, ◌++◌, length, drop, refl, sym, ap, ◌∙◌, arith, ◌||◌, ◌&&◌, ⊎_elim, inl, inr, ◌⊎◌, append_assoc, length-append, subst, zero-add, lit<}
+use Rattle.std.proofs.Common.{◌≡◌, ℕ, ◌+◌, Bool, true, false, cond, eqb, List, [], ◌∷◌, ◌++◌, length, drop, refl, sym, ap, ◌∙◌, arith, ◌||◌, ◌&&◌, ⊎_elim, append_assoc, length-append, subst, zero-add, lit<}
 use Rattle.std.specs.Prelude.{codes, Some, None}
 use Rattle.std.specs.Str.{IsUtf8}
-use Rattle.std.proofs.lemmas.Bool.{cases_Bool, cond-true, cond-false, and_left, and_parts, or_left, or_right, eq-eqb, ne_eqb, eqb-true, both_ways, false_from_ne_true}
+use Rattle.std.proofs.lemmas.Bool.{cases_Bool, cond-true, cond-false, and_left, and_parts, eq-eqb, ne_eqb, eqb-true, both_ways, false_from_ne_true}
 use Rattle.std.proofs.lemmas.Bool.Decides.{nat_tests}
-use Rattle.uri_pct.specs.Sets.{TableSet, digit_set, is_one_of}
+use Rattle.uri_pct.specs.Sets.{TableSet, digit_set}
 use Rattle.uri_pct.specs.Tokens.{is_valid_for}
 use Rattle.uri_pct.specs.Fronts.{front, after}
 use Rattle.uri_pct.proofs.Cuts.{to_mark, ascii_marks, cut, front_zero_mark}
@@ -20,7 +20,7 @@ use Rattle.uri_parts.proofs.AuthorityCuts.{length-before, behind, behind_mark}
 use Rattle.uri_parts.proofs.Cuts.{IsCut-any, cut-append, before_past_other}
 use Rattle.uri_parts.proofs.Futures.{lacks_append}
 use Rattle.uri_parts.proofs.Hosts.{lacks_starts}
-use Rattle.uri_parts.proofs.HostReading.{front_nil, cut_again, starts_before, fewer, utf8_before, FoundHost, bare_end, bare_length, bare_host, name_bare, host_read, found_host}
+use Rattle.uri_parts.proofs.HostReading.{front_nil, cut_again, starts_before, fewer, utf8_before, bare_end, bare_length, bare_host, name_bare, host_read, found_host}
 use Rattle.uri_parts.proofs.Relative.{stops_at}
 use Rattle.uri_parts.proofs.Separations.{Separates}
 use Rattle.uri_parts.proofs.Spelt.{starts_cons, valid_lacks}

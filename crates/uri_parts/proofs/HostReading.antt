@@ -1,5 +1,5 @@
 -- A host and a port are read to the end of an authority exactly where what is cut out is a host and a port.
-use Rattle.std.proofs.Common.{◌≡◌, ℕ, zero, suc, ◌+◌, ◌<◌, Bool, true, false, cond, eqb, List, [], ◌∷◌, ◌++◌, length, get_or, drop, All, refl, sym, ap, subst, ◌∙◌, arith, ◌||◌, ◌&&◌, ⊎_elim, inl, inr, append_assoc, length-append, lit<}
+use Rattle.std.proofs.Common.{◌≡◌, ℕ, suc, ◌+◌, ◌<◌, Bool, true, false, cond, eqb, List, [], ◌∷◌, ◌++◌, length, drop, All, refl, sym, ap, subst, ◌∙◌, arith, ◌||◌, ◌&&◌, ⊎_elim, inl, inr, append_assoc, length-append, lit<}
 use Rattle.std.specs.Prelude.{codes, is_some}
 use Rattle.std.specs.Str.{IsUtf8}
 use Rattle.std.proofs.Math.Seq.{drop-append_seam}
@@ -19,7 +19,7 @@ use Rattle.uri_parts.specs.Authority.{host_before}
 use Rattle.uri_parts.specs.AuthorityReading.{is_literal, begins_any, port_length, name_length, finds_name, host_end, host_length, passes_host, finds_host}
 use Rattle.uri_parts.specs.Grammar.{Kind}
 use Rattle.uri_parts.proofs.Addresses.{ipv4_value-sound, ipv6_value-sound}
-use Rattle.uri_parts.proofs.Authority.{HasShape, host_cut, lacks_first, lacks_nil, lacks_at_bracketed}
+use Rattle.uri_parts.proofs.Authority.{host_cut, lacks_first, lacks_nil, lacks_at_bracketed}
 use Rattle.uri_parts.proofs.AuthorityCuts.{length-before, behind, behind_mark}
 use Rattle.uri_parts.proofs.Cuts.{Begins, IsCut-any, cut-append, before_at_mark, from_at_mark, before_past_other, from_past_other}
 use Rattle.uri_parts.proofs.Futures.{ipv4_digits, digit_reg_name, ipv6_lacks, ipv_future_lacks, is_ipv_future-sound, lacks_append}

@@ -2,7 +2,7 @@
 //!
 //! What passes as a name and a port is the front of userinfo, so nothing is read again to tell the
 //! two apart, nor to tell where and why an authority is refused.
-ghost use Rattle.std.specs.Prelude.{◌≡◌, ◌≤◌, ◌+◌, codes, drop, length, true, IfErr, IfOk, IfSome, OnOk};
+ghost use Rattle.std.specs.Prelude.{◌≡◌, ◌≤◌, ◌+◌, drop, length, true, IfErr, IfOk, IfSome, OnOk};
 ghost use Rattle.std.specs.Prelude.{is_ok, is_some};
 ghost use Rattle.std.specs.Str.{IsCharBoundary};
 ghost use Rattle.uri_pct.specs.Fronts.{front};

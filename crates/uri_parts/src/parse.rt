@@ -1,9 +1,5 @@
 //! The parser of the four kinds.
-ghost use Rattle.std.specs.Prelude.{◌≡◌, ◌↔◌, ◌+◌, ◌&&◌, drop, IfErr, IfOk, IfSome, IsOk, OnOk};
-ghost use Rattle.std.specs.Prelude.{is_ok, is_some, Some, None};
-ghost use Rattle.std.specs.Str.{IsCharBoundary};
-ghost use Rattle.uri_pct.specs.Fronts.{front};
-ghost use Rattle.uri_pct.specs.Tables.{set_of};
+ghost use Rattle.std.specs.Prelude.{◌≡◌, ◌↔◌, ◌&&◌, IfErr, IfOk, IsOk, is_ok, Some, None};
 ghost use Rattle.uri_parts.specs.Errors.{IsErrorIn};
 ghost use Rattle.uri_parts.specs.Grammar.{IsOfKind, uri, uri_ref, iri, iri_ref};
 ghost use Rattle.uri_parts.specs.Grammars.{kind_of, segment_nz_nc_of};
