@@ -17,6 +17,8 @@ pub mod grammar;
 #[doc(hidden)]
 pub mod host_places;
 #[doc(hidden)]
+pub mod kind;
+#[doc(hidden)]
 pub mod laws;
 #[doc(hidden)]
 pub mod literal;
@@ -29,8 +31,6 @@ pub mod port;
 pub mod positions;
 #[doc(hidden)]
 pub mod reader;
-#[doc(hidden)]
-pub mod rules;
 #[doc(hidden)]
 pub mod scheme;
 #[doc(hidden)]
