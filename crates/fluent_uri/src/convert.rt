@@ -27,8 +27,7 @@ impl<T: AsStr> From<Uri<T>> for Iri<T> {
 
     /// The same text, as an IRI.
     fn from(value: Uri<T>) -> Iri<T> {
-        let (text, positions) = value.into_parts();
-        Iri::of_parts(text, positions)
+        Iri::of_core(value.into_core().into_kind())
     }
 }
 
@@ -38,8 +37,7 @@ impl<T: AsStr> From<Uri<T>> for IriRef<T> {
 
     /// The same text, as an IRI reference.
     fn from(value: Uri<T>) -> IriRef<T> {
-        let (text, positions) = value.into_parts();
-        IriRef::of_parts(text, positions)
+        IriRef::of_core(value.into_core().into_kind())
     }
 }
 
@@ -49,8 +47,7 @@ impl<T: AsStr> From<UriRef<T>> for IriRef<T> {
 
     /// The same text, as an IRI reference.
     fn from(value: UriRef<T>) -> IriRef<T> {
-        let (text, positions) = value.into_parts();
-        IriRef::of_parts(text, positions)
+        IriRef::of_core(value.into_core().into_kind())
     }
 }
 
@@ -60,8 +57,7 @@ impl<T: AsStr> From<Iri<T>> for IriRef<T> {
 
     /// The same text, as an IRI reference.
     fn from(value: Iri<T>) -> IriRef<T> {
-        let (text, positions) = value.into_parts();
-        IriRef::of_parts(text, positions)
+        IriRef::of_core(value.into_core().into_kind())
     }
 }
 
@@ -79,8 +75,7 @@ impl<'a> TryFrom<IriRef<&'a str>> for Iri<&'a str> {
     /// `NoScheme`, exactly if the reference has no scheme.
     fn try_from(value: IriRef<&'a str>) -> Result<Iri<&'a str>, ConvertError> {
         convert::needs_scheme(value.core())?;
-        let (text, positions) = value.into_parts();
-        Ok(Iri::of_parts(text, positions))
+        Ok(Iri::of_core(value.into_core().into_kind()))
     }
 }
 
@@ -102,8 +97,7 @@ impl TryFrom<IriRef<String>> for Iri<String> {
         if let Err(error) = convert::needs_scheme(value.core()) {
             return Err((error, value));
         }
-        let (text, positions) = value.into_parts();
-        Ok(Iri::of_parts(text, positions))
+        Ok(Iri::of_core(value.into_core().into_kind()))
     }
 }
 
@@ -121,8 +115,7 @@ impl<'a> TryFrom<Iri<&'a str>> for Uri<&'a str> {
     /// `NotAscii`, exactly if the IRI has a character past ASCII.
     fn try_from(value: Iri<&'a str>) -> Result<Uri<&'a str>, ConvertError> {
         convert::needs_ascii(value.as_str())?;
-        let (text, positions) = value.into_parts();
-        Ok(Uri::of_parts(text, positions))
+        Ok(Uri::of_core(value.into_core().into_kind()))
     }
 }
 
@@ -143,8 +136,7 @@ impl TryFrom<Iri<String>> for Uri<String> {
         if let Err(error) = convert::needs_ascii(value.as_str()) {
             return Err((error, value));
         }
-        let (text, positions) = value.into_parts();
-        Ok(Uri::of_parts(text, positions))
+        Ok(Uri::of_core(value.into_core().into_kind()))
     }
 }
 
@@ -163,8 +155,7 @@ impl<'a> TryFrom<IriRef<&'a str>> for UriRef<&'a str> {
     /// `NotAscii`, exactly if the reference has a character past ASCII.
     fn try_from(value: IriRef<&'a str>) -> Result<UriRef<&'a str>, ConvertError> {
         convert::needs_ascii(value.as_str())?;
-        let (text, positions) = value.into_parts();
-        Ok(UriRef::of_parts(text, positions))
+        Ok(UriRef::of_core(value.into_core().into_kind()))
     }
 }
 
@@ -186,8 +177,7 @@ impl TryFrom<IriRef<String>> for UriRef<String> {
         if let Err(error) = convert::needs_ascii(value.as_str()) {
             return Err((error, value));
         }
-        let (text, positions) = value.into_parts();
-        Ok(UriRef::of_parts(text, positions))
+        Ok(UriRef::of_core(value.into_core().into_kind()))
     }
 }
 
@@ -206,8 +196,7 @@ impl<'a> TryFrom<IriRef<&'a str>> for Uri<&'a str> {
     /// character past ASCII.
     fn try_from(value: IriRef<&'a str>) -> Result<Uri<&'a str>, ConvertError> {
         convert::needs_uri(value.as_str(), value.has_scheme())?;
-        let (text, positions) = value.into_parts();
-        Ok(Uri::of_parts(text, positions))
+        Ok(Uri::of_core(value.into_core().into_kind()))
     }
 }
 
@@ -229,8 +218,7 @@ impl TryFrom<IriRef<String>> for Uri<String> {
         if let Err(error) = convert::needs_uri(value.as_str(), value.has_scheme()) {
             return Err((error, value));
         }
-        let (text, positions) = value.into_parts();
-        Ok(Uri::of_parts(text, positions))
+        Ok(Uri::of_core(value.into_core().into_kind()))
     }
 }
 

@@ -17,8 +17,7 @@ impl<T: AsStr> From<Uri<T>> for UriRef<T> {
 
     /// The same text, as a reference.
     fn from(value: Uri<T>) -> UriRef<T> {
-        let (text, positions) = value.into_parts();
-        UriRef::of_parts(text, positions)
+        UriRef::of_core(value.into_core().into_kind())
     }
 }
 
@@ -36,8 +35,7 @@ impl<'a> TryFrom<UriRef<&'a str>> for Uri<&'a str> {
     /// `NoScheme`, exactly if the reference has no scheme.
     fn try_from(value: UriRef<&'a str>) -> Result<Uri<&'a str>, ConvertError> {
         convert::needs_scheme(value.core())?;
-        let (text, positions) = value.into_parts();
-        Ok(Uri::of_parts(text, positions))
+        Ok(Uri::of_core(value.into_core().into_kind()))
     }
 }
 
@@ -58,7 +56,6 @@ impl TryFrom<UriRef<String>> for Uri<String> {
         if let Err(error) = convert::needs_scheme(value.core()) {
             return Err((error, value));
         }
-        let (text, positions) = value.into_parts();
-        Ok(Uri::of_parts(text, positions))
+        Ok(Uri::of_core(value.into_core().into_kind()))
     }
 }

@@ -1,38 +1,22 @@
 //! URI references (RFC 3986, section 4.1).
-ghost use Rattle.std.specs.Prelude.{◌≡◌, ◌↔◌, IsOk, IfOk, IfErr, OnOk, OnErr, None, Some, is_some};
-ghost use Rattle.std.specs.Prelude.{option_map, string_bytes, Ok, true};
+ghost use Rattle.std.specs.Prelude.{◌≡◌, Ok, Some, is_some, string_bytes};
 ghost use Rattle.std.specs.Str.{IsUtf8};
 ghost use Rattle.uri_parts.specs.Components.{components};
-ghost use Rattle.uri_parts.specs.Errors.{IsErrorIn};
-ghost use Rattle.uri_parts.specs.Fragments.{IsWithFragment};
-ghost use Rattle.uri_parts.specs.Grammar.{IsOfKind, uri, uri_ref};
-ghost use Rattle.uri_parts.specs.Positions.{AreAt};
-ghost use Rattle.uri_parts.specs.SchemePorts.{default_port};
-ghost use Rattle.uri_ops.specs.Normalizers.{IsNormalForm};
-ghost use Rattle.uri_ops.specs.EncodedTargets.{IsErrorForEncoded, IsTargetOfEncoded};
-ghost use Rattle.uri_ops.specs.NormalTargets.{IsErrorOfMeanings, IsTargetOfMeanings};
-ghost use Rattle.uri_ops.specs.Resolving.{IsRefusalFor};
-ghost use Rattle.uri_ops.specs.Target.{resolution_of_texts};
+ghost use Rattle.uri_parts.specs.Grammar.{IsOfKind, uri_ref};
+
+mod borrowed;
+mod owned;
 
 use crate::uri::Uri;
-use std::alloc::{AllocError, Global};
-use std::cmp::Ordering;
+use std::alloc::AllocError;
 use std::convert::{AsStr, TryFrom};
 use std::fmt;
-use std::hash::{Hash, Hasher};
-use uri_ops::build::Builder;
-use uri_ops::build::state::{Start, State};
-use uri_ops::normalize;
-use uri_ops::resolve::{self, ResolveError};
-use uri_ops::traits::{self, RefOf, RiMaybeRef, WithOwned};
-use uri_parts::component::{Authority, Scheme};
-use uri_parts::core_text::CoreText;
+use uri_ops::traits::{RefOf, RiMaybeRef, WithOwned};
+use uri_parts::core_text::Core;
 use uri_parts::error::ParseError;
+use uri_parts::kind::UriRefKind;
 use uri_parts::positions::Positions;
-use uri_parts::rules::UriRefRules;
-use uri_parts::{fragment, parse};
 use uri_pct::encoder::{Fragment, Path, Query, RegName, Userinfo};
-use uri_pct::pct_enc::EStr;
 
 /// A URI reference: a URI, or a reference that is relative to one (RFC 3986, section 4.1).
 ///
@@ -44,11 +28,9 @@ use uri_pct::pct_enc::EStr;
 /// the authority `example.com`, the path `/over/there`, the query `name=ferret` and the fragment
 /// `nose`; `UriRef::<&str>::parse("../there")` has a path alone.
 #[derive(Drop)]
+#[derive_where(PartialEq, Eq, PartialOrd, Ord, Hash)]
 pub struct UriRef<T: AsStr> {
-    text: T,
-    positions: Positions,
-    pub ghost of_kind: { IsOfKind uri_ref (T.text text) },
-    pub ghost at: { AreAt (T.text text) positions },
+    core: Core<UriRefKind, T>,
 }
 
 impl<T: AsStr + Copy> Clone for UriRef<T> {
@@ -82,7 +64,7 @@ impl<T: AsStr> RiMaybeRef for UriRef<T> {
 
     type FragmentE = Fragment;
 
-    type Rules = UriRefRules;
+    type Kind = UriRefKind;
 
     ghost kind = { uri_ref };
 
@@ -91,17 +73,16 @@ impl<T: AsStr> RiMaybeRef for UriRef<T> {
     ghost owned_text = { uri_ref_text };
 
     fn as_str(&self) -> &str {
-        self.core().as_str()
+        self.core.borrow().as_str()
     }
 
-    fn core(&self) -> CoreText<'_, UriRefRules> {
-        CoreText::new(self.text.as_str(), self.positions)
+    fn positions(&self) -> Positions {
+        self.core.borrow().positions()
     }
 
     fn make_owned(owned: String, positions: Positions) -> UriRef<String> {
         UriRef {
-            text: owned,
-            positions,
+            core: Core::new(owned, positions),
         }
     }
 
@@ -115,7 +96,7 @@ impl<T: AsStr> RiMaybeRef for UriRef<T> {
 
     ghost known = { refl };
 
-    ghost rules_of_kind = { refl };
+    ghost kind_is_its_own = { refl };
 
     ghost component_sets = { uri_ref_sets };
 }
@@ -135,28 +116,26 @@ impl<T: AsStr, B: AsStr> RefOf<Uri<B>> for UriRef<T> {
 }
 
 impl<T: AsStr> UriRef<T> {
+    ghost use Rattle.uri_parts.specs.CoreTexts.{core_text};
     ghost use Rattle.uri_ascii.specs.UriRefs.{uri_ref_text};
 
-    /// The value of this text, with the positions of its components.
+    /// The value that holds this.
     #[doc(hidden)]
-    pub fn of_parts(text: T, positions: Positions) -> Self
-        requires of_kind { IsOfKind uri_ref (T.text text) }
-        requires at { AreAt (T.text text) positions }
-        ensures { uri_ref_text result ≡ T.text text }
+    pub fn of_core(core: Core<UriRefKind, T>) -> Self
+        ensures { uri_ref_text result ≡ core_text core }
     {
-        UriRef { text, positions }
+        UriRef { core }
     }
 
-    /// The text, and the positions of its components.
+    /// What it holds.
     #[doc(hidden)]
-    pub fn into_parts(self) -> (T, Positions)
-        ensures text { T.text result.0 ≡ uri_ref_text self }
-        ensures of_kind { IsOfKind uri_ref (T.text result.0) }
-        ensures at { AreAt (T.text result.0) result.1 }
-        ensures utf8 { IsUtf8 (T.text result.0) }
+    pub fn into_core(self) -> Core<UriRefKind, T>
+        ensures text { core_text result ≡ uri_ref_text self }
+        ensures of_kind { IsOfKind uri_ref (core_text result) }
+        ensures utf8 { IsUtf8 (core_text result) }
     {
-        let _text = self.text.as_str();
-        (self.text, self.positions)
+        let _text = self.core.borrow();
+        self.core
     }
 
     /// Whether there is a scheme.
@@ -188,370 +167,11 @@ impl<T: AsStr> UriRef<T> {
     }
 }
 
-impl<'a> UriRef<&'a str> {
-    ghost use Rattle.uri_pct.specs.EStrs.{text_of};
-    ghost use Rattle.uri_parts.specs.AuthorityTexts.{authority_text};
-    ghost use Rattle.uri_parts.specs.CoreTexts.{core_text};
-    ghost use Rattle.uri_parts.specs.Schemes.{scheme_text};
-    ghost use Rattle.uri_ascii.specs.UriRefs.{uri_ref_text};
-    ghost use Rattle.uri_ascii.specs.Uris.{uri_text};
-
-    /// Reads a text as a URI reference, once and from left to right, and takes no memory.
-    ///
-    /// # Errors
-    ///
-    /// Exactly if the text is no URI reference (RFC 3986, section 4.1). The error names what is
-    /// wrong, and where, as a byte offset on a character boundary.
-    pub fn parse(text: &'a str) -> Result<UriRef<&'a str>, ParseError>
-        ensures accepts { IsOk result ↔ IsOfKind uri_ref text.now }
-        ensures text { IfOk result (λ value. uri_ref_text value ≡ text.now) }
-        ensures err { IfErr result (IsErrorIn text.now) }
-    {
-        let positions = parse::parse_uri_ref(text)?;
-        Ok(UriRef { text, positions })
-    }
-
-    fn parts(self) -> CoreText<'a, UriRefRules>
-        ensures { core_text result ≡ uri_ref_text self.entry }
-    {
-        CoreText::new(self.text, self.positions)
-    }
-
-    /// The text as it stands.
-    pub fn as_str(self) -> &'a str
-        ensures text { result.now ≡ uri_ref_text self.entry }
-        ensures of_kind { IsOfKind uri_ref result.now }
-    {
-        self.parts().as_str()
-    }
-
-    /// The scheme without its `:`, if there is one (RFC 3986, section 3.1).
-    pub fn scheme(self) -> Option<Scheme<'a>>
-        ensures { option_map scheme_text result ≡ (components (uri_ref_text self.entry)).scheme }
-    {
-        self.parts().scheme()
-    }
-
-    /// The authority without its `//`, if there is one (RFC 3986, section 3.2).
-    pub fn authority(self) -> Option<Authority<'a>>
-        ensures { option_map authority_text result
-            ≡ (components (uri_ref_text self.entry)).authority }
-    {
-        self.parts().authority()
-    }
-
-    /// The path, which may be empty (RFC 3986, section 3.3).
-    pub fn path(self) -> EStr<'a, Path>
-        ensures { text_of result ≡ (components (uri_ref_text self.entry)).path }
-    {
-        self.parts().path()
-    }
-
-    /// The query without its `?`, if there is one (RFC 3986, section 3.4).
-    pub fn query(self) -> Option<EStr<'a, Query>>
-        ensures { option_map text_of result ≡ (components (uri_ref_text self.entry)).query }
-    {
-        self.parts().query()
-    }
-
-    /// The fragment without its `#`, if there is one (RFC 3986, section 3.5).
-    pub fn fragment(self) -> Option<EStr<'a, Fragment>>
-        ensures { option_map text_of result ≡ (components (uri_ref_text self.entry)).fragment }
-    {
-        self.parts().fragment()
-    }
-
-    /// The same URI reference without its fragment (RFC 3986, section 3.5): the text up to its `#`.
-    ///
-    /// # Examples
-    ///
-    /// Of `http://example.com/#fragment` it is `http://example.com/`.
-    pub fn strip_fragment(self) -> UriRef<&'a str>
-        ensures { IsWithFragment (uri_ref_text self.entry) None (uri_ref_text result) }
-    {
-        UriRef {
-            text: self.positions.without_fragment(self.text),
-            positions: self.positions,
-        }
-    }
-
-    /// A copy with this fragment in place of its own, or with none (RFC 3986, section 3.5).
-    ///
-    /// # Errors
-    ///
-    /// Only if memory is refused.
-    ///
-    /// # Examples
-    ///
-    /// Of `http://example.com/` with the fragment `fragment` it is `http://example.com/#fragment`,
-    /// with the empty fragment `http://example.com/#`, and with none `http://example.com/`.
-    pub fn with_fragment(
-        self,
-        alloc: Global,
-        fragment: Option<EStr<'_, Fragment>>,
-    ) -> Result<UriRef<String>, AllocError>
-        ensures { IfOk result (λ made.
-            IsWithFragment (uri_ref_text self.entry) (option_map text_of fragment.entry)
-            (uri_ref_text made)) }
-    {
-        traits::with_fragment(alloc, &self, fragment)
-    }
-
-    /// The same URI reference over a copy of the text.
-    ///
-    /// # Errors
-    ///
-    /// Only if memory is refused.
-    pub fn to_owned(self, alloc: Global) -> Result<UriRef<String>, AllocError>
-        ensures { IfOk result (λ owned. uri_ref_text owned ≡ uri_ref_text self.entry) }
-    {
-        traits::copied(alloc, &self)
-    }
-
-    /// The normal form: what `Normalizer::new()` answers (RFC 3986, section 6.2.2).
-    ///
-    /// # Errors
-    ///
-    /// Only if memory is refused.
-    pub fn normalize(self, alloc: Global) -> Result<UriRef<String>, AllocError>
-        ensures { IfOk result (λ normal.
-            IsNormalForm uri_ref default_port (uri_ref_text self.entry) (uri_ref_text normal)) }
-    {
-        normalize::normal(alloc, &self)
-    }
-
-    /// The target of this reference against a base: what `Resolver::resolve` answers where dot
-    /// segments may underflow (RFC 3986, section 5.2).
-    ///
-    /// # Errors
-    ///
-    /// `BaseWithFragment` if the base has a fragment, and else `InvalidReferenceAgainstOpaqueBase`
-    /// if the base has no authority and its path doesn't begin with `/`, and this reference has no
-    /// scheme, is not empty and doesn't begin with `#`, both before memory is asked for;
-    /// `OutOfMemory` if memory is refused. Never `PathUnderflow`.
-    pub fn resolve_against<B: AsStr>(
-        self,
-        alloc: Global,
-        base: &Uri<B>,
-    ) -> Result<Uri<String>, ResolveError>
-        ensures target { IfOk result (λ target.
-            resolution_of_texts (uri_text base.now) (uri_ref_text self.entry)
-            ≡ Ok (uri_text target)) }
-        ensures refusal { IfErr result
-            (IsRefusalFor (components (uri_text base.now)) (components (uri_ref_text self.entry))) }
-        ensures encoded { IfOk result (λ target. IsTargetOfEncoded true
-            (uri_text base.now) (uri_ref_text self.entry) (uri_text target)) }
-        ensures encoded_error { IfErr result
-            (IsErrorForEncoded true (uri_text base.now) (uri_ref_text self.entry)) }
-        ensures alike { IfOk result (λ target. IsTargetOfMeanings uri uri_ref
-            (uri_text base.now) (uri_ref_text self.entry) (uri_text target)) }
-        ensures alike_error { IfErr result
-            (IsErrorOfMeanings uri uri_ref (uri_text base.now) (uri_ref_text self.entry)) }
-    {
-        resolve::resolved_against(alloc, base, &self)
-    }
-}
-
-impl UriRef<String> {
-    ghost use Rattle.uri_ops.specs.BuilderParts.{no_parts};
-    ghost use Rattle.uri_ops.specs.Builders.{builder_parts};
-    ghost use Rattle.uri_ops.specs.BuilderStates.{state_of};
-    ghost use Rattle.uri_pct.specs.EStrs.{text_of};
-    ghost use Rattle.uri_parts.specs.AuthorityTexts.{authority_text};
-    ghost use Rattle.uri_parts.specs.Schemes.{scheme_text};
-    ghost use Rattle.uri_ascii.specs.UriRefs.{uri_ref_text};
-    ghost use Rattle.uri_ascii.specs.Uris.{uri_text};
-
-    /// A builder of a URI reference, which holds nothing yet and takes its memory from the
-    /// allocator.
-    pub fn builder(alloc: Global) -> Builder<UriRef<String>, Start>
-        ensures { builder_parts uri_ref (⟦<Start as State>⟧.held (state_of result)) ≡ no_parts }
-    {
-        Builder::of_reference(alloc)
-    }
-
-    /// Reads a text as a URI reference, once and from left to right, and takes no memory.
-    ///
-    /// # Errors
-    ///
-    /// Exactly if the text is no URI reference (RFC 3986, section 4.1). The error names what is
-    /// wrong, and where, as a byte offset on a character boundary; the text comes back beside it.
-    pub fn parse(text: String) -> Result<UriRef<String>, (ParseError, String)>
-        ensures accepts { IsOk result ↔ IsOfKind uri_ref (string_bytes text) }
-        ensures text { IfOk result (λ value. uri_ref_text value ≡ string_bytes text) }
-        ensures err { IfErr result (λ refused. IsErrorIn (string_bytes text) refused.0) }
-        ensures back { IfErr result (λ refused. string_bytes refused.1 ≡ string_bytes text) }
-    {
-        match parse::parse_uri_ref(text.as_str()) {
-            Ok(positions) => Ok(UriRef { text, positions }),
-            Err(error) => Err((error, text)),
-        }
-    }
-
-    /// The same URI reference over the text, which is borrowed.
-    pub fn borrow(&self) -> UriRef<&str>
-        ensures { uri_ref_text result ≡ uri_ref_text self.now }
-    {
-        UriRef {
-            text: self.text.as_str(),
-            positions: self.positions,
-        }
-    }
-
-    /// The same URI reference without its fragment (RFC 3986, section 3.5): the text up to its `#`.
-    ///
-    /// # Examples
-    ///
-    /// Of `http://example.com/#fragment` it is `http://example.com/`.
-    pub fn strip_fragment(&self) -> UriRef<&str>
-        ensures { IsWithFragment (uri_ref_text self.now) None (uri_ref_text result) }
-    {
-        self.borrow().strip_fragment()
-    }
-
-    /// A copy with this fragment in place of its own, or with none (RFC 3986, section 3.5).
-    ///
-    /// # Errors
-    ///
-    /// Only if memory is refused.
-    ///
-    /// # Examples
-    ///
-    /// Of `http://example.com/` with the fragment `fragment` it is `http://example.com/#fragment`,
-    /// with the empty fragment `http://example.com/#`, and with none `http://example.com/`.
-    pub fn with_fragment(
-        &self,
-        alloc: Global,
-        fragment: Option<EStr<'_, Fragment>>,
-    ) -> Result<UriRef<String>, AllocError>
-        ensures { IfOk result (λ made.
-            IsWithFragment (uri_ref_text self.now) (option_map text_of fragment.entry)
-            (uri_ref_text made)) }
-    {
-        traits::with_fragment(alloc, self, fragment)
-    }
-
-    /// Puts this fragment, or none, in place of its own (RFC 3986, section 3.5).
-    ///
-    /// # Errors
-    ///
-    /// Only if memory is refused, and never with `None`, which asks for none. The text, with its
-    /// fragment, is then as it was.
-    ///
-    /// # Examples
-    ///
-    /// With the fragment `fragment`, `http://example.com/` becomes `http://example.com/#fragment`,
-    /// and with `None` it is `http://example.com/` again.
-    pub fn set_fragment(&mut self, fragment: Option<EStr<'_, Fragment>>) -> Result<(), AllocError>
-        ensures set { OnOk result
-            (IsWithFragment (uri_ref_text self.old) (option_map text_of fragment.entry)
-            (uri_ref_text self.new)) }
-        ensures kept { OnErr result (uri_ref_text self.new ≡ uri_ref_text self.old) }
-        ensures none { fragment.entry ≡ None → IsOk result }
-    {
-        fragment::set_fragment(&mut self.text, &self.positions, fragment)
-    }
-
-    /// The text as it stands, with its memory.
-    pub fn into_string(self) -> String
-        ensures { string_bytes result ≡ uri_ref_text self }
-    {
-        self.into()
-    }
-
-    /// The normal form: what `Normalizer::new()` answers (RFC 3986, section 6.2.2).
-    ///
-    /// # Errors
-    ///
-    /// Only if memory is refused.
-    pub fn normalize(&self, alloc: Global) -> Result<UriRef<String>, AllocError>
-        ensures { IfOk result (λ normal.
-            IsNormalForm uri_ref default_port (uri_ref_text self.now) (uri_ref_text normal)) }
-    {
-        normalize::normal(alloc, self)
-    }
-
-    /// The target of this reference against a base: what `Resolver::resolve` answers where dot
-    /// segments may underflow (RFC 3986, section 5.2).
-    ///
-    /// # Errors
-    ///
-    /// `BaseWithFragment` if the base has a fragment, and else `InvalidReferenceAgainstOpaqueBase`
-    /// if the base has no authority and its path doesn't begin with `/`, and this reference has no
-    /// scheme, is not empty and doesn't begin with `#`, both before memory is asked for;
-    /// `OutOfMemory` if memory is refused. Never `PathUnderflow`.
-    pub fn resolve_against<B: AsStr>(
-        &self,
-        alloc: Global,
-        base: &Uri<B>,
-    ) -> Result<Uri<String>, ResolveError>
-        ensures target { IfOk result (λ target.
-            resolution_of_texts (uri_text base.now) (uri_ref_text self.now)
-            ≡ Ok (uri_text target)) }
-        ensures refusal { IfErr result
-            (IsRefusalFor (components (uri_text base.now)) (components (uri_ref_text self.now))) }
-        ensures encoded { IfOk result (λ target. IsTargetOfEncoded true
-            (uri_text base.now) (uri_ref_text self.now) (uri_text target)) }
-        ensures encoded_error { IfErr result
-            (IsErrorForEncoded true (uri_text base.now) (uri_ref_text self.now)) }
-        ensures alike { IfOk result (λ target. IsTargetOfMeanings uri uri_ref
-            (uri_text base.now) (uri_ref_text self.now) (uri_text target)) }
-        ensures alike_error { IfErr result
-            (IsErrorOfMeanings uri uri_ref (uri_text base.now) (uri_ref_text self.now)) }
-    {
-        resolve::resolved_against(alloc, base, self)
-    }
-
-    /// The text as it stands.
-    pub fn as_str(&self) -> &str
-        ensures text { result.now ≡ uri_ref_text self.now }
-        ensures of_kind { IsOfKind uri_ref result.now }
-    {
-        self.borrow().as_str()
-    }
-
-    /// The scheme without its `:`, if there is one (RFC 3986, section 3.1).
-    pub fn scheme(&self) -> Option<Scheme<'_>>
-        ensures { option_map scheme_text result ≡ (components (uri_ref_text self.now)).scheme }
-    {
-        self.borrow().scheme()
-    }
-
-    /// The authority without its `//`, if there is one (RFC 3986, section 3.2).
-    pub fn authority(&self) -> Option<Authority<'_>>
-        ensures { option_map authority_text result
-            ≡ (components (uri_ref_text self.now)).authority }
-    {
-        self.borrow().authority()
-    }
-
-    /// The path, which may be empty (RFC 3986, section 3.3).
-    pub fn path(&self) -> EStr<'_, Path>
-        ensures { text_of result ≡ (components (uri_ref_text self.now)).path }
-    {
-        self.borrow().path()
-    }
-
-    /// The query without its `?`, if there is one (RFC 3986, section 3.4).
-    pub fn query(&self) -> Option<EStr<'_, Query>>
-        ensures { option_map text_of result ≡ (components (uri_ref_text self.now)).query }
-    {
-        self.borrow().query()
-    }
-
-    /// The fragment without its `#`, if there is one (RFC 3986, section 3.5).
-    pub fn fragment(&self) -> Option<EStr<'_, Fragment>>
-        ensures { option_map text_of result ≡ (components (uri_ref_text self.now)).fragment }
-    {
-        self.borrow().fragment()
-    }
-}
-
 impl<'a> TryFrom<&'a str> for UriRef<&'a str> {
-    type Error = ParseError;
-
     ghost use Rattle.uri_ascii.specs.Parses.{Parses};
     ghost use Rattle.uri_ascii.specs.UriRefs.{uri_ref_text};
+
+    type Error = ParseError;
 
     ghost try_from_gives = { λ text result. Parses uri_ref uri_ref_text text.now result };
 
@@ -562,10 +182,10 @@ impl<'a> TryFrom<&'a str> for UriRef<&'a str> {
 }
 
 impl TryFrom<String> for UriRef<String> {
-    type Error = (ParseError, String);
-
     ghost use Rattle.uri_ascii.specs.Parses.{ParsesOwned};
     ghost use Rattle.uri_ascii.specs.UriRefs.{uri_ref_text};
+
+    type Error = (ParseError, String);
 
     ghost try_from_gives = { λ text result.
         ParsesOwned uri_ref uri_ref_text (string_bytes text) result };
@@ -583,7 +203,7 @@ impl From<UriRef<String>> for String {
 
     /// The same as `into_string`.
     fn from(value: UriRef<String>) -> String {
-        value.text
+        value.into_string()
     }
 }
 
@@ -597,14 +217,7 @@ impl<'a> Default for UriRef<&'a str> {
     /// The empty text, a reference to the base itself (RFC 3986, section 4.4).
     fn default() -> Self {
         UriRef {
-            text: "",
-            positions: Positions {
-                scheme_end: None,
-                authority: None,
-                path_start: 0,
-                path_end: 0,
-                query_end: None,
-            },
+            core: Core::empty(),
         }
     }
 }
@@ -619,7 +232,7 @@ impl<T: AsStr> fmt::Display for UriRef<T> {
 
     /// Prints the text as it stands, padded and cut as the format asks.
     fn fmt<W: fmt::Write>(&self, f: &mut fmt::Formatter<W>) -> fmt::Result {
-        f.pad(self.text.as_str())
+        f.pad(self.core().as_str())
     }
 }
 
@@ -627,89 +240,6 @@ impl<T: AsStr> fmt::Debug for UriRef<T> {
     /// Prints the components by name.
     fn fmt<W: fmt::Write>(&self, f: &mut fmt::Formatter<W>) -> fmt::Result {
         let core = self.core();
-        f.debug_struct("UriRef")
-            .field("scheme", &core.scheme())
-            .field("authority", &core.authority())
-            .field("path", &core.path())
-            .field("query", &core.query())
-            .field("fragment", &core.fragment())
-            .finish()
-    }
-}
-
-impl<T: AsStr> PartialEq for UriRef<T> {
-    ghost use Rattle.std.proofs.Common.{rules};
-    ghost use Rattle.std.specs.Prelude.{◌==◌};
-    ghost use Rattle.std.specs.Cmp.Rules.{comparing};
-    ghost use Rattle.std.specs.Ordering.{on};
-    ghost use Rattle.std.specs.Cmp.Lexicographic.{pointwise};
-    ghost use Rattle.uri_ascii.specs.UriRefs.{uri_ref_text};
-
-    ghost eq = { on uri_ref_text (pointwise ◌==◌) };
-
-    ghost laws = { Prim.search (comparing, rules) };
-
-    fn eq(&self, other: &Self) -> bool {
-        self.text.as_str() == other.text.as_str()
-    }
-}
-
-impl<T: AsStr> Eq for UriRef<T> {
-    ghost use Rattle.std.proofs.Common.{rules};
-    ghost use Rattle.std.specs.Cmp.Rules.{comparing};
-
-    ghost laws = { Prim.search (comparing, rules) };
-}
-
-impl<T: AsStr> Ord for UriRef<T> {
-    ghost use Rattle.std.proofs.Common.{rules};
-    ghost use Rattle.std.specs.Cmp.Rules.{comparing};
-    ghost use Rattle.std.specs.Ordering.{on, nat_cmp};
-    ghost use Rattle.std.specs.Cmp.Lexicographic.{slice_cmp};
-    ghost use Rattle.uri_ascii.specs.UriRefs.{uri_ref_text};
-
-    ghost cmp = { on uri_ref_text (slice_cmp nat_cmp) };
-
-    ghost total = { Prim.search (comparing, rules) };
-
-    ghost matches_partial_cmp = { Prim.search (comparing, rules) };
-
-    ghost matches_eq = { Prim.search (comparing, rules) };
-
-    fn cmp(&self, other: &Self) -> Ordering {
-        self.text.as_str().cmp(other.text.as_str())
-    }
-}
-
-impl<T: AsStr> PartialOrd for UriRef<T> {
-    ghost use Rattle.std.proofs.Common.{rules};
-    ghost use Rattle.std.specs.Cmp.Rules.{comparing};
-    ghost use Rattle.std.specs.Cmp.{partial_order_from_own_ties};
-    ghost use Rattle.std.specs.Ordering.{on, nat_cmp, as_partial_cmp};
-    ghost use Rattle.std.specs.Cmp.Lexicographic.{slice_cmp};
-    ghost use Rattle.uri_ascii.specs.UriRefs.{uri_ref_text};
-
-    ghost partial_cmp = { as_partial_cmp (on uri_ref_text (slice_cmp nat_cmp)) };
-
-    ghost laws = { partial_order_from_own_ties (Prim.search (comparing, rules))
-        (Prim.search (comparing, rules)) };
-
-    fn partial_cmp(&self, other: &Self) -> Option<Ordering> {
-        Some(self.cmp(other))
-    }
-}
-
-impl<T: AsStr> Hash for UriRef<T> {
-    ghost use Rattle.std.proofs.Common.{rules};
-    ghost use Rattle.std.specs.Hash as fed;
-    ghost use Rattle.std.specs.Cmp.Rules.{comparing, hashing};
-    ghost use Rattle.uri_ascii.specs.UriRefs.{uri_ref_text};
-
-    ghost hash_input = { λ value. fed.str (uri_ref_text value) };
-
-    ghost respects_eq = { Prim.search (hashing, rules) };
-
-    fn hash<H: Hasher>(&self, state: &mut H) {
-        self.text.as_str().hash(state);
+        core.debug("UriRef", core.scheme(), f)
     }
 }

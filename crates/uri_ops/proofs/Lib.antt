@@ -50,7 +50,6 @@ pub mod Decodable
 pub mod AsciiTexts
 pub mod Conversions
 pub mod EncodedRuns
-pub mod ReferenceKinds
 pub mod NormalPieces
 pub mod NormalForms
 pub mod NormalTargets

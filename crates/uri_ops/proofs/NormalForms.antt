@@ -1,5 +1,5 @@
 -- A text that is the normal text of a text of the kind.
-use Rattle.std.proofs.Common.{◌≡◌, List, ℕ, false, sym, ap, subst, ◌∙◌}
+use Rattle.std.proofs.Common.{◌≡◌, List, ℕ, sym, ap, subst, ◌∙◌}
 use Rattle.std.specs.Prelude.{◌↔◌}
 use Rattle.std.specs.Str.{IsUtf8}
 use Rattle.uri_parts.specs.Grammar.{Kind, IsOfKind}
@@ -11,17 +11,13 @@ use Rattle.uri_ops.specs.Ports.{PortFunction}
 use Rattle.uri_ops.specs.Texts.{IsTextOf}
 use Rattle.uri_ops.proofs.NormalTexts.{normal_is_text, meaning_of-normal_text, same_normal_text}
 
--- whether a scheme is needed makes no difference to a meaning
-same_meaning : (kind wide : Kind) (ports : PortFunction) (text : List ℕ) → wide ≡ record kind { needs_scheme = false } → meaning_of wide ports text ≡ meaning_of kind ports text
-same_meaning kind wide ports text e = ap (λ k. meaning_of k ports text) e
-
-module _ (kind wide : Kind) (reference : wide ≡ record kind { needs_scheme = false }) (sets : HasComponentSets kind) (ports : PortFunction)
-    (held text normal : List ℕ) (same : held ≡ text) (utf8 : IsUtf8 held) (grammar : IsOfKind kind text) (made : HasNormalText wide ports held normal) where
+module _ (kind own : Kind) (own_kind : own ≡ kind) (sets : HasComponentSets kind) (ports : PortFunction)
+    (held text normal : List ℕ) (same : held ≡ text) (utf8 : IsUtf8 held) (grammar : IsOfKind kind text) (made : HasNormalText own ports held normal) where
   source : IsTextOf kind text
   source = record { utf8 = subst IsUtf8 same utf8; grammar = grammar }
 
   is_normal : normal ≡ normal_text (meaning_of kind ports text)
-  is_normal = made.text ∙ ap normal_text (same_meaning kind wide ports held reference) ∙ ap (λ t. normal_text (meaning_of kind ports t)) same
+  is_normal = made.text ∙ ap (λ k. normal_text (meaning_of k ports held)) own_kind ∙ ap (λ t. normal_text (meaning_of kind ports t)) same
 
   pub normal_is_of_kind : IsTextOf kind normal
   normal_is_of_kind = subst (IsTextOf kind) (sym is_normal) (normal_is_text kind ports sets text source)

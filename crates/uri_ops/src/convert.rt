@@ -9,8 +9,8 @@ ghost use Rattle.uri_ops.specs.Conversions.{first_past_ascii, scheme_refusal, as
 ghost use Rattle.uri_ops.specs.Conversions.{uri_refusal};
 
 use thiserror::Error;
-use uri_parts::core_text::CoreText;
-use uri_parts::rules::Encoders;
+use uri_parts::core_text::Core;
+use uri_parts::kind::Kind;
 
 /// Why a value of one kind is none of another.
 #[derive(Clone, Copy, Debug, PartialEq, Eq, Error)]
@@ -41,7 +41,7 @@ fn first_past_ascii(text: &str) -> Option<usize>
 /// `NoScheme`, exactly if there is none.
 #[doc(hidden)]
 #[tactic(auto, unfolding(crate::specs::Conversions::scheme_refusal))]
-pub fn needs_scheme<K: Encoders>(core: CoreText<'_, K>) -> Result<(), ConvertError>
+pub fn needs_scheme<K: Kind>(core: Core<K, &str>) -> Result<(), ConvertError>
     ensures { result_err result ≡ scheme_refusal (core_text core.entry) }
 {
     if core.has_scheme() {

@@ -25,8 +25,8 @@ use crate::reading::{push_component, push_lower, push_read};
 use crate::slashes::begins_with_two_slashes;
 use std::alloc::{AllocError, Global};
 use uri_parts::component::{Authority, Scheme};
-use uri_parts::core_text::CoreText;
-use uri_parts::rules::Encoders;
+use uri_parts::core_text::Core;
+use uri_parts::kind::Kind;
 use uri_pct::encoder::{Encoder, PathEncoder};
 use uri_pct::pct_enc::EStr;
 
@@ -196,9 +196,9 @@ fn push_path<E: PathEncoder>(
 ///
 /// After an error some of it may stand behind what was there.
 #[doc(hidden)]
-pub fn push_normal<K: Encoders, P: DefaultPort>(
+pub fn push_normal<K: Kind, P: DefaultPort>(
     alloc: Global,
-    core: CoreText<'_, K>,
+    core: Core<K, &str>,
     ports: &P,
     out: &mut String,
 ) -> Result<bool, AllocError>

@@ -14,8 +14,8 @@ use crate::normal_text::push_normal;
 use crate::traits::{RiMaybeRef, owned};
 use std::alloc::{AllocError, Global};
 use thiserror::Error;
-use uri_parts::core_text::CoreText;
-use uri_parts::rules::Encoders;
+use uri_parts::core_text::Core;
+use uri_parts::kind::Kind;
 
 /// Why a value was not normalised.
 #[derive(Clone, Copy, Debug, PartialEq, Eq, Error)]
@@ -56,9 +56,9 @@ pub(crate) struct Normalized {
 
 /// The normal text of a text of a kind.
 #[tactic(auto, unfolding(crate::specs::Normalizers::text_underflows))]
-pub(crate) fn normal_form<K: Encoders, P: DefaultPort>(
+pub(crate) fn normal_form<K: Kind, P: DefaultPort>(
     alloc: Global,
-    core: CoreText<'_, K>,
+    core: Core<K, &str>,
     ports: &P,
 ) -> Result<Normalized, AllocError>
     requires { HasComponentSets K.kind }

@@ -21,9 +21,10 @@ use crate::default_port::DefaultPort;
 use crate::dot_segments::{is_double_dot, last_slash, push_without_dot_segments};
 use crate::normalize::{Normalizer, normal_form};
 use crate::slashes::{begins_with_slash, begins_with_two_slashes};
-use crate::traits::{RefOf, Ri, RiMaybeRef, core_of, owned};
+use crate::traits::{RefOf, Ri, RiMaybeRef, owned};
 use std::alloc::{AllocError, Global};
 use thiserror::Error;
+use uri_parts::core_text::Core;
 
 /// Why a reference was not resolved against a base.
 #[derive(Clone, Copy, Debug, PartialEq, Eq, Error)]
@@ -501,7 +502,7 @@ impl<R: Ri> Resolver<R> {
             (R.text (base_of self.now)) (Q.text reference.now)) }
     {
         let target = resolved_text(alloc, &self.base, reference, true)?;
-        let core = core_of::<R::Rules>(target.as_str());
+        let core = Core::<R::Kind, &str>::of_text(target.as_str());
         let made = normal_form(alloc, core, &normalizer.ports)?;
         Ok(owned::<R>(made.text))
     }

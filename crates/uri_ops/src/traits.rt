@@ -1,18 +1,13 @@
 //! What the four kinds have in common.
-ghost use Rattle.std.specs.Prelude.{◌≡◌, IfOk, false, option_map, string_bytes};
+ghost use Rattle.std.specs.Prelude.{◌≡◌, false, option_map, string_bytes};
 ghost use Rattle.uri_parts.specs.CoreTexts.{core_text};
-ghost use Rattle.uri_parts.specs.Fragments.{IsWithFragment};
 ghost use Rattle.uri_parts.specs.Grammar.{IsOfKind};
 ghost use Rattle.uri_parts.specs.Positions.{AreAt};
-ghost use Rattle.uri_pct.specs.EStrs.{text_of};
-ghost use Rattle.uri_ops.specs.Texts.{IsTextOf};
 
-use std::alloc::{AllocError, Global};
 use uri_parts::component::{Authority, Scheme};
-use uri_parts::core_text::CoreText;
-use uri_parts::fragment;
+use uri_parts::core_text::{Core, positions_in};
+use uri_parts::kind::Kind;
 use uri_parts::positions::Positions;
-use uri_parts::rules::{Encoders, Rules};
 use uri_pct::encoder::{Encoder, PathEncoder};
 use uri_pct::pct_enc::EStr;
 
@@ -22,7 +17,7 @@ use uri_pct::pct_enc::EStr;
 /// (RFC 3986, section 3; RFC 3987, section 2.2).
 pub trait RiMaybeRef {
     ghost use Rattle.std.specs.Prelude.{ℕ, List};
-    ghost use Rattle.uri_parts.specs.Grammar.{Kind};
+    ghost use Rattle.uri_parts.specs.Grammar as grammar;
     ghost use Rattle.uri_ops.specs.BuilderParts.{known_kind};
     ghost use Rattle.uri_ops.specs.ComponentSets.{HasComponentSets};
     ghost use Rattle.uri_pct.specs.EStrs.{text_of};
@@ -49,7 +44,7 @@ pub trait RiMaybeRef {
     type FragmentE: Encoder;
 
     #[doc(hidden)]
-    type Rules: Encoders<
+    type Kind: Kind<
         UserinfoE = Self::UserinfoE,
         RegNameE = Self::RegNameE,
         PathE = Self::PathE,
@@ -57,7 +52,7 @@ pub trait RiMaybeRef {
         FragmentE = Self::FragmentE,
     >;
 
-    ghost kind: { Kind };
+    ghost kind: { grammar.Kind };
 
     ghost text: { Self → List ℕ };
 
@@ -68,11 +63,10 @@ pub trait RiMaybeRef {
         ensures text { result.now ≡ text self.now }
         ensures of_kind { IsOfKind kind result.now };
 
-    /// The text with the positions of its components.
+    /// Where the components of the text lie.
     #[doc(hidden)]
-    fn core(&self) -> CoreText<'_, Self::Rules>
-        ensures text { core_text result ≡ text self.now }
-        ensures of_kind { IsOfKind kind (text self.now) };
+    fn positions(&self) -> Positions
+        ensures { AreAt (text self.now) result };
 
     /// The value whose text this is, with the positions of its own components.
     #[doc(hidden)]
@@ -90,6 +84,15 @@ pub trait RiMaybeRef {
     #[doc(hidden)]
     fn has_needed_scheme() -> bool
         ensures { result ≡ kind.needs_scheme };
+
+    /// The text with the positions of its components.
+    #[doc(hidden)]
+    final fn core(&self) -> Core<Self::Kind, &str>
+        ensures text { core_text result ≡ text self.now }
+        ensures of_kind { IsOfKind kind (text self.now) }
+    {
+        core_of(self)
+    }
 
     /// The scheme without its `:`, if there is one (RFC 3986, section 3.1).
     final fn scheme_opt(&self) -> Option<Scheme<'_>>
@@ -128,7 +131,7 @@ pub trait RiMaybeRef {
 
     ghost known: { kind ≡ known_kind kind.path.ucschar kind.needs_scheme };
 
-    ghost rules_of_kind: { Self.Rules.kind ≡ record kind { needs_scheme = false } };
+    ghost kind_is_its_own: { Self.Kind.kind ≡ kind };
 
     ghost component_sets: { HasComponentSets kind };
 }
@@ -161,41 +164,12 @@ pub trait RefOf<B: Ri>: RiMaybeRef {
     ghost same_tables: { Self.kind ≡ record B.kind { needs_scheme = false } };
 }
 
-/// A copy of the value in memory of its own.
-#[doc(hidden)]
-pub fn copied<R: RiMaybeRef>(alloc: Global, value: &R) -> Result<R::Owned, AllocError>
-    ensures { IfOk result (λ copy. R.owned_text copy ≡ R.text value.now) }
+/// The text of a value with the positions of its components.
+fn core_of<R: RiMaybeRef>(value: &R) -> Core<R::Kind, &str>
+    ensures text { core_text result ≡ R.text value.now }
+    ensures of_kind { IsOfKind R.kind (R.text value.now) }
 {
-    let core = value.core();
-    let text = String::from_str(alloc, core.as_str())?;
-    Ok(R::make_owned(text, core.positions()))
-}
-
-/// A copy of the value with this fragment in place of its own, or with none.
-#[doc(hidden)]
-pub fn with_fragment<R: RiMaybeRef>(
-    alloc: Global,
-    value: &R,
-    fragment: Option<EStr<'_, R::FragmentE>>,
-) -> Result<R::Owned, AllocError>
-    ensures { IfOk result (λ made.
-        IsWithFragment (R.text value.now) (option_map text_of fragment.entry) (R.owned_text made)) }
-{
-    let core = value.core();
-    let positions = core.positions();
-    let text = fragment::with_fragment(alloc, core.as_str(), &positions, fragment)?;
-    Ok(R::make_owned(text, positions))
-}
-
-/// Where the components lie of a text that is known to be of the kind.
-fn positions_in<K: Rules>(text: &str) -> Positions
-    requires { IsOfKind K.kind text.now }
-    ensures { AreAt text.now result }
-{
-    match K::parse(text) {
-        Ok(positions) => positions,
-        Err(_) => unreachable!(),
-    }
+    Core::new(value.as_str(), value.positions())
 }
 
 /// The value whose text this is.
@@ -203,14 +177,6 @@ pub(crate) fn owned<R: RiMaybeRef>(text: String) -> R::Owned
     requires { IsOfKind R.kind (string_bytes text) }
     ensures { R.owned_text result ≡ string_bytes text }
 {
-    let positions = positions_in::<R::Rules>(text.as_str());
+    let positions = positions_in::<R::Kind>(text.as_str());
     R::make_owned(text, positions)
-}
-
-/// A text that is known to be of the kind, with the positions of its components.
-pub(crate) fn core_of<K: Encoders>(text: &str) -> CoreText<'_, K>
-    requires { IsTextOf K.kind text.now }
-    ensures { core_text result ≡ text.now }
-{
-    CoreText::new(text, positions_in::<K>(text))
 }

@@ -1,5 +1,5 @@
 -- The kinds keep apart what has to be apart, and their tables stand for their sets.
-use Rattle.std.proofs.Common.{◌≡◌, ℕ, Bool, true, false, refl, sym, ap, ◌∙◌, arith, ◌||◌, ◌&&◌, not, ⊎_elim, List, []}
+use Rattle.std.proofs.Common.{◌≡◌, ℕ, Bool, true, false, refl, sym, ap, subst, ◌∙◌, arith, ◌||◌, ◌&&◌, not, ⊎_elim, List, []}
 use Rattle.std.specs.Prelude.{codes, is_some}
 use Rattle.std.specs.Char.{is_ascii_digit}
 use Rattle.std.specs.Str.{chars}
@@ -8,7 +8,7 @@ use Rattle.std.proofs.lemmas.Bool.Decides.{nat_tests}
 use Rattle.uri_pct.specs.Sets.{TableSet, is_one_of, is_scheme_char, is_segment_nz_nc_char, is_path_char, is_reg_name_char, is_userinfo_char, segment_nz_nc_set, isegment_nz_nc_set, path_set, userinfo_set, reg_name_set, query_set, fragment_set, allows_past_ascii}
 use Rattle.uri_pct.specs.Tokens.{is_valid_for, tokens_of}
 use Rattle.uri_pct.specs.Fronts.{allows_first}
-use Rattle.uri_parts.specs.Grammar.{Kind, uri, uri_ref, iri, iri_ref, IsOfKind}
+use Rattle.uri_parts.specs.Grammar.{Kind, uri, uri_ref, iri, iri_ref, IsOfKind, first_segment_set, one_of_four}
 use Rattle.uri_parts.specs.Components.{components}
 use Rattle.uri_parts.proofs.Separations.{Separates}
 
@@ -77,17 +77,13 @@ separates ucschar iprivate needs_scheme = record {
   rest = first_rest ucschar;
 }
 
-pub uri_separates : Separates segment_nz_nc_set uri
-uri_separates = separates false false true
+one_separates : (international needs_scheme : Bool) (kind : Kind) → kind ≡ one_of_four international needs_scheme → kind.path.ucschar ≡ international → Separates (first_segment_set kind) kind
+one_separates false needs_scheme kind e u = subst (λ k. Separates (first_segment_set k) k) (sym e) (separates false false needs_scheme)
+one_separates true needs_scheme kind e u = subst (λ k. Separates (first_segment_set k) k) (sym e) (separates true true needs_scheme)
 
-pub uri_ref_separates : Separates segment_nz_nc_set uri_ref
-uri_ref_separates = separates false false false
-
-pub iri_separates : Separates isegment_nz_nc_set iri
-iri_separates = separates true true true
-
-pub iri_ref_separates : Separates isegment_nz_nc_set iri_ref
-iri_ref_separates = separates true true false
+-- each of the four kinds does
+pub known_separates : (kind : Kind) → kind ≡ one_of_four kind.path.ucschar kind.needs_scheme → Separates (first_segment_set kind) kind
+known_separates kind known = one_separates kind.path.ucschar kind.needs_scheme kind known refl
 
 -- where a scheme is needed it is there, and a text that has one is a reference too
 with_scheme : (needed present other : Bool) → needed ≡ true → (present || (not needed && other)) ≡ true → present ≡ true

@@ -1,11 +1,11 @@
 -- Which texts are of a kind: RFC 3986, sections 3 and 4.1, and RFC 3987, section 2.2.
 use Rattle.std.specs.Prelude.{◌≡◌, ◌==◌, ℕ, Bool, true, false, not, ◌&&◌, ◌||◌, List, codes}
-use Rattle.std.specs.Prelude.{slice_index, Option, Some, None, is_some}
+use Rattle.std.specs.Prelude.{slice_index, Option, Some, None, is_some, if◌then◌else◌}
 use Rattle.std.specs.List.{list_any}
 use Rattle.std.specs.Char.{is_ascii_alphabetic}
 use Rattle.uri_pct.specs.Sets.{TableSet, scheme_set, userinfo_set, reg_name_set, path_set}
 use Rattle.uri_pct.specs.Sets.{query_set, fragment_set, iuserinfo_set, ireg_name_set, ipath_set}
-use Rattle.uri_pct.specs.Sets.{iquery_set, ifragment_set}
+use Rattle.uri_pct.specs.Sets.{iquery_set, ifragment_set, segment_nz_nc_set, isegment_nz_nc_set}
 use Rattle.uri_pct.specs.Tokens.{is_valid_for}
 use Rattle.uri_parts.specs.Authority.{is_authority_for}
 use Rattle.uri_parts.specs.Components.{Components, components, before_any}
@@ -47,6 +47,15 @@ iri_ref = record {
 
 abbrev pub iri : Kind
 iri = record iri_ref { needs_scheme = true }
+
+-- one of the four, by whether there are characters past ASCII, and whether a scheme is needed
+abbrev pub one_of_four : Bool → Bool → Kind
+one_of_four international needs_scheme =
+    record (if international then iri_ref else uri_ref) { needs_scheme = needs_scheme }
+
+-- RFC 3986, section 3.3, and RFC 3987, section 2.2: the characters of a first segment without `:`
+abbrev pub first_segment_set : Kind → TableSet
+first_segment_set kind = if kind.path.ucschar then isegment_nz_nc_set else segment_nz_nc_set
 
 -- section 3.1: a letter, and then letters, digits, `+`, `-` and `.`
 abbrev pub is_scheme : List ℕ → Bool

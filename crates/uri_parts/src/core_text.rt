@@ -1,65 +1,154 @@
 //! A text of a kind with the positions of its components: what every value of a kind holds.
-ghost use Rattle.std.specs.Prelude.{◌≡◌, is_some, option_map, Some, true};
+ghost use Rattle.std.specs.Prelude.{◌≡◌, ◌↔◌, [], IfErr, IfOk, IsOk, None, Some};
+ghost use Rattle.std.specs.Prelude.{is_some, option_map, true};
+ghost use Rattle.std.specs.Str.{IsUtf8};
 ghost use Rattle.uri_parts.specs.Components.{components};
+ghost use Rattle.uri_parts.specs.Errors.{IsErrorIn};
+ghost use Rattle.uri_parts.specs.Fragments.{IsWithFragment};
 ghost use Rattle.uri_parts.specs.Grammar.{IsOfKind};
 ghost use Rattle.uri_parts.specs.Positions.{AreAt};
 
+mod comparing;
+mod owned;
+
 use crate::component::{Authority, Scheme};
+use crate::error::ParseError;
+use crate::fragment;
+use crate::kind::Kind;
+use crate::parse::parse;
 use crate::positions::Positions;
-use crate::rules::{Encoders, Rules};
-use std::alloc::AllocError;
+use std::alloc::{AllocError, Global};
+use std::convert::AsStr;
 use std::marker::PhantomData;
 use uri_pct::pct_enc::EStr;
 
-/// A text of the kind of `K`, and where its components lie.
+/// Where the components lie of a text that is known to be of the kind.
 #[doc(hidden)]
-pub struct CoreText<'a, K: Rules> {
-    text: &'a str,
-    positions: Positions,
-    rules: PhantomData<K>,
-    pub ghost of_kind: { IsOfKind K.kind text.now },
-    pub ghost at: { AreAt text.now positions },
+pub fn positions_in<K: Kind>(text: &str) -> Positions
+    requires { IsOfKind K.kind text.now }
+    ensures { AreAt text.now result }
+{
+    match parse::<K>(text) {
+        Ok(positions) => positions,
+        Err(_) => unreachable!(),
+    }
 }
 
-impl<'a, K: Rules> Clone for CoreText<'a, K> {
-    ghost use Rattle.std.specs.Prelude.{⊤};
+/// A text of the kind of `K`, and where its components lie.
+#[doc(hidden)]
+#[derive(Drop)]
+pub struct Core<K: Kind, T: AsStr> {
+    text: T,
+    positions: Positions,
+    kind: PhantomData<K>,
+    pub ghost of_kind: { IsOfKind K.kind (T.text text) },
+    pub ghost at: { AreAt (T.text text) positions },
+}
 
-    ghost is_clone = { λ value copy. copy ≡ value };
+impl<K: Kind, T: AsStr + Copy> Clone for Core<K, T> {
+    ghost use Rattle.std.specs.Prelude.{⊤};
+    ghost use Rattle.uri_parts.specs.CoreTexts.{core_text};
+
+    ghost is_clone = { λ value copy. core_text copy ≡ core_text value };
 
     ghost is_infallible = { λ _. ⊤ };
 
     fn clone(&self) -> Result<Self, AllocError> {
-        Ok(*self)
+        Ok(Core::new(self.text, self.positions))
     }
 }
 
-impl<'a, K: Rules> Copy for CoreText<'a, K> {}
+impl<K: Kind, T: AsStr + Copy> Copy for Core<K, T> {}
+
+impl<K: Kind, T: AsStr> Core<K, T> {
+    ghost use Rattle.uri_parts.specs.CoreTexts.{core_text};
+
+    /// The text with the positions of its own components.
+    #[inline(always)]
+    pub fn new(text: T, positions: Positions) -> Self
+        requires of_kind { IsOfKind K.kind (T.text text) }
+        requires at { AreAt (T.text text) positions }
+        ensures { core_text result ≡ T.text text }
+    {
+        Core {
+            text,
+            positions,
+            kind: PhantomData,
+        }
+    }
+
+    /// Reads a text as one of the kind. It comes back where it is none.
+    #[inline(always)]
+    pub fn parse(text: T) -> Result<Core<K, T>, (ParseError, T)>
+        ensures accepts { IsOk result ↔ IsOfKind K.kind (T.text text) }
+        ensures text { IfOk result (λ core. core_text core ≡ T.text text) }
+        ensures err { IfErr result (λ refused. IsErrorIn (T.text text) refused.0) }
+        ensures back { IfErr result (λ refused. T.text refused.1 ≡ T.text text) }
+    {
+        match parse::<K>(text.as_str()) {
+            Ok(positions) => Ok(Core::new(text, positions)),
+            Err(error) => Err((error, text)),
+        }
+    }
+
+    /// Reads a text that is known to be of the kind.
+    pub fn of_text(text: T) -> Core<K, T>
+        requires { IsOfKind K.kind (T.text text) }
+        ensures { core_text result ≡ T.text text }
+    {
+        let positions = positions_in::<K>(text.as_str());
+        Core::new(text, positions)
+    }
+
+    /// The same text as one of another kind that it is of.
+    #[inline(always)]
+    pub fn into_kind<L: Kind>(self) -> Core<L, T>
+        requires { IsOfKind L.kind (core_text self) }
+        ensures { core_text result ≡ core_text self }
+    {
+        Core::new(self.text, self.positions)
+    }
+
+    /// The same over the text, which is borrowed.
+    #[inline(always)]
+    pub fn borrow(&self) -> Core<K, &str>
+        ensures text { core_text result ≡ core_text self.now }
+        ensures of_kind { IsOfKind K.kind (core_text self.now) }
+        ensures utf8 { IsUtf8 (core_text self.now) }
+    {
+        Core::new(self.text.as_str(), self.positions)
+    }
+}
 
 #[tactic(auto, using(crate::proofs::Parts::parts_valid))]
-impl<'a, K: Encoders> CoreText<'a, K> {
+impl<'a, K: Kind> Core<K, &'a str> {
     ghost use Rattle.uri_pct.specs.EStrs.{text_of};
     ghost use Rattle.uri_parts.specs.Schemes.{scheme_text};
     ghost use Rattle.uri_parts.specs.AuthorityTexts.{authority_text};
     ghost use Rattle.uri_parts.specs.CoreTexts.{core_text};
 
-    /// The text with the positions of its own components.
-    pub fn new(text: &'a str, positions: Positions) -> Self
-        requires of_kind { IsOfKind K.kind text.now }
-        requires at { AreAt text.now positions }
-        ensures { core_text result ≡ text.now }
-    {
-        CoreText {
-            text,
-            positions,
-            rules: PhantomData,
-        }
-    }
-
     /// The text.
+    #[inline(always)]
     pub fn as_str(self) -> &'a str
-        ensures { result.now ≡ core_text self.entry }
+        ensures text { result.now ≡ core_text self.entry }
+        ensures of_kind { IsOfKind K.kind result.now }
     {
         self.text
+    }
+
+    /// The empty text.
+    pub fn empty() -> Core<K, &'a str>
+        requires { IsOfKind K.kind [] }
+        ensures { core_text result ≡ [] }
+    {
+        let positions = Positions {
+            scheme_end: None,
+            authority: None,
+            path_start: 0,
+            path_end: 0,
+            query_end: None,
+        };
+        Core::new("", positions)
     }
 
     /// Where its components lie.
@@ -156,5 +245,33 @@ impl<'a, K: Encoders> CoreText<'a, K> {
             Some(fragment) => Some(EStr::new_unchecked(fragment)),
             None => None,
         }
+    }
+
+    /// The same without its fragment: the text up to its `#`.
+    pub fn strip_fragment(self) -> Core<K, &'a str>
+        ensures { IsWithFragment (core_text self.entry) None (core_text result) }
+    {
+        Core::new(self.positions.without_fragment(self.text), self.positions)
+    }
+
+    /// A copy with this fragment in place of its own, or with none.
+    pub fn with_fragment(
+        self,
+        alloc: Global,
+        fragment: Option<EStr<'_, K::FragmentE>>,
+    ) -> Result<Core<K, String>, AllocError>
+        ensures { IfOk result (λ made.
+            IsWithFragment (core_text self.entry) (option_map text_of fragment.entry)
+            (core_text made)) }
+    {
+        let text = fragment::with_fragment(alloc, self.text, &self.positions, fragment)?;
+        Ok(Core::new(text, self.positions))
+    }
+
+    /// The same over a copy of the text.
+    pub fn to_owned(self, alloc: Global) -> Result<Core<K, String>, AllocError>
+        ensures { IfOk result (λ copy. core_text copy ≡ core_text self.entry) }
+    {
+        Ok(Core::new(String::from_str(alloc, self.text)?, self.positions))
     }
 }

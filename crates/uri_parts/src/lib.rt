@@ -15,6 +15,8 @@ pub mod fragment;
 #[doc(hidden)]
 pub mod grammar;
 #[doc(hidden)]
+pub mod kind;
+#[doc(hidden)]
 pub mod laws;
 #[doc(hidden)]
 pub mod literal;
@@ -27,8 +29,6 @@ pub mod port;
 pub mod positions;
 #[doc(hidden)]
 pub mod reader;
-#[doc(hidden)]
-pub mod rules;
 #[doc(hidden)]
 pub mod scheme;
 #[doc(hidden)]

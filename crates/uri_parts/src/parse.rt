@@ -1,7 +1,7 @@
 //! The parser of the four kinds.
 ghost use Rattle.std.specs.Prelude.{◌≡◌, ◌↔◌, ◌&&◌, IfErr, IfOk, IsOk, is_ok, Some, None};
 ghost use Rattle.uri_parts.specs.Errors.{IsErrorIn};
-ghost use Rattle.uri_parts.specs.Grammar.{IsOfKind, uri, uri_ref, iri, iri_ref};
+ghost use Rattle.uri_parts.specs.Grammar.{IsOfKind};
 ghost use Rattle.uri_parts.specs.Grammars.{kind_of, segment_nz_nc_of};
 ghost use Rattle.uri_parts.specs.Positions.{AreAt};
 ghost use Rattle.uri_parts.specs.Readers.{rest_of, text_of, place_of, positions_from};
@@ -13,7 +13,8 @@ ghost use Rattle.uri_parts.specs.Reading.{schemeless_positions, read_positions};
 
 use crate::authority_reader::find_authority;
 use crate::error::ParseError;
-use crate::grammar::{Grammar, iri_grammar, uri_grammar};
+use crate::grammar::Grammar;
+use crate::kind::Kind;
 use crate::positions::{AuthorityPositions, Positions};
 use crate::reader::Reader;
 use uri_pct::table::SCHEME;
@@ -225,42 +226,11 @@ fn read_text(grammar: &Grammar, text: &str) -> Result<Positions, ParseError>
     read_path(&mut reader, grammar, before)
 }
 
-/// Where the components of a URI lie (RFC 3986, section 3), or why the text is none.
-#[tactic(auto, using(crate::proofs::WholeTexts::whole_texts))]
-pub fn parse_uri(text: &str) -> Result<Positions, ParseError>
-    ensures accepts { IsOk result ↔ IsOfKind uri text.now }
+/// Where the components of a text of the kind lie, or why the text is none.
+pub fn parse<K: Kind>(text: &str) -> Result<Positions, ParseError>
+    ensures accepts { IsOk result ↔ IsOfKind K.kind text.now }
     ensures positions { IfOk result (AreAt text.now) }
     ensures err { IfErr result (IsErrorIn text.now) }
 {
-    read_text(&uri_grammar(true), text)
-}
-
-/// Where the components of a URI reference lie (RFC 3986, section 4.1), or why the text is none.
-#[tactic(auto, using(crate::proofs::WholeTexts::whole_texts))]
-pub fn parse_uri_ref(text: &str) -> Result<Positions, ParseError>
-    ensures accepts { IsOk result ↔ IsOfKind uri_ref text.now }
-    ensures positions { IfOk result (AreAt text.now) }
-    ensures err { IfErr result (IsErrorIn text.now) }
-{
-    read_text(&uri_grammar(false), text)
-}
-
-/// Where the components of an IRI lie (RFC 3987, section 2.2), or why the text is none.
-#[tactic(auto, using(crate::proofs::WholeTexts::whole_texts))]
-pub fn parse_iri(text: &str) -> Result<Positions, ParseError>
-    ensures accepts { IsOk result ↔ IsOfKind iri text.now }
-    ensures positions { IfOk result (AreAt text.now) }
-    ensures err { IfErr result (IsErrorIn text.now) }
-{
-    read_text(&iri_grammar(true), text)
-}
-
-/// Where the components of an IRI reference lie (RFC 3987, section 2.2), or why the text is none.
-#[tactic(auto, using(crate::proofs::WholeTexts::whole_texts))]
-pub fn parse_iri_ref(text: &str) -> Result<Positions, ParseError>
-    ensures accepts { IsOk result ↔ IsOfKind iri_ref text.now }
-    ensures positions { IfOk result (AreAt text.now) }
-    ensures err { IfErr result (IsErrorIn text.now) }
-{
-    read_text(&iri_grammar(false), text)
+    read_text(&K::tables(), text)
 }

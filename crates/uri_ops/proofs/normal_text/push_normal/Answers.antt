@@ -14,7 +14,7 @@ use Rattle.uri_ops.proofs.normal_text.push_normal.Goals as goal
 
 pub returns-clause-text : goal.returns-clause-text
 returns-clause-text g c =
-    let kind = g.K.Rules.kind in
+    let kind = g.K.Kind.kind in
     let ports = g.P.DefaultPort.port_of c.args.ports.now in
     let p = components c.args.core.text.now in
     let scheme = option_map str_to_ascii_lowercase p.scheme in
@@ -27,16 +27,16 @@ returns-clause-text g c =
     let o4 = string_bytes c.push_marked.new.out in
     normal_written kind ports c.args.core.text.now old o1 o2 o3 o4 (string_bytes c.push_marked-2.new.out)
     (c.in_ok-push_scheme.ensures ∙ ap (λ s. old ++ marked [] (option_map str_to_ascii_lowercase s) (codes ":")) c.scheme-scheme.ensures)
-    (c.in_ok-push_marked_authority.ensures kind (sym g.met.K.Encoders.userinfo_set) (sym g.met.K.Encoders.reg_name_set)
+    (c.in_ok-push_marked_authority.ensures kind (sym g.met.K.Kind.userinfo_set) (sym g.met.K.Kind.reg_name_set)
     ∙ ap (λ d. o1 ++ marked (codes "//") (option_map normal_authority (option_map (authority_meaning kind d) (option_map authority_text c.authority.result))) [])
     (c.default_port.ensures ∙ ap (λ s. option_and_then ports (option_map str_to_ascii_lowercase s)) c.scheme-scheme.ensures)
     ∙ ap (λ a. o1 ++ marked (codes "//") (option_map normal_authority (option_map (authority_meaning kind default) a)) []) c.authority.ensures)
     (c.in_ok-underflowed.ensures.text p.scheme authority (sym c.has_scheme.ensures) (some_twice (authority_meaning kind default) normal_authority p.authority ∙ sym c.has_authority.ensures)
-    ∙ ap (λ set. o2 ++ path_text set p.scheme authority (text_of c.path-path.result)) g.met.K.Encoders.path_set
+    ∙ ap (λ set. o2 ++ path_text set p.scheme authority (text_of c.path-path.result)) g.met.K.Kind.path_set
     ∙ ap (λ path. o2 ++ path_text kind.path p.scheme authority path) c.path-path.ensures)
     (c.in_ok-push_marked.ensures
-    ∙ ap (λ set. o3 ++ marked (codes "?") (option_map print (option_map (read set) (option_map text_of c.query.result))) []) g.met.K.Encoders.query_set
+    ∙ ap (λ set. o3 ++ marked (codes "?") (option_map print (option_map (read set) (option_map text_of c.query.result))) []) g.met.K.Kind.query_set
     ∙ ap (λ q. o3 ++ marked (codes "?") (option_map print (option_map (read kind.query) q)) []) c.query.ensures)
     (c.in_ok-push_marked-2.ensures
-    ∙ ap (λ set. o4 ++ marked (codes "#") (option_map print (option_map (read set) (option_map text_of c.fragment.result))) []) g.met.K.Encoders.fragment_set
+    ∙ ap (λ set. o4 ++ marked (codes "#") (option_map print (option_map (read set) (option_map text_of c.fragment.result))) []) g.met.K.Kind.fragment_set
     ∙ ap (λ f. o4 ++ marked (codes "#") (option_map print (option_map (read kind.fragment) f)) []) c.fragment.ensures)

@@ -17,7 +17,7 @@ pub returns-in-Ok-clause-noted : goal.returns-in-Ok-clause-noted
 returns-in-Ok-clause-noted g c =
     IfOk-weaker c.note_target.result _ _
     (λ outcome e. noted (port_function_of c.args.self.now) (uri_text c.args.base.now) (uri_ref_text c.args.reference.now) (uri_text c.in-Ok.target) (texts_of c.args.self.now) (outcome, texts_of c.note_target.new.self)
-    c.in-Ok.ensures.target (each (IsTextOf uri) uri_text (λ u. record { utf8 = IsUtf8-string_bytes u.text; grammar = u.of_kind }) c.args.self.now.targets.items) c.args.self.now.normal e)
+    c.in-Ok.ensures.target (each (IsTextOf uri) uri_text (λ u. record { utf8 = IsUtf8-string_bytes u.core.text; grammar = u.core.of_kind }) c.args.self.now.targets.items) c.args.self.now.normal e)
     c.note_target.ensures.noted
 
 pub returns-in-Err-clause-noted : goal.returns-in-Err-clause-noted

@@ -4,4 +4,4 @@ use Rattle.uri_ops.proofs.build.Builder.path.Goals as goal
 
 pub with_path-requires-clause-rule : goal.with_path-requires-clause-rule
 with_path-requires-clause-rule g c = λ e.
-    allowed g.R.RiMaybeRef.kind c.taken.result g.met.R.RiMaybeRef.known (c.taken.ensures.of_kind e) (λ kind. kind.path) g.R.PathE.Encoder.set (g.met.R.Rules.Encoders.path_set ∙ ap (λ kind. kind.path) g.met.R.RiMaybeRef.rules_of_kind) c.as_str.result.now c.as_str.ensures.valid
+    allowed g.R.RiMaybeRef.kind c.taken.result g.met.R.RiMaybeRef.known (c.taken.ensures.of_kind e) (λ kind. kind.path) g.R.PathE.Encoder.set (g.met.R.Kind.Kind.path_set ∙ ap (λ kind. kind.path) g.met.R.RiMaybeRef.kind_is_its_own) c.as_str.result.now c.as_str.ensures.valid

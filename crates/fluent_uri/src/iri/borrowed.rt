@@ -1,0 +1,147 @@
+//! IRIs over a text that is borrowed.
+ghost use Rattle.std.specs.Prelude.{◌↔◌, ◌≡◌, IfErr, IfOk, IsOk, None, Some, option_map};
+ghost use Rattle.uri_pct.specs.EStrs.{text_of};
+ghost use Rattle.uri_parts.specs.AuthorityTexts.{authority_text};
+ghost use Rattle.uri_parts.specs.Components.{components};
+ghost use Rattle.uri_parts.specs.Errors.{IsErrorIn};
+ghost use Rattle.uri_parts.specs.Fragments.{IsWithFragment};
+ghost use Rattle.uri_parts.specs.Grammar.{IsOfKind, iri};
+ghost use Rattle.uri_parts.specs.SchemePorts.{default_port};
+ghost use Rattle.uri_parts.specs.Schemes.{scheme_text};
+ghost use Rattle.uri_ops.specs.Normalizers.{IsNormalForm};
+ghost use Rattle.fluent_uri.specs.Iris.{iri_text};
+
+use crate::component::IAuthority;
+use crate::iri::Iri;
+use std::alloc::{AllocError, Global};
+use uri_ops::normalize;
+use uri_parts::component::Scheme;
+use uri_parts::core_text::Core;
+use uri_parts::error::ParseError;
+use uri_pct::encoder::{IFragment, IPath, IQuery};
+use uri_pct::pct_enc::EStr;
+
+#[tactic(auto, using(uri_parts::proofs::KindLemmas::iri_laws))]
+impl<'a> Iri<&'a str> {
+    /// Reads a text as an IRI, once and from left to right, and takes no memory.
+    ///
+    /// # Errors
+    ///
+    /// Exactly if the text is no IRI (RFC 3987, section 2.2). The error names what is
+    /// wrong, and where, as a byte offset on a character boundary.
+    pub fn parse(text: &'a str) -> Result<Iri<&'a str>, ParseError>
+        ensures accepts { IsOk result ↔ IsOfKind iri text.now }
+        ensures text { IfOk result (λ value. iri_text value ≡ text.now) }
+        ensures err { IfErr result (IsErrorIn text.now) }
+    {
+        match Core::parse(text) {
+            Ok(core) => Ok(Iri { core }),
+            Err((error, _)) => Err(error),
+        }
+    }
+
+    /// The text as it stands.
+    pub fn as_str(self) -> &'a str
+        ensures text { result.now ≡ iri_text self.entry }
+        ensures of_kind { IsOfKind iri result.now }
+    {
+        self.core.as_str()
+    }
+
+    /// The scheme without its `:` (RFC 3986, section 3.1).
+    pub fn scheme(self) -> Scheme<'a>
+        ensures { Some (scheme_text result) ≡ (components (iri_text self.entry)).scheme }
+    {
+        self.core.needed_scheme()
+    }
+
+    /// The authority without its `//`, if there is one (RFC 3987, section 2.2).
+    pub fn authority(self) -> Option<IAuthority<'a>>
+        ensures { option_map authority_text result ≡ (components (iri_text self.entry)).authority }
+    {
+        self.core.authority()
+    }
+
+    /// The path, which may be empty (RFC 3987, section 2.2).
+    pub fn path(self) -> EStr<'a, IPath>
+        ensures { text_of result ≡ (components (iri_text self.entry)).path }
+    {
+        self.core.path()
+    }
+
+    /// The query without its `?`, if there is one (RFC 3987, section 2.2).
+    pub fn query(self) -> Option<EStr<'a, IQuery>>
+        ensures { option_map text_of result ≡ (components (iri_text self.entry)).query }
+    {
+        self.core.query()
+    }
+
+    /// The fragment without its `#`, if there is one (RFC 3987, section 2.2).
+    pub fn fragment(self) -> Option<EStr<'a, IFragment>>
+        ensures { option_map text_of result ≡ (components (iri_text self.entry)).fragment }
+    {
+        self.core.fragment()
+    }
+
+    /// The same IRI without its fragment (RFC 3986, section 3.5): the text up to its `#`.
+    ///
+    /// # Examples
+    ///
+    /// Of `http://example.com/#fragment` it is `http://example.com/`.
+    pub fn strip_fragment(self) -> Iri<&'a str>
+        ensures { IsWithFragment (iri_text self.entry) None (iri_text result) }
+    {
+        Iri {
+            core: self.core.strip_fragment(),
+        }
+    }
+
+    /// A copy with this fragment in place of its own, or with none (RFC 3986, section 3.5).
+    ///
+    /// # Errors
+    ///
+    /// Only if memory is refused.
+    ///
+    /// # Examples
+    ///
+    /// Of `http://example.com/` with the fragment `fragment` it is `http://example.com/#fragment`,
+    /// with the empty fragment `http://example.com/#`, and with none `http://example.com/`.
+    pub fn with_fragment(
+        self,
+        alloc: Global,
+        fragment: Option<EStr<'_, IFragment>>,
+    ) -> Result<Iri<String>, AllocError>
+        ensures { IfOk result (λ made.
+            IsWithFragment (iri_text self.entry) (option_map text_of fragment.entry)
+            (iri_text made)) }
+    {
+        Ok(Iri {
+            core: self.core.with_fragment(alloc, fragment)?,
+        })
+    }
+
+    /// The same IRI over a copy of the text.
+    ///
+    /// # Errors
+    ///
+    /// Only if memory is refused.
+    pub fn to_owned(self, alloc: Global) -> Result<Iri<String>, AllocError>
+        ensures { IfOk result (λ owned. iri_text owned ≡ iri_text self.entry) }
+    {
+        Ok(Iri {
+            core: self.core.to_owned(alloc)?,
+        })
+    }
+
+    /// The normal form: what `Normalizer::new()` answers (RFC 3986, section 6.2.2).
+    ///
+    /// # Errors
+    ///
+    /// Only if memory is refused.
+    pub fn normalize(self, alloc: Global) -> Result<Iri<String>, AllocError>
+        ensures { IfOk result (λ normal.
+            IsNormalForm iri default_port (iri_text self.entry) (iri_text normal)) }
+    {
+        normalize::normal(alloc, &self)
+    }
+}

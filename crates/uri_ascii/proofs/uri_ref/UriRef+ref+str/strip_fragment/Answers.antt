@@ -1,8 +1,0 @@
-use Rattle.uri_parts.specs.Grammar.{uri_ref}
-use Rattle.uri_ascii.proofs.uri_ref.UriRef+ref+str.strip_fragment.Goals as goal
-
-pub invariant_of-result : goal.invariant_of-result
-invariant_of-result c = record {
-  of_kind = c.without_fragment.ensures.of_kind uri_ref c.args.self.of_kind;
-  at = c.without_fragment.ensures.at;
-}

@@ -1,0 +1,185 @@
+//! URI references over a text that is borrowed.
+ghost use Rattle.std.specs.Prelude.{◌↔◌, ◌≡◌, IfErr, IfOk, IsOk, None, Ok, option_map, true};
+ghost use Rattle.uri_pct.specs.EStrs.{text_of};
+ghost use Rattle.uri_parts.specs.AuthorityTexts.{authority_text};
+ghost use Rattle.uri_parts.specs.Components.{components};
+ghost use Rattle.uri_parts.specs.Errors.{IsErrorIn};
+ghost use Rattle.uri_parts.specs.Fragments.{IsWithFragment};
+ghost use Rattle.uri_parts.specs.Grammar.{IsOfKind, uri, uri_ref};
+ghost use Rattle.uri_parts.specs.SchemePorts.{default_port};
+ghost use Rattle.uri_parts.specs.Schemes.{scheme_text};
+ghost use Rattle.uri_ops.specs.EncodedTargets.{IsErrorForEncoded, IsTargetOfEncoded};
+ghost use Rattle.uri_ops.specs.NormalTargets.{IsErrorOfMeanings, IsTargetOfMeanings};
+ghost use Rattle.uri_ops.specs.Normalizers.{IsNormalForm};
+ghost use Rattle.uri_ops.specs.Resolving.{IsRefusalFor};
+ghost use Rattle.uri_ops.specs.Target.{resolution_of_texts};
+ghost use Rattle.uri_ascii.specs.UriRefs.{uri_ref_text};
+ghost use Rattle.uri_ascii.specs.Uris.{uri_text};
+
+use crate::uri::Uri;
+use crate::uri_ref::UriRef;
+use std::alloc::{AllocError, Global};
+use std::convert::AsStr;
+use uri_ops::normalize;
+use uri_ops::resolve::{self, ResolveError};
+use uri_parts::component::{Authority, Scheme};
+use uri_parts::core_text::Core;
+use uri_parts::error::ParseError;
+use uri_pct::encoder::{Fragment, Path, Query};
+use uri_pct::pct_enc::EStr;
+
+impl<'a> UriRef<&'a str> {
+    /// Reads a text as a URI reference, once and from left to right, and takes no memory.
+    ///
+    /// # Errors
+    ///
+    /// Exactly if the text is no URI reference (RFC 3986, section 4.1). The error names what is
+    /// wrong, and where, as a byte offset on a character boundary.
+    pub fn parse(text: &'a str) -> Result<UriRef<&'a str>, ParseError>
+        ensures accepts { IsOk result ↔ IsOfKind uri_ref text.now }
+        ensures text { IfOk result (λ value. uri_ref_text value ≡ text.now) }
+        ensures err { IfErr result (IsErrorIn text.now) }
+    {
+        match Core::parse(text) {
+            Ok(core) => Ok(UriRef { core }),
+            Err((error, _)) => Err(error),
+        }
+    }
+
+    /// The text as it stands.
+    pub fn as_str(self) -> &'a str
+        ensures text { result.now ≡ uri_ref_text self.entry }
+        ensures of_kind { IsOfKind uri_ref result.now }
+    {
+        self.core.as_str()
+    }
+
+    /// The scheme without its `:`, if there is one (RFC 3986, section 3.1).
+    pub fn scheme(self) -> Option<Scheme<'a>>
+        ensures { option_map scheme_text result ≡ (components (uri_ref_text self.entry)).scheme }
+    {
+        self.core.scheme()
+    }
+
+    /// The authority without its `//`, if there is one (RFC 3986, section 3.2).
+    pub fn authority(self) -> Option<Authority<'a>>
+        ensures { option_map authority_text result
+            ≡ (components (uri_ref_text self.entry)).authority }
+    {
+        self.core.authority()
+    }
+
+    /// The path, which may be empty (RFC 3986, section 3.3).
+    pub fn path(self) -> EStr<'a, Path>
+        ensures { text_of result ≡ (components (uri_ref_text self.entry)).path }
+    {
+        self.core.path()
+    }
+
+    /// The query without its `?`, if there is one (RFC 3986, section 3.4).
+    pub fn query(self) -> Option<EStr<'a, Query>>
+        ensures { option_map text_of result ≡ (components (uri_ref_text self.entry)).query }
+    {
+        self.core.query()
+    }
+
+    /// The fragment without its `#`, if there is one (RFC 3986, section 3.5).
+    pub fn fragment(self) -> Option<EStr<'a, Fragment>>
+        ensures { option_map text_of result ≡ (components (uri_ref_text self.entry)).fragment }
+    {
+        self.core.fragment()
+    }
+
+    /// The same URI reference without its fragment (RFC 3986, section 3.5): the text up to its `#`.
+    ///
+    /// # Examples
+    ///
+    /// Of `http://example.com/#fragment` it is `http://example.com/`.
+    pub fn strip_fragment(self) -> UriRef<&'a str>
+        ensures { IsWithFragment (uri_ref_text self.entry) None (uri_ref_text result) }
+    {
+        UriRef {
+            core: self.core.strip_fragment(),
+        }
+    }
+
+    /// A copy with this fragment in place of its own, or with none (RFC 3986, section 3.5).
+    ///
+    /// # Errors
+    ///
+    /// Only if memory is refused.
+    ///
+    /// # Examples
+    ///
+    /// Of `http://example.com/` with the fragment `fragment` it is `http://example.com/#fragment`,
+    /// with the empty fragment `http://example.com/#`, and with none `http://example.com/`.
+    pub fn with_fragment(
+        self,
+        alloc: Global,
+        fragment: Option<EStr<'_, Fragment>>,
+    ) -> Result<UriRef<String>, AllocError>
+        ensures { IfOk result (λ made.
+            IsWithFragment (uri_ref_text self.entry) (option_map text_of fragment.entry)
+            (uri_ref_text made)) }
+    {
+        Ok(UriRef {
+            core: self.core.with_fragment(alloc, fragment)?,
+        })
+    }
+
+    /// The same URI reference over a copy of the text.
+    ///
+    /// # Errors
+    ///
+    /// Only if memory is refused.
+    pub fn to_owned(self, alloc: Global) -> Result<UriRef<String>, AllocError>
+        ensures { IfOk result (λ owned. uri_ref_text owned ≡ uri_ref_text self.entry) }
+    {
+        Ok(UriRef {
+            core: self.core.to_owned(alloc)?,
+        })
+    }
+
+    /// The normal form: what `Normalizer::new()` answers (RFC 3986, section 6.2.2).
+    ///
+    /// # Errors
+    ///
+    /// Only if memory is refused.
+    pub fn normalize(self, alloc: Global) -> Result<UriRef<String>, AllocError>
+        ensures { IfOk result (λ normal.
+            IsNormalForm uri_ref default_port (uri_ref_text self.entry) (uri_ref_text normal)) }
+    {
+        normalize::normal(alloc, &self)
+    }
+
+    /// The target of this reference against a base: what `Resolver::resolve` answers where dot
+    /// segments may underflow (RFC 3986, section 5.2).
+    ///
+    /// # Errors
+    ///
+    /// `BaseWithFragment` if the base has a fragment, and else `InvalidReferenceAgainstOpaqueBase`
+    /// if the base has no authority and its path doesn't begin with `/`, and this reference has no
+    /// scheme, is not empty and doesn't begin with `#`, both before memory is asked for;
+    /// `OutOfMemory` if memory is refused. Never `PathUnderflow`.
+    pub fn resolve_against<B: AsStr>(
+        self,
+        alloc: Global,
+        base: &Uri<B>,
+    ) -> Result<Uri<String>, ResolveError>
+        ensures target { IfOk result (λ target.
+            resolution_of_texts (uri_text base.now) (uri_ref_text self.entry)
+            ≡ Ok (uri_text target)) }
+        ensures refusal { IfErr result
+            (IsRefusalFor (components (uri_text base.now)) (components (uri_ref_text self.entry))) }
+        ensures encoded { IfOk result (λ target. IsTargetOfEncoded true
+            (uri_text base.now) (uri_ref_text self.entry) (uri_text target)) }
+        ensures encoded_error { IfErr result
+            (IsErrorForEncoded true (uri_text base.now) (uri_ref_text self.entry)) }
+        ensures alike { IfOk result (λ target. IsTargetOfMeanings uri uri_ref
+            (uri_text base.now) (uri_ref_text self.entry) (uri_text target)) }
+        ensures alike_error { IfErr result
+            (IsErrorOfMeanings uri uri_ref (uri_text base.now) (uri_ref_text self.entry)) }
+    {
+        resolve::resolved_against(alloc, base, &self)
+    }
+}

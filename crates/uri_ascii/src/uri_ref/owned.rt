@@ -1,0 +1,220 @@
+//! URI references over a text of their own.
+ghost use Rattle.std.specs.Prelude.{◌↔◌, ◌≡◌, IfErr, IfOk, IsOk, None, Ok, OnErr, OnOk, option_map};
+ghost use Rattle.std.specs.Prelude.{string_bytes, true};
+ghost use Rattle.uri_pct.specs.EStrs.{text_of};
+ghost use Rattle.uri_parts.specs.AuthorityTexts.{authority_text};
+ghost use Rattle.uri_parts.specs.Components.{components};
+ghost use Rattle.uri_parts.specs.Errors.{IsErrorIn};
+ghost use Rattle.uri_parts.specs.Fragments.{IsWithFragment};
+ghost use Rattle.uri_parts.specs.Grammar.{IsOfKind, uri, uri_ref};
+ghost use Rattle.uri_parts.specs.SchemePorts.{default_port};
+ghost use Rattle.uri_parts.specs.Schemes.{scheme_text};
+ghost use Rattle.uri_ops.specs.BuilderParts.{no_parts};
+ghost use Rattle.uri_ops.specs.BuilderStates.{state_of};
+ghost use Rattle.uri_ops.specs.Builders.{builder_parts};
+ghost use Rattle.uri_ops.specs.EncodedTargets.{IsErrorForEncoded, IsTargetOfEncoded};
+ghost use Rattle.uri_ops.specs.NormalTargets.{IsErrorOfMeanings, IsTargetOfMeanings};
+ghost use Rattle.uri_ops.specs.Normalizers.{IsNormalForm};
+ghost use Rattle.uri_ops.specs.Resolving.{IsRefusalFor};
+ghost use Rattle.uri_ops.specs.Target.{resolution_of_texts};
+ghost use Rattle.uri_ascii.specs.UriRefs.{uri_ref_text};
+ghost use Rattle.uri_ascii.specs.Uris.{uri_text};
+
+use crate::uri::Uri;
+use crate::uri_ref::UriRef;
+use std::alloc::{AllocError, Global};
+use std::convert::AsStr;
+use uri_ops::build::Builder;
+use uri_ops::build::state::{Start, State};
+use uri_ops::normalize;
+use uri_ops::resolve::{self, ResolveError};
+use uri_parts::component::{Authority, Scheme};
+use uri_parts::core_text::Core;
+use uri_parts::error::ParseError;
+use uri_pct::encoder::{Fragment, Path, Query};
+use uri_pct::pct_enc::EStr;
+
+impl UriRef<String> {
+    /// A builder of a URI reference, which holds nothing yet and takes its memory from the
+    /// allocator.
+    pub fn builder(alloc: Global) -> Builder<UriRef<String>, Start>
+        ensures { builder_parts uri_ref (⟦<Start as State>⟧.held (state_of result)) ≡ no_parts }
+    {
+        Builder::of_reference(alloc)
+    }
+
+    /// Reads a text as a URI reference, once and from left to right, and takes no memory.
+    ///
+    /// # Errors
+    ///
+    /// Exactly if the text is no URI reference (RFC 3986, section 4.1). The error names what is
+    /// wrong, and where, as a byte offset on a character boundary; the text comes back beside it.
+    pub fn parse(text: String) -> Result<UriRef<String>, (ParseError, String)>
+        ensures accepts { IsOk result ↔ IsOfKind uri_ref (string_bytes text) }
+        ensures text { IfOk result (λ value. uri_ref_text value ≡ string_bytes text) }
+        ensures err { IfErr result (λ refused. IsErrorIn (string_bytes text) refused.0) }
+        ensures back { IfErr result (λ refused. string_bytes refused.1 ≡ string_bytes text) }
+    {
+        match Core::parse(text) {
+            Ok(core) => Ok(UriRef { core }),
+            Err(refused) => Err(refused),
+        }
+    }
+
+    /// The same URI reference over the text, which is borrowed.
+    pub fn borrow(&self) -> UriRef<&str>
+        ensures { uri_ref_text result ≡ uri_ref_text self.now }
+    {
+        UriRef {
+            core: self.core.borrow(),
+        }
+    }
+
+    /// The same URI reference without its fragment (RFC 3986, section 3.5): the text up to its `#`.
+    ///
+    /// # Examples
+    ///
+    /// Of `http://example.com/#fragment` it is `http://example.com/`.
+    pub fn strip_fragment(&self) -> UriRef<&str>
+        ensures { IsWithFragment (uri_ref_text self.now) None (uri_ref_text result) }
+    {
+        self.borrow().strip_fragment()
+    }
+
+    /// A copy with this fragment in place of its own, or with none (RFC 3986, section 3.5).
+    ///
+    /// # Errors
+    ///
+    /// Only if memory is refused.
+    ///
+    /// # Examples
+    ///
+    /// Of `http://example.com/` with the fragment `fragment` it is `http://example.com/#fragment`,
+    /// with the empty fragment `http://example.com/#`, and with none `http://example.com/`.
+    pub fn with_fragment(
+        &self,
+        alloc: Global,
+        fragment: Option<EStr<'_, Fragment>>,
+    ) -> Result<UriRef<String>, AllocError>
+        ensures { IfOk result (λ made.
+            IsWithFragment (uri_ref_text self.now) (option_map text_of fragment.entry)
+            (uri_ref_text made)) }
+    {
+        self.borrow().with_fragment(alloc, fragment)
+    }
+
+    /// Puts this fragment, or none, in place of its own (RFC 3986, section 3.5).
+    ///
+    /// # Errors
+    ///
+    /// Only if memory is refused, and never with `None`, which asks for none. The text, with its
+    /// fragment, is then as it was.
+    ///
+    /// # Examples
+    ///
+    /// With the fragment `fragment`, `http://example.com/` becomes `http://example.com/#fragment`,
+    /// and with `None` it is `http://example.com/` again.
+    pub fn set_fragment(&mut self, fragment: Option<EStr<'_, Fragment>>) -> Result<(), AllocError>
+        ensures set { OnOk result
+            (IsWithFragment (uri_ref_text self.old) (option_map text_of fragment.entry)
+            (uri_ref_text self.new)) }
+        ensures kept { OnErr result (uri_ref_text self.new ≡ uri_ref_text self.old) }
+        ensures none { fragment.entry ≡ None → IsOk result }
+    {
+        self.core.set_fragment(fragment)
+    }
+
+    /// The text as it stands, with its memory.
+    pub fn into_string(self) -> String
+        ensures { string_bytes result ≡ uri_ref_text self }
+    {
+        self.core.into_string()
+    }
+
+    /// The normal form: what `Normalizer::new()` answers (RFC 3986, section 6.2.2).
+    ///
+    /// # Errors
+    ///
+    /// Only if memory is refused.
+    pub fn normalize(&self, alloc: Global) -> Result<UriRef<String>, AllocError>
+        ensures { IfOk result (λ normal.
+            IsNormalForm uri_ref default_port (uri_ref_text self.now) (uri_ref_text normal)) }
+    {
+        normalize::normal(alloc, self)
+    }
+
+    /// The target of this reference against a base: what `Resolver::resolve` answers where dot
+    /// segments may underflow (RFC 3986, section 5.2).
+    ///
+    /// # Errors
+    ///
+    /// `BaseWithFragment` if the base has a fragment, and else `InvalidReferenceAgainstOpaqueBase`
+    /// if the base has no authority and its path doesn't begin with `/`, and this reference has no
+    /// scheme, is not empty and doesn't begin with `#`, both before memory is asked for;
+    /// `OutOfMemory` if memory is refused. Never `PathUnderflow`.
+    pub fn resolve_against<B: AsStr>(
+        &self,
+        alloc: Global,
+        base: &Uri<B>,
+    ) -> Result<Uri<String>, ResolveError>
+        ensures target { IfOk result (λ target.
+            resolution_of_texts (uri_text base.now) (uri_ref_text self.now)
+            ≡ Ok (uri_text target)) }
+        ensures refusal { IfErr result
+            (IsRefusalFor (components (uri_text base.now)) (components (uri_ref_text self.now))) }
+        ensures encoded { IfOk result (λ target. IsTargetOfEncoded true
+            (uri_text base.now) (uri_ref_text self.now) (uri_text target)) }
+        ensures encoded_error { IfErr result
+            (IsErrorForEncoded true (uri_text base.now) (uri_ref_text self.now)) }
+        ensures alike { IfOk result (λ target. IsTargetOfMeanings uri uri_ref
+            (uri_text base.now) (uri_ref_text self.now) (uri_text target)) }
+        ensures alike_error { IfErr result
+            (IsErrorOfMeanings uri uri_ref (uri_text base.now) (uri_ref_text self.now)) }
+    {
+        resolve::resolved_against(alloc, base, self)
+    }
+
+    /// The text as it stands.
+    pub fn as_str(&self) -> &str
+        ensures text { result.now ≡ uri_ref_text self.now }
+        ensures of_kind { IsOfKind uri_ref result.now }
+    {
+        self.borrow().as_str()
+    }
+
+    /// The scheme without its `:`, if there is one (RFC 3986, section 3.1).
+    pub fn scheme(&self) -> Option<Scheme<'_>>
+        ensures { option_map scheme_text result ≡ (components (uri_ref_text self.now)).scheme }
+    {
+        self.borrow().scheme()
+    }
+
+    /// The authority without its `//`, if there is one (RFC 3986, section 3.2).
+    pub fn authority(&self) -> Option<Authority<'_>>
+        ensures { option_map authority_text result
+            ≡ (components (uri_ref_text self.now)).authority }
+    {
+        self.borrow().authority()
+    }
+
+    /// The path, which may be empty (RFC 3986, section 3.3).
+    pub fn path(&self) -> EStr<'_, Path>
+        ensures { text_of result ≡ (components (uri_ref_text self.now)).path }
+    {
+        self.borrow().path()
+    }
+
+    /// The query without its `?`, if there is one (RFC 3986, section 3.4).
+    pub fn query(&self) -> Option<EStr<'_, Query>>
+        ensures { option_map text_of result ≡ (components (uri_ref_text self.now)).query }
+    {
+        self.borrow().query()
+    }
+
+    /// The fragment without its `#`, if there is one (RFC 3986, section 3.5).
+    pub fn fragment(&self) -> Option<EStr<'_, Fragment>>
+        ensures { option_map text_of result ≡ (components (uri_ref_text self.now)).fragment }
+    {
+        self.borrow().fragment()
+    }
+}

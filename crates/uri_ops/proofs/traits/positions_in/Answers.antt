@@ -1,7 +1,0 @@
-use Rattle.std.proofs.Common.{sym, ap, ◌∙◌}
-use Rattle.std.specs.Prelude.{is_ok}
-use Rattle.std.proofs.lemmas.Bool.{false≢true}
-use Rattle.uri_ops.proofs.traits.positions_in.Goals as goal
-
-pub unreachable-requires : goal.unreachable-requires
-unreachable-requires g c = false≢true (sym (ap is_ok c.in-Err.is) ∙ c.parse.ensures.accepts.1 c.requires)

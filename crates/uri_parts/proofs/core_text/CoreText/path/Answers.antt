@@ -1,5 +1,0 @@
-use Rattle.uri_parts.proofs.Parts.{path_valid}
-use Rattle.uri_parts.proofs.core_text.CoreText.path.Goals as goal
-
-pub new_unchecked-requires : goal.new_unchecked-requires
-new_unchecked-requires g c = rw c.path.ensures (path_valid g.K.Rules.kind _ c.args.self.text.now c.args.self.of_kind g.met.K.Encoders.path_set)

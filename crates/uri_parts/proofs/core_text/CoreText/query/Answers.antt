@@ -1,9 +1,0 @@
-use Rattle.std.proofs.Common.{◌≡◌, Some}
-use Rattle.uri_parts.specs.Components.{components}
-use Rattle.uri_parts.proofs.Parts.{query_valid}
-use Rattle.uri_parts.proofs.core_text.CoreText.query.Goals as goal
-
-pub new_unchecked-requires : goal.new_unchecked-requires
-new_unchecked-requires g c =
-    let part : (components c.args.self.text.now).query ≡ Some c.in-Some.query.now = cc c.in-Some.ensures in
-    query_valid g.K.Rules.kind _ c.args.self.text.now c.in-Some.query.now c.args.self.of_kind g.met.K.Encoders.query_set part

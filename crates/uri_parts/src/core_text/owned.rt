@@ -1,0 +1,35 @@
+//! A core over a text of its own.
+ghost use Rattle.std.specs.Prelude.{◌≡◌, IsOk, None, OnErr, OnOk, option_map, string_bytes};
+ghost use Rattle.uri_pct.specs.EStrs.{text_of};
+ghost use Rattle.uri_parts.specs.CoreTexts.{core_text};
+ghost use Rattle.uri_parts.specs.Fragments.{IsWithFragment};
+
+use crate::core_text::Core;
+use crate::fragment;
+use crate::kind::Kind;
+use std::alloc::AllocError;
+use uri_pct::pct_enc::EStr;
+
+impl<K: Kind> Core<K, String> {
+    /// Puts this fragment, or none, in place of its own. Where memory is refused, the text is as it
+    /// was; to take the fragment away no memory is asked for.
+    pub fn set_fragment(
+        &mut self,
+        fragment: Option<EStr<'_, K::FragmentE>>,
+    ) -> Result<(), AllocError>
+        ensures set { OnOk result
+            (IsWithFragment (core_text self.old) (option_map text_of fragment.entry)
+            (core_text self.new)) }
+        ensures kept { OnErr result (core_text self.new ≡ core_text self.old) }
+        ensures none { fragment.entry ≡ None → IsOk result }
+    {
+        fragment::set_fragment(&mut self.text, &self.positions, fragment)
+    }
+
+    /// The text, with its memory.
+    pub fn into_string(self) -> String
+        ensures { string_bytes result ≡ core_text self }
+    {
+        self.text
+    }
+}

@@ -1,0 +1,198 @@
+//! The kinds of references, as types.
+ghost use Rattle.std.specs.Prelude.{◌≡◌};
+ghost use Rattle.uri_pct.specs.Tables.{set_of};
+ghost use Rattle.uri_parts.specs.Grammars.{kind_of, segment_nz_nc_of};
+
+use crate::grammar::{Grammar, iri_grammar, uri_grammar};
+use uri_pct::encoder::{
+    Encoder, Fragment, IFragment, IPath, IQuery, IRegName, IUserinfo, Path, PathEncoder, Query,
+    RegName, Userinfo,
+};
+
+/// A kind of references: its grammar, with the encoders of its components.
+#[doc(hidden)]
+pub trait Kind {
+    ghost use Rattle.uri_parts.specs.Grammar as grammar;
+    ghost use Rattle.uri_parts.specs.Grammar.{first_segment_set, one_of_four};
+
+    type UserinfoE: Encoder;
+
+    type RegNameE: Encoder;
+
+    type PathE: PathEncoder;
+
+    type QueryE: Encoder;
+
+    type FragmentE: Encoder;
+
+    ghost kind: { grammar.Kind };
+
+    /// The tables of its components, and whether it needs a scheme.
+    fn tables() -> Grammar
+        ensures kind { kind_of result ≡ kind }
+        ensures first_segment { segment_nz_nc_of result ≡ first_segment_set kind };
+
+    ghost known: { kind ≡ one_of_four kind.path.ucschar kind.needs_scheme };
+
+    ghost userinfo_set: { Self.UserinfoE.set ≡ Self.kind.userinfo };
+
+    ghost reg_name_set: { Self.RegNameE.set ≡ Self.kind.reg_name };
+
+    ghost path_set: { Self.PathE.set ≡ Self.kind.path };
+
+    ghost query_set: { Self.QueryE.set ≡ Self.kind.query };
+
+    ghost fragment_set: { Self.FragmentE.set ≡ Self.kind.fragment };
+}
+
+/// The kind of URIs (RFC 3986, section 3).
+#[doc(hidden)]
+#[derive(Clone, Copy)]
+pub struct UriKind;
+
+impl Kind for UriKind {
+    ghost use Rattle.std.specs.Prelude.{refl};
+    ghost use Rattle.uri_parts.specs.Grammar.{uri};
+
+    type UserinfoE = Userinfo;
+
+    type RegNameE = RegName;
+
+    type PathE = Path;
+
+    type QueryE = Query;
+
+    type FragmentE = Fragment;
+
+    ghost kind = { uri };
+
+    fn tables() -> Grammar {
+        uri_grammar(true)
+    }
+
+    ghost known = { refl };
+
+    ghost userinfo_set = { refl };
+
+    ghost reg_name_set = { refl };
+
+    ghost path_set = { refl };
+
+    ghost query_set = { refl };
+
+    ghost fragment_set = { refl };
+}
+
+/// The kind of URI references (RFC 3986, section 4.1).
+#[doc(hidden)]
+#[derive(Clone, Copy)]
+pub struct UriRefKind;
+
+impl Kind for UriRefKind {
+    ghost use Rattle.std.specs.Prelude.{refl};
+    ghost use Rattle.uri_parts.specs.Grammar.{uri_ref};
+
+    type UserinfoE = Userinfo;
+
+    type RegNameE = RegName;
+
+    type PathE = Path;
+
+    type QueryE = Query;
+
+    type FragmentE = Fragment;
+
+    ghost kind = { uri_ref };
+
+    fn tables() -> Grammar {
+        uri_grammar(false)
+    }
+
+    ghost known = { refl };
+
+    ghost userinfo_set = { refl };
+
+    ghost reg_name_set = { refl };
+
+    ghost path_set = { refl };
+
+    ghost query_set = { refl };
+
+    ghost fragment_set = { refl };
+}
+
+/// The kind of IRIs (RFC 3987, section 2.2).
+#[doc(hidden)]
+#[derive(Clone, Copy)]
+pub struct IriKind;
+
+impl Kind for IriKind {
+    ghost use Rattle.std.specs.Prelude.{refl};
+    ghost use Rattle.uri_parts.specs.Grammar.{iri};
+
+    type UserinfoE = IUserinfo;
+
+    type RegNameE = IRegName;
+
+    type PathE = IPath;
+
+    type QueryE = IQuery;
+
+    type FragmentE = IFragment;
+
+    ghost kind = { iri };
+
+    fn tables() -> Grammar {
+        iri_grammar(true)
+    }
+
+    ghost known = { refl };
+
+    ghost userinfo_set = { refl };
+
+    ghost reg_name_set = { refl };
+
+    ghost path_set = { refl };
+
+    ghost query_set = { refl };
+
+    ghost fragment_set = { refl };
+}
+
+/// The kind of IRI references (RFC 3987, section 2.2).
+#[doc(hidden)]
+#[derive(Clone, Copy)]
+pub struct IriRefKind;
+
+impl Kind for IriRefKind {
+    ghost use Rattle.std.specs.Prelude.{refl};
+    ghost use Rattle.uri_parts.specs.Grammar.{iri_ref};
+
+    type UserinfoE = IUserinfo;
+
+    type RegNameE = IRegName;
+
+    type PathE = IPath;
+
+    type QueryE = IQuery;
+
+    type FragmentE = IFragment;
+
+    ghost kind = { iri_ref };
+
+    fn tables() -> Grammar {
+        iri_grammar(false)
+    }
+
+    ghost known = { refl };
+
+    ghost userinfo_set = { refl };
+
+    ghost reg_name_set = { refl };
+
+    ghost path_set = { refl };
+
+    ghost query_set = { refl };
+
+    ghost fragment_set = { refl };
+}
