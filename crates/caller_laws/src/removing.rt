@@ -16,7 +16,7 @@ pub fn removed_twice(path: &str)
     requires { IsAbsolute path.now }
     ensures { remove_dot_segments (remove_dot_segments path.now) ≡ remove_dot_segments path.now }
 {
-    laws::removed_twice();
+    laws::removing_twice_is_removing_once();
 }
 
 /// The base's dot segments may be removed before a reference's path is merged with it.
@@ -25,7 +25,7 @@ pub fn removed_before_merging(base: &str, reference: &str)
     ensures { remove_dot_segments (directory base.now ++ reference.now)
         ≡ remove_dot_segments (directory (remove_dot_segments base.now) ++ reference.now) }
 {
-    laws::before_merging();
+    laws::bases_may_be_removed_before_merging();
 }
 
 /// Dot segments may be removed before a path is read or after.
@@ -36,5 +36,5 @@ pub fn removed_before_reading(path: EStr<'_, IPath>)
 {
     let _text = path.as_str();
     laws::four_kinds_have_component_sets();
-    laws::of_a_read_path();
+    laws::removing_and_reading_swap();
 }

@@ -36,7 +36,7 @@ pub fn echoed_in_an_iri(alloc: Global, text: &str) -> Result<String, DecodeError
 pub fn echoed_by_the_law(alloc: Global, text: &str) -> Result<String, DecodeError>
     ensures { IfOk result (λ s. string_bytes s ≡ text.now) }
 {
-    laws::encoding();
+    laws::what_is_encoded_decodes_to_what_was_given();
     let mut encoded = EString::<Query>::new(alloc);
     encoded.encode_str::<Data>(text)?;
     match encoded.as_estr().decode().to_string(alloc)? {

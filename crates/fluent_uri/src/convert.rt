@@ -21,7 +21,7 @@ use uri_ops::convert::{self, ConvertError};
 use uri_ops::encoded::encoded;
 use uri_ops::traits::RiMaybeRef;
 
-#[tactic(auto, using(uri_ops::proofs::Conversions::uri_is_iri))]
+#[tactic(auto, using(uri_ops::proofs::TextKinds::Conversions::uri_is_iri))]
 impl<T: AsStr> From<Uri<T>> for Iri<T> {
     ghost from_gives = { λ value wider. iri_text wider ≡ uri_text value };
 
@@ -31,7 +31,7 @@ impl<T: AsStr> From<Uri<T>> for Iri<T> {
     }
 }
 
-#[tactic(auto, using(uri_ops::proofs::Conversions::uri_widening))]
+#[tactic(auto, using(uri_ops::proofs::TextKinds::Conversions::uri_widening))]
 impl<T: AsStr> From<Uri<T>> for IriRef<T> {
     ghost from_gives = { λ value wider. iri_ref_text wider ≡ uri_text value };
 
@@ -41,7 +41,7 @@ impl<T: AsStr> From<Uri<T>> for IriRef<T> {
     }
 }
 
-#[tactic(auto, using(uri_ops::proofs::Conversions::uri_ref_is_iri_ref))]
+#[tactic(auto, using(uri_ops::proofs::TextKinds::Conversions::uri_ref_is_iri_ref))]
 impl<T: AsStr> From<UriRef<T>> for IriRef<T> {
     ghost from_gives = { λ value wider. iri_ref_text wider ≡ uri_ref_text value };
 
@@ -51,7 +51,7 @@ impl<T: AsStr> From<UriRef<T>> for IriRef<T> {
     }
 }
 
-#[tactic(auto, using(uri_parts::proofs::KindLemmas::iri_is_iri_ref))]
+#[tactic(auto, using(uri_parts::proofs::TextKinds::KindSets::iri_is_iri_ref))]
 impl<T: AsStr> From<Iri<T>> for IriRef<T> {
     ghost from_gives = { λ value wider. iri_ref_text wider ≡ iri_text value };
 
@@ -61,7 +61,7 @@ impl<T: AsStr> From<Iri<T>> for IriRef<T> {
     }
 }
 
-#[tactic(auto, using(uri_ops::proofs::Conversions::iri_with_scheme))]
+#[tactic(auto, using(uri_ops::proofs::TextKinds::Conversions::iri_with_scheme))]
 impl<'a> TryFrom<IriRef<&'a str>> for Iri<&'a str> {
     type Error = ConvertError;
 
@@ -79,7 +79,7 @@ impl<'a> TryFrom<IriRef<&'a str>> for Iri<&'a str> {
     }
 }
 
-#[tactic(auto, using(uri_ops::proofs::Conversions::iri_with_scheme))]
+#[tactic(auto, using(uri_ops::proofs::TextKinds::Conversions::iri_with_scheme))]
 impl TryFrom<IriRef<String>> for Iri<String> {
     type Error = (ConvertError, IriRef<String>);
 
@@ -101,7 +101,7 @@ impl TryFrom<IriRef<String>> for Iri<String> {
     }
 }
 
-#[tactic(auto, using(uri_ops::proofs::Conversions::iri_of_ascii))]
+#[tactic(auto, using(uri_ops::proofs::TextKinds::Conversions::iri_of_ascii))]
 impl<'a> TryFrom<Iri<&'a str>> for Uri<&'a str> {
     type Error = ConvertError;
 
@@ -119,7 +119,7 @@ impl<'a> TryFrom<Iri<&'a str>> for Uri<&'a str> {
     }
 }
 
-#[tactic(auto, using(uri_ops::proofs::Conversions::iri_of_ascii))]
+#[tactic(auto, using(uri_ops::proofs::TextKinds::Conversions::iri_of_ascii))]
 impl TryFrom<Iri<String>> for Uri<String> {
     type Error = (ConvertError, Iri<String>);
 
@@ -140,7 +140,7 @@ impl TryFrom<Iri<String>> for Uri<String> {
     }
 }
 
-#[tactic(auto, using(uri_ops::proofs::Conversions::iri_ref_of_ascii))]
+#[tactic(auto, using(uri_ops::proofs::TextKinds::Conversions::iri_ref_of_ascii))]
 impl<'a> TryFrom<IriRef<&'a str>> for UriRef<&'a str> {
     type Error = ConvertError;
 
@@ -159,7 +159,7 @@ impl<'a> TryFrom<IriRef<&'a str>> for UriRef<&'a str> {
     }
 }
 
-#[tactic(auto, using(uri_ops::proofs::Conversions::iri_ref_of_ascii))]
+#[tactic(auto, using(uri_ops::proofs::TextKinds::Conversions::iri_ref_of_ascii))]
 impl TryFrom<IriRef<String>> for UriRef<String> {
     type Error = (ConvertError, IriRef<String>);
 
@@ -181,7 +181,7 @@ impl TryFrom<IriRef<String>> for UriRef<String> {
     }
 }
 
-#[tactic(auto, using(uri_ops::proofs::Conversions::uri_of_ascii))]
+#[tactic(auto, using(uri_ops::proofs::TextKinds::Conversions::uri_of_ascii))]
 impl<'a> TryFrom<IriRef<&'a str>> for Uri<&'a str> {
     type Error = ConvertError;
 
@@ -200,7 +200,7 @@ impl<'a> TryFrom<IriRef<&'a str>> for Uri<&'a str> {
     }
 }
 
-#[tactic(auto, using(uri_ops::proofs::Conversions::uri_of_ascii))]
+#[tactic(auto, using(uri_ops::proofs::TextKinds::Conversions::uri_of_ascii))]
 impl TryFrom<IriRef<String>> for Uri<String> {
     type Error = (ConvertError, IriRef<String>);
 
@@ -222,7 +222,7 @@ impl TryFrom<IriRef<String>> for Uri<String> {
     }
 }
 
-#[tactic(auto, using(uri_ops::proofs::Conversions::iri_encoding))]
+#[tactic(auto, using(uri_ops::proofs::TextKinds::Conversions::iri_encoding))]
 impl<T: AsStr> Iri<T> {
     /// The IRI as a URI: each character past ASCII becomes the octets of its UTF-8, with
     /// upper-case digits, and all else stays (RFC 3987, section 3.1). No name of a host is written
@@ -253,7 +253,7 @@ impl<T: AsStr> Iri<T> {
     }
 }
 
-#[tactic(auto, using(uri_ops::proofs::Conversions::iri_ref_encoding))]
+#[tactic(auto, using(uri_ops::proofs::TextKinds::Conversions::iri_ref_encoding))]
 impl<T: AsStr> IriRef<T> {
     /// The IRI reference as a URI reference: each character past ASCII becomes the octets of its
     /// UTF-8, with upper-case digits, and all else stays (RFC 3987, section 3.1). No name of a host

@@ -48,7 +48,7 @@ impl<T: AsStr + Copy> Copy for Iri<T> {}
 
 impl<T: AsStr> RiMaybeRef for Iri<T> {
     ghost use Rattle.std.specs.Prelude.{refl};
-    ghost use Rattle.uri_ops.proofs.FourKinds.{iri_sets};
+    ghost use Rattle.uri_ops.proofs.TextKinds.FourKinds.{iri_sets};
     ghost use Rattle.fluent_uri.specs.Iris.{iri_text};
 
     type Owned = Iri<String>;

@@ -48,7 +48,7 @@ impl<T: AsStr + Copy> Copy for IriRef<T> {}
 
 impl<T: AsStr> RiMaybeRef for IriRef<T> {
     ghost use Rattle.std.specs.Prelude.{refl};
-    ghost use Rattle.uri_ops.proofs.FourKinds.{iri_ref_sets};
+    ghost use Rattle.uri_ops.proofs.TextKinds.FourKinds.{iri_ref_sets};
     ghost use Rattle.fluent_uri.specs.IriRefs.{iri_ref_text};
 
     type Owned = IriRef<String>;
@@ -206,7 +206,7 @@ impl From<IriRef<String>> for String {
     }
 }
 
-#[tactic(auto, using(uri_parts::proofs::KindLemmas::empty_is_iri_ref))]
+#[tactic(auto, using(uri_parts::proofs::TextKinds::KindSets::empty_is_iri_ref))]
 impl<'a> Default for IriRef<&'a str> {
     ghost use Rattle.std.specs.Prelude.{[]};
     ghost use Rattle.fluent_uri.specs.IriRefs.{iri_ref_text};

@@ -11,7 +11,7 @@ use std::convert::{AsStr, TryFrom};
 use uri_ops::convert::{self, ConvertError};
 use uri_ops::traits::RiMaybeRef;
 
-#[tactic(auto, using(uri_parts::proofs::KindLemmas::uri_is_uri_ref))]
+#[tactic(auto, using(uri_parts::proofs::TextKinds::KindSets::uri_is_uri_ref))]
 impl<T: AsStr> From<Uri<T>> for UriRef<T> {
     ghost from_gives = { λ value reference. uri_ref_text reference ≡ uri_text value };
 
@@ -21,7 +21,7 @@ impl<T: AsStr> From<Uri<T>> for UriRef<T> {
     }
 }
 
-#[tactic(auto, using(uri_ops::proofs::Conversions::uri_with_scheme))]
+#[tactic(auto, using(uri_ops::proofs::TextKinds::Conversions::uri_with_scheme))]
 impl<'a> TryFrom<UriRef<&'a str>> for Uri<&'a str> {
     type Error = ConvertError;
 
@@ -39,7 +39,7 @@ impl<'a> TryFrom<UriRef<&'a str>> for Uri<&'a str> {
     }
 }
 
-#[tactic(auto, using(uri_ops::proofs::Conversions::uri_with_scheme))]
+#[tactic(auto, using(uri_ops::proofs::TextKinds::Conversions::uri_with_scheme))]
 impl TryFrom<UriRef<String>> for Uri<String> {
     type Error = (ConvertError, UriRef<String>);
 

@@ -48,7 +48,7 @@ impl<T: AsStr + Copy> Copy for Uri<T> {}
 
 impl<T: AsStr> RiMaybeRef for Uri<T> {
     ghost use Rattle.std.specs.Prelude.{refl};
-    ghost use Rattle.uri_ops.proofs.FourKinds.{uri_sets};
+    ghost use Rattle.uri_ops.proofs.TextKinds.FourKinds.{uri_sets};
     ghost use Rattle.uri_ascii.specs.Uris.{uri_text};
 
     type Owned = Uri<String>;

@@ -49,7 +49,7 @@ impl<T: AsStr + Copy> Copy for UriRef<T> {}
 
 impl<T: AsStr> RiMaybeRef for UriRef<T> {
     ghost use Rattle.std.specs.Prelude.{refl};
-    ghost use Rattle.uri_ops.proofs.FourKinds.{uri_ref_sets};
+    ghost use Rattle.uri_ops.proofs.TextKinds.FourKinds.{uri_ref_sets};
     ghost use Rattle.uri_ascii.specs.UriRefs.{uri_ref_text};
 
     type Owned = UriRef<String>;
@@ -207,7 +207,7 @@ impl From<UriRef<String>> for String {
     }
 }
 
-#[tactic(auto, using(uri_parts::proofs::KindLemmas::empty_is_uri_ref))]
+#[tactic(auto, using(uri_parts::proofs::TextKinds::KindSets::empty_is_uri_ref))]
 impl<'a> Default for UriRef<&'a str> {
     ghost use Rattle.std.specs.Prelude.{[]};
     ghost use Rattle.uri_ascii.specs.UriRefs.{uri_ref_text};

@@ -25,6 +25,11 @@ use std::alloc::{AllocError, Global};
 use std::collections::BTreeMap;
 
 /// What a reference that was noted came to. An id is a place in the register, from 0.
+///
+/// # Examples
+///
+/// Against `http://a/b`, the first `c` is `New` with the id 0, and then `./c` is `Known` with the
+/// id 0.
 #[derive(Clone, Copy, Debug, PartialEq, Eq)]
 pub enum Outcome {
     /// Its target means what no registered one did, and its normal form was registered at this id.
@@ -76,6 +81,10 @@ impl<P: DefaultPort> Register<P> {
 
     /// A register of no target. It normalises by the normaliser's default ports, whatever that says
     /// of underflow, and keeps the allocator for its growths; this call takes no memory.
+    ///
+    /// # Examples
+    ///
+    /// Its `len` is 0.
     pub fn new(alloc: Global, normalizer: Normalizer<P>) -> Register<P>
         ensures empty { texts_of result ≡ [] }
         ensures ports { port_function_of result ≡ P.port_of (ports_of normalizer) }
@@ -89,6 +98,10 @@ impl<P: DefaultPort> Register<P> {
     }
 
     /// How many targets are registered: each id is below it.
+    ///
+    /// # Examples
+    ///
+    /// After `c` and `./c` against `http://a/b` it is 1.
     pub fn len(&self) -> usize
         ensures { result ≡ length (texts_of self.now) }
     {

@@ -10,6 +10,7 @@ use Rattle.uri_ops.specs.declared.build.BuildError.TheVariants.{NonemptyRootless
 use Rattle.uri_ops.specs.declared.build.BuildError.TheVariants.{PathStartsWithDoubleSlash}
 use Rattle.uri_ops.specs.BuilderParts.{BuilderParts, as_components, parts_text}
 use Rattle.uri_ops.specs.Dots.{is_empty}
+use Rattle.uri_pct.specs.Delimiters.{slash}
 
 -- section 3.3: with an authority the path is empty or begins with `/`, without one it does not
 -- begin with `//`;
@@ -17,7 +18,7 @@ use Rattle.uri_ops.specs.Dots.{is_empty}
 unfoldable pub refusal_of : Bool → Bool → List ℕ → Option BuildError
 refusal_of has_scheme has_authority path =
     if has_authority
-    then (if is_empty path || starts 47 path then None else Some NonemptyRootlessPath)
+    then (if is_empty path || starts slash path then None else Some NonemptyRootlessPath)
     else (if Components.has_authority path then Some PathStartsWithDoubleSlash
     else (if not has_scheme && has_colon_first path
     then Some FirstPathSegmentContainsColon

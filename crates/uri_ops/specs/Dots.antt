@@ -4,6 +4,7 @@ use Rattle.std.specs.Prelude.{◌≡◌, ℕ, zero, suc, ◌+◌, Bool, true, fa
 use Rattle.std.specs.Prelude.{◌∷◌, ◌++◌, length, drop, codes, bytes_eq, IsTrue, if◌then◌else◌}
 use Rattle.std.specs.List.{list_all, list_any, slice_split}
 use Rattle.uri_parts.specs.Components.{starts, before_any, from_any}
+use Rattle.uri_pct.specs.Delimiters.{slash}
 
 -- the spellings of a dot
 abbrev pub dots : List (List ℕ)
@@ -22,7 +23,7 @@ is_dot_segment segment = is_single_dot segment || is_double_dot segment
 
 -- section 3.3: the segments of a path, the texts between its slashes
 abbrev pub segments : List ℕ → List (List ℕ)
-segments path = slice_split (λ c. c == 47) path
+segments path = slice_split (λ c. c == slash) path
 
 abbrev pub lacks_dot_segments : List ℕ → Bool
 lacks_dot_segments path = list_all (λ segment. not (is_dot_segment segment)) (segments path)
@@ -32,7 +33,7 @@ is_empty [] = true
 is_empty (c ∷ rest) = false
 
 abbrev pub has_slash : List ℕ → Bool
-has_slash text = list_any (λ c. c == 47) text
+has_slash text = list_any (λ c. c == slash) text
 
 -- the text before its last `/`, or nothing where it has none
 abbrev pub before_last_slash : List ℕ → List ℕ
@@ -47,7 +48,7 @@ up_to_last_slash text = if has_slash text then before_last_slash text ++ codes "
 abbrev pub last_segment : List ℕ → List ℕ
 last_segment [] = []
 last_segment (c ∷ rest) =
-    if has_slash rest then last_segment rest else (if c == 47 then rest else c ∷ rest)
+    if has_slash rest then last_segment rest else (if c == slash then rest else c ∷ rest)
 
 -- section 5.2.4, step 1: the input buffer and the output buffer, and whether a double dot met an
 -- empty output
@@ -75,7 +76,7 @@ step b =
       output = before_last_slash b.output;
       underflowed = b.underflowed || is_empty b.output;
     }
-    else record { input = rest; output = b.output ++ 47 ∷ segment; underflowed = b.underflowed })
+    else record { input = rest; output = b.output ++ slash ∷ segment; underflowed = b.underflowed })
 
 -- the loop of step 2, at most so many times
 unfoldable pub run : ℕ → Buffers → Buffers
@@ -104,7 +105,7 @@ directory path =
 
 -- the path begins with `/`
 abbrev pub IsAbsolute : List ℕ → Type 0
-IsAbsolute path = IsTrue (starts 47 path)
+IsAbsolute path = IsTrue (starts slash path)
 
 -- the path ends in `/`
 abbrev pub EndsInSlash : List ℕ → Type 0

@@ -13,6 +13,7 @@ use Rattle.uri_parts.specs.Authority.{authority_parts}
 use Rattle.uri_parts.specs.Grammar.{Kind}
 use Rattle.uri_ops.specs.Dots.{is_empty, remove_dot_segments}
 use Rattle.uri_ops.specs.Ports.{PortFunction, no_defaults, is_default}
+use Rattle.uri_pct.specs.Delimiters.{slash}
 
 -- a host is the numbers of an IPv6 address, an address of a later version in brackets, or the
 -- characters and octets of a name
@@ -59,7 +60,7 @@ authority_meaning kind default authority =
 
 -- section 6.2.2.3: under a scheme a path that begins with `/` is without its dot segments
 abbrev pub plain_path : Option (List ℕ) → List ℕ → List ℕ
-plain_path scheme path = if is_some scheme && starts 47 path then remove_dot_segments path else path
+plain_path scheme path = if is_some scheme && starts slash path then remove_dot_segments path else path
 
 abbrev pub components_meaning : Kind → PortFunction → Components → Meaning
 components_meaning kind ports p =

@@ -7,6 +7,7 @@ use Rattle.uri_parts.specs.Components.{starts}
 use Rattle.uri_ops.specs.Dots.{underflows}
 use Rattle.uri_ops.specs.Meaning.{plain_path}
 use Rattle.uri_ops.specs.Target.{guarded}
+use Rattle.uri_pct.specs.Delimiters.{slash}
 
 -- by the scheme and the authority that stand before it
 abbrev pub path_text : TableSet → Option (List ℕ) → Option (List ℕ) → List ℕ → List ℕ
@@ -16,4 +17,4 @@ path_text set scheme authority path =
 
 -- dot segments are removed, and a double dot has nothing left to remove
 abbrev pub path_underflows : Option (List ℕ) → List ℕ → Bool
-path_underflows scheme path = is_some scheme && starts 47 path && underflows path
+path_underflows scheme path = is_some scheme && starts slash path && underflows path

@@ -2,15 +2,16 @@
 use Rattle.std.specs.Prelude.{◌≡◌, ◌||◌, ℕ, Bool, true, false, not, List, Ok, Err, is_ok, is_some}
 use Rattle.std.specs.Prelude.{option_map}
 use Rattle.uri_parts.specs.Components.{Components, starts}
-use Rattle.uri_ops.specs.declared.resolve.Parts.{Parts}
+use Rattle.uri_ops.specs.declared.target_text.Components as Held
 use Rattle.uri_ops.specs.declared.resolve.ResolveError.{ResolveError}
 use Rattle.uri_ops.specs.declared.resolve.ResolveError.TheVariants as Of
 use Rattle.uri_ops.specs.Dots.{is_empty}
 use Rattle.uri_ops.specs.Target.{BaseWithFragment, InvalidReferenceAgainstOpaqueBase, cleaned_path}
 use Rattle.uri_ops.specs.Target.{guarded, target_underflows, resolution_of}
+use Rattle.uri_pct.specs.Delimiters.{slash}
 
 -- the components that a program holds
-abbrev pub components_of : Parts → Components
+abbrev pub components_of : Held.Components → Components
 components_of p = record {
   scheme = option_map (λ s. s.now) p.scheme;
   authority = option_map (λ s. s.now) p.authority;
@@ -22,7 +23,7 @@ components_of p = record {
 -- section 5.2.2: the reference's path is put behind the base's directory
 abbrev pub is_merged : Components → Bool
 is_merged r =
-    not (is_some r.scheme || (is_some r.authority || (is_empty r.path || starts 47 r.path)))
+    not (is_some r.scheme || (is_some r.authority || (is_empty r.path || starts slash r.path)))
 
 -- the target's components, of those before dot segments are removed
 abbrev pub finished : Components → Components

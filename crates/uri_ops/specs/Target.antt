@@ -4,6 +4,7 @@ use Rattle.std.specs.Prelude.{ℕ, Bool, not, ◌&&◌, ◌||◌, List, ◌++◌
 use Rattle.std.specs.Prelude.{is_some, is_none, if◌then◌else◌}
 use Rattle.uri_parts.specs.Components.{Components, components, starts, has_authority, recompose}
 use Rattle.uri_ops.specs.Dots.{is_empty, remove_dot_segments, underflows, directory}
+use Rattle.uri_pct.specs.Delimiters.{slash}
 
 -- why a reference has no target against a base
 pub data Refusal : Type 0 where
@@ -12,7 +13,7 @@ pub data Refusal : Type 0 where
 
 -- the base has no authority, and its path does not begin with `/`
 abbrev pub is_opaque : Components → Bool
-is_opaque base = is_none base.authority && not (starts 47 base.path)
+is_opaque base = is_none base.authority && not (starts slash base.path)
 
 -- the reference is the empty text, or begins with `#`
 abbrev pub is_fragment_only : Components → Bool
@@ -39,14 +40,14 @@ joined base r =
     else (if is_some r.authority then record r { scheme = base.scheme }
     else (if is_empty r.path
     then record base { query = query_or base.query r.query; fragment = r.fragment }
-    else (if starts 47 r.path
+    else (if starts slash r.path
     then record base { path = r.path; query = r.query; fragment = r.fragment }
     else record base { path = merged base.path r.path; query = r.query; fragment = r.fragment })))
 
 -- section 5.2.2: the target's path without its dot segments
 abbrev pub cleaned_path : List ℕ → List ℕ
 cleaned_path path =
-    if starts 47 path
+    if starts slash path
     -- Not in the RFC: they are removed from the base's path too, where the reference's is empty.
     then remove_dot_segments path
     -- Not in the RFC: a path that does not begin with `/` keeps them, such as that of `foo:a/../b`.
@@ -65,7 +66,7 @@ target_of base r =
 
 -- the dot segments of a path are removed, and underflow
 abbrev pub cleaning_underflows : List ℕ → Bool
-cleaning_underflows path = starts 47 path && underflows path
+cleaning_underflows path = starts slash path && underflows path
 
 -- removing its dot segments underflows
 abbrev pub target_underflows : Components → Components → Bool

@@ -31,6 +31,10 @@ use uri_parts::component::{Authority, Scheme};
 use uri_pct::pct_enc::EStr;
 
 /// Why no reference was built.
+///
+/// # Examples
+///
+/// The authority `a` and the path `b` are refused as `NonemptyRootlessPath`.
 #[derive(Clone, Copy, Debug, PartialEq, Eq, Error)]
 pub enum BuildError {
     /// There is an authority, and the path is neither empty nor begins with `/` (RFC 3986, section
@@ -114,6 +118,11 @@ impl<R: RiMaybeRef> Builder<R, NonRefStart> {
 impl<R, S: State> Builder<R, S> {
     /// The same builder in a later state, as by `advance::<AuthorityEnd>()`: the parts in between
     /// are left out.
+    ///
+    /// # Examples
+    ///
+    /// `UriRef::<String>::builder(alloc).advance().path(EStr::new_or_panic("a"))` leaves out scheme
+    /// and authority.
     pub fn advance<T: State>(self) -> Builder<R, T>
     where
         S: AdvanceTo<T>,
@@ -130,6 +139,11 @@ impl<R, S: State> Builder<R, S> {
     ///
     /// The step may be called on every builder, as each method of `Builder` may that asks nothing.
     /// `optional(Builder::query, None)` adds nothing.
+    ///
+    /// # Examples
+    ///
+    /// `builder.optional(Builder::query, None)` leaves the query out, and
+    /// `Some(EStr::new_or_panic("q"))` in place of `None` gives it.
     pub fn optional<F, V, T: State>(self, step: F, value: Option<V>) -> Builder<R, T>
     where
         S: AdvanceTo<T>,
@@ -169,6 +183,10 @@ impl<R: RiMaybeRef, S: State> Builder<R, S> {
     /// Gives the scheme (RFC 3986, section 3.1). `Scheme::new_or_panic("http")` writes `http:`.
     ///
     /// The case of its letters makes no difference; it should be lower.
+    ///
+    /// # Examples
+    ///
+    /// `scheme(Scheme::new_or_panic("http"))` writes `http:`.
     pub fn scheme(self, scheme: Scheme<'_>) -> Builder<R, SchemeEnd>
     where
         S: To<SchemeEnd>,
@@ -225,6 +243,10 @@ impl<R: RiMaybeRef, S: State> Builder<R, S> {
     }
 
     /// Gives the authority (RFC 3986, section 3.2): the empty one, or that of another reference.
+    /// `authority(Authority::EMPTY)` writes `//`.
+    ///
+    /// # Examples
+    ///
     /// `authority(Authority::EMPTY)` writes `//`.
     pub fn authority(
         self,
@@ -302,7 +324,7 @@ impl<R: RiMaybeRef, S: State> Builder<R, S> {
     /// Gives the port (RFC 3986, section 3.2.3), unless it is the default one, which is left out.
     ///
     /// `port_with_default(8080, 80)` writes `:8080`, and `port_with_default(80, 80)` nothing.
-    #[tactic(auto, using(crate::proofs::BuilderPlaces::port_authority))]
+    #[tactic(auto, using(crate::proofs::Builders::BuilderPlaces::port_authority))]
     pub fn port_with_default(self, port: u16, default: u16) -> Builder<R, PortEnd>
     where
         S: To<PortEnd>,
@@ -322,6 +344,10 @@ impl<R: RiMaybeRef, S: State> Builder<R, S> {
     }
 
     /// Gives the path (RFC 3986, section 3.3). `EStr::EMPTY` writes nothing.
+    ///
+    /// # Examples
+    ///
+    /// `path(EStr::new_or_panic("/a/b"))` writes `/a/b`.
     pub fn path(self, path: EStr<'_, R::PathE>) -> Builder<R, PathEnd>
     where
         S: To<PathEnd>,
@@ -337,6 +363,10 @@ impl<R: RiMaybeRef, S: State> Builder<R, S> {
     }
 
     /// Gives the query (RFC 3986, section 3.4), without its `?`. `EStr::EMPTY` writes `?`.
+    ///
+    /// # Examples
+    ///
+    /// `query(EStr::new_or_panic("a=b"))` writes `?a=b`.
     pub fn query(self, query: EStr<'_, R::QueryE>) -> Builder<R, QueryEnd>
     where
         S: To<QueryEnd>,
@@ -352,6 +382,10 @@ impl<R: RiMaybeRef, S: State> Builder<R, S> {
     }
 
     /// Gives the fragment (RFC 3986, section 3.5), without its `#`. `EStr::EMPTY` writes `#`.
+    ///
+    /// # Examples
+    ///
+    /// `fragment(EStr::new_or_panic("nose"))` writes `#nose`.
     pub fn fragment(self, fragment: EStr<'_, R::FragmentE>) -> Builder<R, FragmentEnd>
     where
         S: To<FragmentEnd>,
@@ -373,6 +407,11 @@ impl<R: RiMaybeRef, S: State> Builder<R, S> {
     ///
     /// `OutOfMemory` exactly if a step was refused memory. Else `NonemptyRootlessPath`,
     /// `PathStartsWithDoubleSlash` or `FirstPathSegmentContainsColon`, where it applies.
+    ///
+    /// # Examples
+    ///
+    /// The scheme `foo`, no authority and the path `//a` are refused as
+    /// `PathStartsWithDoubleSlash`.
     pub fn build(self) -> Result<R, BuildError>
     where
         S: To<End>,

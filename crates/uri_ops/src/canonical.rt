@@ -9,7 +9,7 @@ ghost use Rattle.uri_ops.specs.Texts.{IsTextOf};
 
 /// The sets of the four kinds have what the laws below ask of a kind's (RFC 3986, sections 2.2, 2.3
 /// and 3, and RFC 3987, section 2.2).
-#[tactic(auto, using(crate::proofs::FourKinds::four_sets))]
+#[tactic(auto, using(crate::proofs::Theorems::four_sets))]
 pub fn four_kinds_have_component_sets()
     ensures uri { HasComponentSets uri }
     ensures uri_ref { HasComponentSets uri_ref }
@@ -18,7 +18,7 @@ pub fn four_kinds_have_component_sets()
 {}
 
 /// The meaning under a port function is a function of the bare meaning (RFC 3986, section 6.2.3).
-#[tactic(auto, using(crate::proofs::NormalTexts::canonical))]
+#[tactic(auto, using(crate::proofs::Theorems::canonical))]
 pub fn meaning_under_ports()
     ensures { (kind : Kind) (ports : PortFunction) (text : List ℕ)
         → meaning_of kind ports text ≡ under ports (bare_meaning_of kind text) }
@@ -27,7 +27,7 @@ pub fn meaning_under_ports()
 /// The normal text of a text's meaning is a text of the kind and has that meaning, so texts have
 /// equal normal texts exactly if they have equal meanings, and the normal text of a normal text is
 /// itself (RFC 3986, section 6.2.2).
-#[tactic(auto, using(crate::proofs::NormalTexts::canonical))]
+#[tactic(auto, using(crate::proofs::Theorems::canonical))]
 pub fn normal_texts_are_canonical()
     ensures text { (kind : Kind) (ports : PortFunction) (text : List ℕ) → HasComponentSets kind
         → IsTextOf kind text → IsTextOf kind (normal_text (meaning_of kind ports text)) }

@@ -13,6 +13,11 @@ use uri_parts::core_text::Core;
 use uri_parts::kind::Kind;
 
 /// Why a value of one kind is none of another.
+///
+/// # Examples
+///
+/// `rel/ref` is no `Uri`, for `NoScheme`, and `http://你好.example.com/` is none, for `NotAscii {
+/// index: 7 }`.
 #[derive(Clone, Copy, Debug, PartialEq, Eq, Error)]
 pub enum ConvertError {
     /// There is no scheme, which a URI or an IRI needs (RFC 3986, section 3).

@@ -2,6 +2,10 @@
 use uri_parts::component::Scheme;
 
 /// The default ports of schemes (RFC 3986, sections 3.2.3 and 6.2.3).
+///
+/// # Examples
+///
+/// With `SchemeDefaults`, `http://a:80` is normalised to `http://a`.
 pub trait DefaultPort: Drop {
     ghost use Rattle.std.specs.Prelude.{◌≡◌};
     ghost use Rattle.uri_parts.specs.Schemes.{lowered_scheme};
@@ -18,6 +22,10 @@ pub trait DefaultPort: Drop {
 }
 
 /// The default ports that `Scheme::default_port` answers.
+///
+/// # Examples
+///
+/// The default port of `http` is 80, and `foo` has none.
 #[derive(Clone, Copy)]
 pub struct SchemeDefaults;
 

@@ -106,7 +106,7 @@ pub fn push_without_dot_segments(path: &str, out: &mut String) -> Result<bool, A
 
 /// Appends a path segment by segment, without its dot segments, and answers whether a double dot
 /// had nothing left to remove.
-fn push_kept_segments(path: &str, out: &mut String) -> Result<bool, AllocError>
+pub(crate) fn push_kept_segments(path: &str, out: &mut String) -> Result<bool, AllocError>
     requires { IsAbsolute path.now }
     ensures text { OnOk result (Pushes out.old out.new (remove_dot_segments path.now)) }
     ensures underflow { IfOk result (λ underflowed. underflowed ≡ underflows path.now) }

@@ -8,7 +8,7 @@ use uri_pct::lanes::{LANES, ascii_end};
 use uri_pct::octet::pct_encoded;
 
 /// How many bytes stand before the first one past ASCII, or before the end.
-#[tactic(auto, using(crate::proofs::EncodedRuns::encoded_runs))]
+#[tactic(auto, using(crate::proofs::AsciiForms::EncodedRuns::encoded_runs))]
 fn ascii_len(bytes: &[u8]) -> usize
     ensures inside { result ≤ length bytes.now }
     ensures plain { encoded_text (take result bytes.now) ≡ take result bytes.now }
@@ -52,7 +52,7 @@ fn push_run(bytes: &[u8], out: &mut Vec<u8>) -> Result<(), AllocError>
 }
 
 /// Appends the bytes, each one past ASCII as an octet.
-#[tactic(auto, using(crate::proofs::EncodedRuns::encoded_runs))]
+#[tactic(auto, using(crate::proofs::AsciiForms::EncodedRuns::encoded_runs))]
 fn push_encoded(bytes: &[u8], out: &mut Vec<u8>) -> Result<(), AllocError>
     ensures { OnOk result (out.new.items ≡ out.old.items ++ encoded_text bytes.now) }
 {

@@ -15,15 +15,15 @@ ghost use Rattle.uri_ops.specs.Dots.{lacks_dot_segments, run_whole, IsAbsolute, 
 ghost use Rattle.uri_ops.specs.Target.{is_fragment_only, target_of};
 
 /// The loop that removes dot segments ends with nothing left to read (RFC 3986, section 5.2.4).
-#[tactic(auto, using(crate::proofs::DotRuns::dot_runs))]
+#[tactic(auto, using(crate::proofs::Theorems::dot_runs))]
 pub fn nothing_is_left_to_read()
     ensures { (path : List ℕ) → (run_whole path).input ≡ [] }
 {}
 
 /// What is left has no dot segment, begins with `/` and is no longer than the path (RFC 3986,
 /// section 5.2.4).
-#[tactic(auto, using(crate::proofs::DotLaws::removed_laws))]
-pub fn what_is_left()
+#[tactic(auto, using(crate::proofs::Theorems::removed_laws))]
+pub fn no_dot_segment_is_left()
     ensures plain { (path : List ℕ) → IsAbsolute path
         → lacks_dot_segments (remove_dot_segments path) ≡ true }
     ensures absolute { (path : List ℕ) → IsAbsolute path → IsAbsolute (remove_dot_segments path) }
@@ -32,8 +32,8 @@ pub fn what_is_left()
 {}
 
 /// A path without dot segments is left as it is, and does not underflow.
-#[tactic(auto, using(crate::proofs::DotLaws::plain_laws))]
-pub fn nothing_to_remove()
+#[tactic(auto, using(crate::proofs::Theorems::plain_laws))]
+pub fn paths_without_dot_segments_are_left_as_they_are()
     ensures removed { (path : List ℕ) → IsAbsolute path → lacks_dot_segments path ≡ true
         → remove_dot_segments path ≡ path }
     ensures underflow { (path : List ℕ) → IsAbsolute path → lacks_dot_segments path ≡ true
@@ -41,16 +41,16 @@ pub fn nothing_to_remove()
 {}
 
 /// To remove dot segments twice is to remove them once.
-#[tactic(auto, using(crate::proofs::DotLaws::removed_twice))]
-pub fn removed_twice()
+#[tactic(auto, using(crate::proofs::Paths::DotLaws::removed_twice))]
+pub fn removing_twice_is_removing_once()
     ensures { (path : List ℕ) → IsAbsolute path
         → remove_dot_segments (remove_dot_segments path) ≡ remove_dot_segments path }
 {}
 
 /// A directory begins with and ends in `/`, and its dot segments may be removed before it is taken
 /// or after.
-#[tactic(auto, using(crate::proofs::DotLaws::directory_laws))]
-pub fn of_a_directory()
+#[tactic(auto, using(crate::proofs::Theorems::directory_laws))]
+pub fn directories_are_taken_before_or_after_removing()
     ensures absolute { (path : List ℕ) → IsRooted path → IsAbsolute (directory path) }
     ensures closed { (path : List ℕ) → IsRooted path → EndsInSlash (directory path) }
     ensures removed { (path : List ℕ) → IsRooted path
@@ -62,8 +62,8 @@ pub fn of_a_directory()
 /// Of a path in two pieces, the first of which ends in `/`, the first piece's dot segments may be
 /// removed before the path's. The path underflows where the first piece does, or what is left of it
 /// with the second.
-#[tactic(auto, using(crate::proofs::DotLaws::piece_laws))]
-pub fn in_pieces()
+#[tactic(auto, using(crate::proofs::Theorems::piece_laws))]
+pub fn front_pieces_may_be_removed_first()
     ensures removed { (front back : List ℕ) → IsAbsolute front → EndsInSlash front
         → remove_dot_segments (front ++ back)
         ≡ remove_dot_segments (remove_dot_segments front ++ back) }
@@ -74,8 +74,8 @@ pub fn in_pieces()
 
 /// The same of a path that is merged with a base's (RFC 3986, section 5.2.3): the base's dot
 /// segments may be removed first.
-#[tactic(auto, using(crate::proofs::DotLaws::merging_laws))]
-pub fn before_merging()
+#[tactic(auto, using(crate::proofs::Theorems::merging_laws))]
+pub fn bases_may_be_removed_before_merging()
     ensures removed { (base reference : List ℕ) → IsRooted base
         → remove_dot_segments (directory base ++ reference)
         ≡ remove_dot_segments (directory (remove_dot_segments base) ++ reference) }
@@ -85,7 +85,7 @@ pub fn before_merging()
 {}
 
 /// Dot segments may be removed before a path is read or after, and reading changes no underflow.
-pub fn of_a_read_path()
+pub fn removing_and_reading_swap()
     ensures removed { (set : TableSet) (path : List ℕ) → LacksPercent set
         → IsSubset unreserved_set set → IsAbsolute path → IsUtf8 path → IsValidFor set path
         → remove_dot_segments (print (read set path))
@@ -98,8 +98,8 @@ pub fn of_a_read_path()
 /// The text of a target has the components that were put into it, where the base has a scheme
 /// (RFC 3986, sections 5.2.2 and 5.3).
 #[doc(hidden)]
-#[tactic(auto, using(crate::proofs::Targets::target_laws))]
-pub fn of_a_target()
+#[tactic(auto, using(crate::proofs::Theorems::target_laws))]
+pub fn targets_have_the_components_put_into_them()
     ensures split { (base reference : List ℕ) → is_some (components base).scheme ≡ true
         → IsSplitOf (recompose (target_of (components base) (components reference)))
         (target_of (components base) (components reference)) }
@@ -111,8 +111,8 @@ pub fn of_a_target()
 /// The references without a scheme that an opaque base takes are the empty text and those that
 /// begin with `#`.
 #[doc(hidden)]
-#[tactic(auto, using(crate::proofs::Targets::fragment_only))]
-pub fn fragment_only()
+#[tactic(auto, using(crate::proofs::Targeting::Targets::fragment_only))]
+pub fn opaque_bases_take_fragments_alone()
     ensures { (reference : List ℕ)
         → is_fragment_only (components reference) ≡ (is_empty reference || starts 35 reference) }
 {}
@@ -120,7 +120,7 @@ pub fn fragment_only()
 /// The texts of the four kinds are those that the RFCs' words spell: a split into components, each
 /// with its rule, of which the authority has a cut (RFC 3986, sections 3, 3.2 and 4.2, and
 /// appendix B; RFC 3987, section 2.2).
-#[tactic(auto, using(crate::proofs::SpeltTexts::grammar_laws))]
+#[tactic(auto, using(crate::proofs::Theorems::grammar_laws))]
 pub fn kinds_are_their_grammar()
     ensures uri { (text : List ℕ) → IsUtf8 text → (IsOfKind uri text ↔ IsInGrammar uri text) }
     ensures uri_ref { (text : List ℕ) → IsUtf8 text
@@ -132,7 +132,7 @@ pub fn kinds_are_their_grammar()
 
 /// An authority has one cut into userinfo, host and port, and a host is of one kind (RFC 3986,
 /// sections 3.2 and 3.2.2; RFC 3987, section 2.2).
-#[tactic(auto, using(crate::proofs::SpeltTexts::cut_laws))]
+#[tactic(auto, using(crate::proofs::Theorems::cut_laws))]
 pub fn authorities_have_one_cut()
     ensures uri { (text : List ℕ) (p : AuthorityParts) → IsUtf8 text
         → IsAuthorityFor uri.userinfo uri.reg_name text p → authority_parts text ≡ p }

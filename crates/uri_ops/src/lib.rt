@@ -28,4 +28,6 @@ pub mod resolve;
 pub mod slashes;
 #[doc(hidden)]
 pub mod swap;
+#[doc(hidden)]
+pub mod target_text;
 pub mod traits;

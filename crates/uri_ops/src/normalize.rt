@@ -18,6 +18,10 @@ use uri_parts::core_text::Core;
 use uri_parts::kind::Kind;
 
 /// Why a value was not normalised.
+///
+/// # Examples
+///
+/// `http://a/../b` is refused as `PathUnderflow` where underflow is not allowed.
 #[derive(Clone, Copy, Debug, PartialEq, Eq, Error)]
 pub enum NormalizeError {
     /// A double dot had no segment left to remove (RFC 3986, section 5.2.4), and this is not
@@ -41,6 +45,11 @@ impl From<AllocError> for NormalizeError {
 
 /// What normalises values, by its settings: whether dot segments may underflow, and the default
 /// ports of schemes.
+///
+/// # Examples
+///
+/// `Normalizer::new().normalize(alloc, &uri)` answers `http://example.com/` for
+/// `HTTP://Example.com:80/`.
 #[derive(Drop)]
 pub struct Normalizer<P> {
     allow_path_underflow: bool,
@@ -78,6 +87,10 @@ pub(crate) fn normal_form<K: Kind, P: DefaultPort>(
 impl Normalizer<SchemeDefaults> {
     /// A normaliser with the default ports of `Scheme::default_port`, where dot segments may
     /// underflow.
+    ///
+    /// # Examples
+    ///
+    /// It normalises `http://a:80/../b` to `http://a/b`.
     pub fn new() -> Normalizer<SchemeDefaults>
         ensures { allows_underflow result ≡ true }
     {
@@ -99,6 +112,10 @@ impl Default for Normalizer<SchemeDefaults> {
 impl<P: DefaultPort> Normalizer<P> {
     /// The same with another say on whether dot segments may underflow: whether `/..` is removed
     /// where no segment stands before it (RFC 3986, section 5.2.4), in place of an error.
+    ///
+    /// # Examples
+    ///
+    /// `Normalizer::new().allow_path_underflow(false)` refuses `http://a/../b`.
     pub fn allow_path_underflow(self, value: bool) -> Normalizer<P>
         ensures allows { allows_underflow result ≡ value }
         ensures ports { ports_of result ≡ ports_of self }
@@ -110,6 +127,11 @@ impl<P: DefaultPort> Normalizer<P> {
     }
 
     /// The same with other default ports (RFC 3986, section 6.2.3).
+    ///
+    /// # Examples
+    ///
+    /// With ports that answer 4673 for every scheme, `foo://localhost:4673` is normalised to
+    /// `foo://localhost`.
     pub fn default_port_with<Q: DefaultPort>(self, ports: Q) -> Normalizer<Q>
         ensures allows { allows_underflow result ≡ allows_underflow self }
         ensures ports { ports_of result ≡ ports }
@@ -132,6 +154,10 @@ impl<P: DefaultPort> Normalizer<P> {
     ///
     /// `PathUnderflow` if underflow is not allowed, and under a scheme a double dot of a path that
     /// begins with `/` has nothing left to remove; `OutOfMemory` if memory is refused.
+    ///
+    /// # Examples
+    ///
+    /// `eXAMPLE://a/./b/../b/%63/%7bfoo%7d` is normalised to `example://a/b/c/%7Bfoo%7D`.
     pub fn normalize<R: RiMaybeRef>(
         &self,
         alloc: Global,

@@ -62,7 +62,7 @@ impl TakeParts for Reading {
 }
 
 /// Whether the table allows formatting characters of bidirectional text, and octets for them.
-#[tactic(auto, using(crate::proofs::WrittenFormatting::allows_mark))]
+#[tactic(auto, using(crate::proofs::Meanings::WrittenFormatting::allows_mark))]
 fn encodes_formatting(table: &Table) -> bool
     ensures { result ≡ ((set_of table.now).ucschar && (set_of table.now).pct_encoded) }
 {

@@ -1,32 +1,29 @@
 //! Resolving references against a base (RFC 3986, section 5).
-ghost use Rattle.std.specs.Prelude.{◌≡◌, ◌++◌, codes, IfOk, IfErr, OnOk, IfSome, [], true};
-ghost use Rattle.std.specs.Prelude.{option_map, string_bytes, take, Ok};
-ghost use Rattle.uri_parts.specs.Appending.{Pushes};
-ghost use Rattle.uri_parts.specs.Grammar.{IsOfKind};
-ghost use Rattle.std.specs.Str.{IsCharBoundary, IsUtf8};
-ghost use Rattle.uri_parts.specs.Components.{IsRooted, components, marked, recompose};
-ghost use Rattle.uri_ops.specs.Dots.{directory};
+ghost use Rattle.std.specs.Prelude.{◌≡◌, IfOk, IfErr, true};
+ghost use Rattle.std.specs.Prelude.{string_bytes, Ok};
+ghost use Rattle.uri_parts.specs.Components.{components};
 ghost use Rattle.uri_ops.specs.Normalizers.{ports_of};
 ghost use Rattle.uri_ops.specs.EncodedTargets.{IsErrorForEncoded, IsTargetOfEncoded};
 ghost use Rattle.uri_ops.specs.NormalTargets.{IsErrorOfMeanings, IsTargetOfMeanings};
 ghost use Rattle.uri_ops.specs.NormalTargets.{IsNormalTarget, IsRefusedAlike};
 ghost use Rattle.uri_ops.specs.Resolvers.{allows_underflow, base_of};
-ghost use Rattle.uri_ops.specs.Resolving.{IsErrorFor, IsRefusalFor, IsTarget, components_of};
-ghost use Rattle.uri_ops.specs.Resolving.{finished, is_merged};
-ghost use Rattle.uri_ops.specs.Target.{cleaned_path, cleaning_underflows, guarded};
-ghost use Rattle.uri_ops.specs.Target.{is_refused_as_opaque, joined, merged, resolution_of_texts};
+ghost use Rattle.uri_ops.specs.Resolving.{IsErrorFor, IsRefusalFor, IsTarget};
+ghost use Rattle.uri_ops.specs.Target.{resolution_of_texts};
 ghost use Rattle.uri_ops.specs.Texts.{IsTextOf};
 
 use crate::default_port::DefaultPort;
-use crate::dot_segments::{is_double_dot, last_slash, push_without_dot_segments};
 use crate::normalize::{Normalizer, normal_form};
-use crate::slashes::{begins_with_slash, begins_with_two_slashes};
+use crate::target_text::{components_in, target_text};
 use crate::traits::{RefOf, Ri, RiMaybeRef, owned};
 use std::alloc::{AllocError, Global};
 use thiserror::Error;
 use uri_parts::core_text::Core;
 
 /// Why a reference was not resolved against a base.
+///
+/// # Examples
+///
+/// `//g` against `foo:bar` is refused as `InvalidReferenceAgainstOpaqueBase`.
 #[derive(Clone, Copy, Debug, PartialEq, Eq, Error)]
 pub enum ResolveError {
     /// The base has a fragment (RFC 3986, section 5.1).
@@ -56,266 +53,15 @@ impl From<AllocError> for ResolveError {
 }
 
 /// What resolves references against a base, by its setting: whether dot segments may underflow.
+///
+/// # Examples
+///
+/// `Resolver::with_base(base).resolve(alloc, &reference)` answers `http://a/b/g` for
+/// `http://a/b/c/d;p?q` and `../g`.
 #[derive(Drop)]
 pub struct Resolver<R> {
     base: R,
     allow_path_underflow: bool,
-}
-
-/// The five components of a text (RFC 3986, appendix B).
-#[doc(hidden)]
-#[derive(Clone, Copy)]
-pub struct Parts<'a> {
-    pub scheme: Option<&'a str>,
-    pub authority: Option<&'a str>,
-    pub path: &'a str,
-    pub query: Option<&'a str>,
-    pub fragment: Option<&'a str>,
-}
-
-/// The components of a value of a kind.
-fn parts_of<R: RiMaybeRef>(value: &R) -> Parts<'_>
-    ensures parts { components_of result ≡ components (R.text value.now) }
-    ensures of_kind { IsOfKind R.kind (R.text value.now) }
-    ensures utf8 { IsUtf8 (R.text value.now) }
-{
-    let core = value.core();
-    let text = core.as_str();
-    let positions = core.positions();
-    Parts {
-        scheme: positions.scheme(text),
-        authority: positions.authority(text),
-        path: positions.path(text),
-        query: positions.query(text),
-        fragment: positions.fragment(text),
-    }
-}
-
-/// Whether a base takes no such reference: it has no authority, and its path doesn't begin with
-/// `/`, and the reference has no scheme, is not empty and doesn't begin with `#`.
-fn is_refused(base: Parts<'_>, reference: Parts<'_>) -> bool
-    ensures { result
-        ≡ is_refused_as_opaque (components_of base.entry) (components_of reference.entry) }
-{
-    let is_opaque = base.authority.is_none() && !begins_with_slash(base.path.as_bytes());
-    let is_fragment_only = reference.scheme.is_none()
-        && reference.authority.is_none()
-        && reference.path.is_empty()
-        && reference.query.is_none();
-    is_opaque && !(reference.scheme.is_some() || is_fragment_only)
-}
-
-/// Whether the reference's path is put behind the base's directory (RFC 3986, section 5.2.2).
-fn is_merged(reference: Parts<'_>) -> bool
-    ensures { result ≡ is_merged (components_of reference.entry) }
-{
-    !(reference.scheme.is_some()
-        || reference.authority.is_some()
-        || reference.path.is_empty()
-        || begins_with_slash(reference.path.as_bytes()))
-}
-
-/// Where the `/` stands, or is missing, up to which a base's path stands before a merged path
-/// (RFC 3986, section 5.2.3): its last one, or its end where it is empty or ends in a double dot.
-fn directory_end(path: &str) -> usize
-    requires { IsRooted path.now }
-    ensures front { directory path.now ≡ take result path.now ++ codes "/" }
-    ensures place { IsCharBoundary path.now result }
-{
-    if path.is_empty() {
-        return 0;
-    }
-    let slash = last_slash(path.as_bytes(), 0);
-    if is_double_dot(&path[slash + 1..]) {
-        return path.len();
-    }
-    slash
-}
-
-/// The base's directory with the reference's path behind it, where the two are merged (RFC 3986,
-/// section 5.2.3), and else no text.
-fn merged_path(alloc: Global, base: Parts<'_>, reference: Parts<'_>) -> Result<String, AllocError>
-    requires { is_merged (components_of reference) ≡ true → IsRooted base.path.now }
-    ensures { IfOk result (λ text.
-        is_merged (components_of reference.entry) ≡ true
-        → string_bytes text
-        ≡ merged (components_of base.entry).path (components_of reference.entry).path) }
-{
-    let mut text = String::new(alloc);
-    if is_merged(reference) {
-        text.reserve(
-            base.path
-                .len()
-                .saturating_add(reference.path.len())
-                .saturating_add(1),
-        )?;
-        text.push_str(&base.path[..directory_end(base.path)])?;
-        text.push('/')?;
-        text.push_str(reference.path)?;
-    }
-    Ok(text)
-}
-
-/// The target's components before dot segments are removed (RFC 3986, section 5.2.2), with the
-/// merged path where there is one.
-fn joined<'a>(base: Parts<'a>, reference: Parts<'a>, merged_path: &'a str) -> Parts<'a>
-    requires { is_merged (components_of reference) ≡ true
-        → merged_path.now ≡ merged (components_of base).path (components_of reference).path }
-    ensures { components_of result
-        ≡ joined (components_of base.entry) (components_of reference.entry) }
-{
-    if reference.scheme.is_some() {
-        return reference;
-    }
-    if reference.authority.is_some() {
-        return Parts {
-            scheme: base.scheme,
-            ..reference
-        };
-    }
-    let fragment = reference.fragment;
-    if reference.path.is_empty() {
-        let query = if reference.query.is_some() {
-            reference.query
-        } else {
-            base.query
-        };
-        return Parts {
-            query,
-            fragment,
-            ..base
-        };
-    }
-    let path = if begins_with_slash(reference.path.as_bytes()) {
-        reference.path
-    } else {
-        merged_path
-    };
-    let query = reference.query;
-    Parts {
-        path,
-        query,
-        fragment,
-        ..base
-    }
-}
-
-/// Appends a component behind its mark, where it is present.
-fn push_marked(mark: &str, part: Option<&str>, out: &mut String) -> Result<(), AllocError>
-    ensures { OnOk result (Pushes out.old out.new
-        (marked mark.now (option_map (λ s. s.now) part.entry) [])) }
-{
-    if let Some(part) = part {
-        out.push_str(mark)?;
-        out.push_str(part)?;
-    }
-    Ok(())
-}
-
-/// Appends a scheme and its `:`, where it is present.
-fn push_scheme(scheme: Option<&str>, out: &mut String) -> Result<(), AllocError>
-    ensures { OnOk result (Pushes out.old out.new
-        (marked [] (option_map (λ s. s.now) scheme.entry) (codes ":"))) }
-{
-    if let Some(scheme) = scheme {
-        out.push_str(scheme)?;
-        out.push(':')?;
-    }
-    Ok(())
-}
-
-/// Appends a path without its dot segments, if it begins with `/`, and answers whether their
-/// removal underflows.
-fn push_cleaned(path: &str, out: &mut String) -> Result<bool, AllocError>
-    ensures text { OnOk result (Pushes out.old out.new (cleaned_path path.now)) }
-    ensures underflow { IfOk result (λ underflowed. underflowed ≡ cleaning_underflows path.now) }
-{
-    if begins_with_slash(path.as_bytes()) {
-        push_without_dot_segments(path, out)
-    } else {
-        out.push_str(path)?;
-        Ok(false)
-    }
-}
-
-/// Appends a path like `push_cleaned`, with `/.` before it where it would be read as an authority.
-fn push_guarded(authority: Option<&str>, path: &str, out: &mut String) -> Result<bool, AllocError>
-    ensures text { OnOk result (Pushes out.old out.new
-        (guarded (option_map (λ s. s.now) authority.entry) (cleaned_path path.now))) }
-    ensures underflow { IfOk result (λ underflowed. underflowed ≡ cleaning_underflows path.now) }
-{
-    let start = out.len();
-    let underflowed = push_cleaned(path, out)?;
-    if authority.is_none() && begins_with_two_slashes(&out.as_bytes()[start..]) {
-        out.insert_str(start, "/.")?;
-    }
-    Ok(underflowed)
-}
-
-/// Appends a target, whose dot segments are removed here, and answers whether that underflows.
-fn push_target(target: Parts<'_>, out: &mut String) -> Result<bool, AllocError>
-    ensures text { OnOk result (Pushes out.old out.new
-        (recompose (finished (components_of target.entry)))) }
-    ensures underflow { IfOk result (λ underflowed.
-        underflowed ≡ cleaning_underflows target.entry.path.now) }
-{
-    push_scheme(target.scheme, out)?;
-    push_marked("//", target.authority, out)?;
-    let underflowed = push_guarded(target.authority, target.path, out)?;
-    push_marked("?", target.query, out)?;
-    push_marked("#", target.fragment, out)?;
-    Ok(underflowed)
-}
-
-/// How long a part is, where it is present, with the marks beside it.
-fn marked_len(part: Option<&str>, marks: usize) -> usize {
-    match part {
-        Some(part) => part.len().saturating_add(marks),
-        None => 0,
-    }
-}
-
-/// How long the text of a target may get: no longer than with its dot segments.
-fn room_for(target: Parts<'_>) -> usize {
-    target
-        .path
-        .len()
-        .saturating_add(marked_len(target.scheme, 1))
-        .saturating_add(marked_len(target.authority, 2))
-        .saturating_add(marked_len(target.query, 1))
-        .saturating_add(marked_len(target.fragment, 1))
-}
-
-/// The target's text. An error that the components alone decide comes before memory is asked for.
-fn target_text(
-    alloc: Global,
-    base: Parts<'_>,
-    reference: Parts<'_>,
-    allow_path_underflow: bool,
-) -> Result<String, ResolveError>
-    requires { IfSome (components_of base).authority (λ _. IsRooted base.path.now) }
-    ensures target { IfOk result (λ text.
-        IsTarget allow_path_underflow (components_of base.entry) (components_of reference.entry)
-        (string_bytes text)) }
-    ensures error { IfErr result
-        (IsErrorFor allow_path_underflow (components_of base.entry)
-        (components_of reference.entry)) }
-{
-    if base.fragment.is_some() {
-        return Err(ResolveError::BaseWithFragment);
-    }
-    if is_refused(base, reference) {
-        return Err(ResolveError::InvalidReferenceAgainstOpaqueBase);
-    }
-    let path = merged_path(alloc, base, reference)?;
-    let target = joined(base, reference, path.as_str());
-    let mut text = String::new(alloc);
-    text.reserve(room_for(target))?;
-    let underflowed = push_target(target, &mut text)?;
-    if underflowed && !allow_path_underflow {
-        return Err(ResolveError::PathUnderflow);
-    }
-    Ok(text)
 }
 
 /// The text of the target of a reference against a base (RFC 3986, section 5.2).
@@ -346,8 +92,8 @@ fn resolved_text<B: Ri, Q: RefOf<B>>(
 {
     target_text(
         alloc,
-        parts_of(base),
-        parts_of(reference),
+        components_in(base),
+        components_in(reference),
         allow_path_underflow,
     )
 }
@@ -407,6 +153,10 @@ pub fn resolved_against<B: Ri, Q: RefOf<B>>(
 
 impl<R: Ri> Resolver<R> {
     /// A resolver against this base, where dot segments may underflow.
+    ///
+    /// # Examples
+    ///
+    /// Against `http://a/b/c/d;p?q` it resolves `../../../g` to `http://a/g`.
     pub fn with_base(base: R) -> Resolver<R>
         ensures base { base_of result ≡ base }
         ensures allows { allows_underflow result ≡ true }
@@ -419,6 +169,11 @@ impl<R: Ri> Resolver<R> {
 
     /// The same with another say on whether dot segments may underflow: whether `/..` is removed
     /// where no segment stands before it (RFC 3986, section 5.2.4), in place of an error.
+    ///
+    /// # Examples
+    ///
+    /// `Resolver::with_base(base).allow_path_underflow(false)` refuses `../../../g` against
+    /// `http://a/b/c/d;p?q`.
     pub fn allow_path_underflow(self, value: bool) -> Resolver<R>
         ensures base { base_of result ≡ base_of self }
         ensures allows { allows_underflow result ≡ value }
@@ -454,6 +209,10 @@ impl<R: Ri> Resolver<R> {
     /// if the base takes no such reference, both before memory is asked for; `PathUnderflow` if
     /// underflow is not allowed, and a double dot of a target path that begins with `/` has nothing
     /// left to remove; `OutOfMemory` if memory is refused.
+    ///
+    /// # Examples
+    ///
+    /// `g;x?y#s` against `http://a/b/c/d;p?q` is `http://a/b/c/g;x?y#s`.
     pub fn resolve<Q: RefOf<R>>(
         &self,
         alloc: Global,
@@ -488,6 +247,10 @@ impl<R: Ri> Resolver<R> {
     ///
     /// `BaseWithFragment` and `InvalidReferenceAgainstOpaqueBase` as `resolve` answers them;
     /// `OutOfMemory` if memory is refused.
+    ///
+    /// # Examples
+    ///
+    /// `//a:80` against `http://x/` is `http://a`.
     pub fn resolve_normalized<Q: RefOf<R>, P: DefaultPort>(
         &self,
         alloc: Global,

@@ -15,6 +15,10 @@ use uri_pct::pct_enc::EStr;
 ///
 /// It is implemented for the four kinds alone. Its encoders are those of the kind's components
 /// (RFC 3986, section 3; RFC 3987, section 2.2).
+///
+/// # Examples
+///
+/// A function over `R: RiMaybeRef` takes a `Uri<&str>` as well as an `IriRef<String>`.
 pub trait RiMaybeRef {
     ghost use Rattle.std.specs.Prelude.{ℕ, List};
     ghost use Rattle.uri_parts.specs.Grammar as grammar;
@@ -59,6 +63,10 @@ pub trait RiMaybeRef {
     ghost owned_text: { Self.Owned → List ℕ };
 
     /// The text as it stands.
+    ///
+    /// # Examples
+    ///
+    /// Of what was parsed from `http://a/b` it is `http://a/b`.
     fn as_str(&self) -> &str
         ensures text { result.now ≡ text self.now }
         ensures of_kind { IsOfKind kind result.now };
@@ -95,6 +103,10 @@ pub trait RiMaybeRef {
     }
 
     /// The scheme without its `:`, if there is one (RFC 3986, section 3.1).
+    ///
+    /// # Examples
+    ///
+    /// Of `http://a/b` it is `http`, and of `a/b` there is none.
     final fn scheme_opt(&self) -> Option<Scheme<'_>>
         ensures { option_map scheme_text result ≡ (components (text self.now)).scheme }
     {
@@ -102,6 +114,10 @@ pub trait RiMaybeRef {
     }
 
     /// The authority without its `//`, if there is one (RFC 3986, section 3.2).
+    ///
+    /// # Examples
+    ///
+    /// Of `http://a/b` it is `a`, and of `a/b` there is none.
     final fn authority(&self) -> Option<Authority<'_, Self::UserinfoE, Self::RegNameE>>
         ensures { option_map authority_text result ≡ (components (text self.now)).authority }
     {
@@ -109,6 +125,10 @@ pub trait RiMaybeRef {
     }
 
     /// The path, which may be empty (RFC 3986, section 3.3).
+    ///
+    /// # Examples
+    ///
+    /// Of `http://a/b` it is `/b`.
     final fn path(&self) -> EStr<'_, Self::PathE>
         ensures { text_of result ≡ (components (text self.now)).path }
     {
@@ -116,6 +136,10 @@ pub trait RiMaybeRef {
     }
 
     /// The query without its `?`, if there is one (RFC 3986, section 3.4).
+    ///
+    /// # Examples
+    ///
+    /// Of `/a?b` it is `b`, and of `/a` there is none.
     final fn query(&self) -> Option<EStr<'_, Self::QueryE>>
         ensures { option_map text_of result ≡ (components (text self.now)).query }
     {
@@ -123,6 +147,10 @@ pub trait RiMaybeRef {
     }
 
     /// The fragment without its `#`, if there is one (RFC 3986, section 3.5).
+    ///
+    /// # Examples
+    ///
+    /// Of `/a#b` it is `b`, and of `/a` there is none.
     final fn fragment(&self) -> Option<EStr<'_, Self::FragmentE>>
         ensures { option_map text_of result ≡ (components (text self.now)).fragment }
     {
@@ -140,6 +168,10 @@ pub trait RiMaybeRef {
 ///
 /// It is implemented for the four kinds alone. Generic code that goes on with what a call answers,
 /// as a normal form, asks for `R: WithOwned` and `R::Owned: RiMaybeRef`.
+///
+/// # Examples
+///
+/// `UriRef<&str>` is such a kind: its `Owned` is `UriRef<String>`.
 pub trait WithOwned: RiMaybeRef
 where
     Self::Owned: RiMaybeRef,
@@ -151,6 +183,10 @@ where
 }
 
 /// A kind whose texts have a scheme: a URI or an IRI.
+///
+/// # Examples
+///
+/// `Uri<&str>` and `Iri<String>` are such kinds, and `UriRef<&str>` is none.
 pub trait Ri: RiMaybeRef {
     ghost use Rattle.std.specs.Prelude.{true};
 
@@ -158,6 +194,10 @@ pub trait Ri: RiMaybeRef {
 }
 
 /// A kind of reference that is resolved against `B`: of URIs, or of IRIs.
+///
+/// # Examples
+///
+/// `UriRef<&str>` is resolved against `Uri<String>`, and `IriRef<&str>` is not.
 pub trait RefOf<B: Ri>: RiMaybeRef {
     ghost use Rattle.std.specs.Prelude.{false};
 

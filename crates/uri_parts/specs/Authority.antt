@@ -7,6 +7,7 @@ use Rattle.uri_pct.specs.Sets.{TableSet, LacksPercent, digit_set}
 use Rattle.uri_pct.specs.Tokens.{IsValidFor, is_valid_for}
 use Rattle.uri_parts.specs.Components.{marked, starts, before_any, from_any, when}
 use Rattle.uri_parts.specs.Hosts.{HostKind, IsHost, is_host}
+use Rattle.uri_pct.specs.Delimiters.{at_sign, colon, left_bracket}
 
 pub record AuthorityParts : Type 0 where
   pub userinfo : Option (List ℕ)
@@ -36,24 +37,24 @@ pub record KeepsApart (users names : TableSet) : Type 0 where
 -- `]`, and another at the first `:`
 abbrev pub behind_userinfo : List ℕ → List ℕ
 behind_userinfo text =
-    if starts 64 (from_any (codes "@") text) then drop 1 (from_any (codes "@") text) else text
+    if starts at_sign (from_any (codes "@") text) then drop 1 (from_any (codes "@") text) else text
 
 abbrev pub host_before : List ℕ → List ℕ
 host_before rest =
-    if starts 91 rest then before_any (codes "]") rest ++ codes "]" else before_any (codes ":") rest
+    if starts left_bracket rest then before_any (codes "]") rest ++ codes "]" else before_any (codes ":") rest
 
 abbrev pub behind_host : List ℕ → List ℕ
 behind_host rest =
-    if starts 91 rest then drop 1 (from_any (codes "]") rest) else from_any (codes ":") rest
+    if starts left_bracket rest then drop 1 (from_any (codes "]") rest) else from_any (codes ":") rest
 
 abbrev pub authority_parts : List ℕ → AuthorityParts
 authority_parts text =
     let rest = behind_userinfo text in
     let behind = behind_host rest in
     record {
-      userinfo = when (starts 64 (from_any (codes "@") text)) (before_any (codes "@") text);
+      userinfo = when (starts at_sign (from_any (codes "@") text)) (before_any (codes "@") text);
       host = host_before rest;
-      port = when (starts 58 behind) (drop 1 behind);
+      port = when (starts colon behind) (drop 1 behind);
     }
 
 -- each part of the cut meets its rule, and they are together the text

@@ -8,6 +8,7 @@ use Rattle.uri_parts.specs.Grammar.{Kind}
 use Rattle.uri_parts.specs.Hosts.{ipv6_value, is_ipv_future}
 use Rattle.uri_parts.specs.Literals.{reads_literal, literal_length}
 use Rattle.uri_parts.specs.declared.positions.AuthorityPositions.{AuthorityPositions}
+use Rattle.uri_pct.specs.Delimiters.{at_sign, colon, left_bracket}
 
 -- what may stand in brackets
 unfoldable pub is_literal : List ℕ → Bool
@@ -20,7 +21,7 @@ begins_any marks (b ∷ rest) = is_one_of marks b
 
 -- `:` and digits, if they are next
 unfoldable pub port_length : List ℕ → ℕ
-port_length rest = if starts 58 rest then 1 + front digit_set (drop 1 rest) else 0
+port_length rest = if starts colon rest then 1 + front digit_set (drop 1 rest) else 0
 
 -- a registered name, perhaps with a port
 unfoldable pub name_length : Kind → List ℕ → ℕ
@@ -34,14 +35,14 @@ finds_name kind rest = begins_any (codes "/?#") (drop (name_length kind rest) re
 -- a host: an address in brackets if `[` is next, and else a registered name
 unfoldable pub host_end : Kind → List ℕ → ℕ
 host_end kind rest =
-    if starts 91 rest then 1 + literal_length (drop 1 rest) else front kind.reg_name rest
+    if starts left_bracket rest then 1 + literal_length (drop 1 rest) else front kind.reg_name rest
 
 -- a host, perhaps with a port
 unfoldable pub host_length : Kind → List ℕ → ℕ
 host_length kind rest = host_end kind rest + port_length (drop (host_end kind rest) rest)
 
 unfoldable pub passes_host : List ℕ → Bool
-passes_host rest = if starts 91 rest then reads_literal (drop 1 rest) else true
+passes_host rest = if starts left_bracket rest then reads_literal (drop 1 rest) else true
 
 unfoldable pub finds_host : Kind → List ℕ → Bool
 finds_host kind rest =
@@ -49,18 +50,18 @@ finds_host kind rest =
 
 -- what was read as a name and a port is the front of userinfo, which goes on from there
 unfoldable pub more_user : Kind → List ℕ → ℕ
-more_user kind rest = if starts 64 rest then 0 else front kind.userinfo rest
+more_user kind rest = if starts at_sign rest then 0 else front kind.userinfo rest
 
 unfoldable pub user_length : Kind → List ℕ → ℕ
 user_length kind rest =
     name_length kind rest + more_user kind (drop (name_length kind rest) rest)
 
 unfoldable pub passes_user : Kind → List ℕ → Bool
-passes_user kind rest = starts 64 (drop (user_length kind rest) rest)
+passes_user kind rest = starts at_sign (drop (user_length kind rest) rest)
 
 -- where the host begins: at once if it stands in brackets, and else behind userinfo and its mark
 unfoldable pub host_place : Kind → List ℕ → ℕ
-host_place kind rest = if starts 91 rest then 0 else user_length kind rest + 1
+host_place kind rest = if starts left_bracket rest then 0 else user_length kind rest + 1
 
 abbrev pub from_host : Kind → List ℕ → List ℕ
 from_host kind rest = drop (host_place kind rest) rest
@@ -68,7 +69,7 @@ from_host kind rest = drop (host_place kind rest) rest
 -- an authority of any other form than a name
 unfoldable pub finds_other : Kind → List ℕ → Bool
 finds_other kind rest =
-    (starts 91 rest || passes_user kind rest) && finds_host kind (from_host kind rest)
+    (starts left_bracket rest || passes_user kind rest) && finds_host kind (from_host kind rest)
 
 unfoldable pub finds_authority : Kind → List ℕ → Bool
 finds_authority kind rest = finds_name kind rest || finds_other kind rest

@@ -4,6 +4,7 @@ use Rattle.std.specs.Prelude.{length, take, drop, slice_index, codes, All, IsTru
 use Rattle.std.specs.Prelude.{None, IfSome, IfNone, if◌then◌else◌}
 use Rattle.std.specs.List.{prefix_len}
 use Rattle.uri_pct.specs.Sets.{is_one_of}
+use Rattle.uri_pct.specs.Delimiters.{colon, number_sign, question_mark, slash}
 
 pub record Components : Type 0 where
   pub scheme : Option (List ℕ)
@@ -37,11 +38,11 @@ from_any marks text = drop (prefix_len (λ c. not (is_one_of marks c)) text) tex
 
 -- the text begins with one or more characters, none of them one of `:/?#`, and then `:`
 abbrev pub has_scheme : List ℕ → Bool
-has_scheme text = starts 58 (from_any (codes ":/?#") text) && not (starts 58 text)
+has_scheme text = starts colon (from_any (codes ":/?#") text) && not (starts colon text)
 
 -- the text begins with `//`
 abbrev pub has_authority : List ℕ → Bool
-has_authority rest = slice_index rest 0 == 47 && slice_index rest 1 == 47
+has_authority rest = slice_index rest 0 == slash && slice_index rest 1 == slash
 
 -- none of these characters stands in the text
 abbrev pub Lacks : List ℕ → List ℕ → Type 0
@@ -49,7 +50,7 @@ Lacks marks text = All (λ c. is_one_of marks c ≡ false) text
 
 -- a path that may follow an authority is empty or begins with `/`
 abbrev pub IsRooted : List ℕ → Type 0
-IsRooted path = (path ≡ []) ⊎ IsTrue (starts 47 path)
+IsRooted path = (path ≡ []) ⊎ IsTrue (starts slash path)
 
 -- appendix B in its words: the components are together the text, each holds none of the characters
 -- that end it, and one is absent only where the text has none
@@ -73,7 +74,7 @@ abbrev pub after_authority : List ℕ → List ℕ
 after_authority rest = if has_authority rest then from_any (codes "/?#") (drop 2 rest) else rest
 
 abbrev pub after_query : List ℕ → List ℕ
-after_query rest = if starts 63 rest then from_any (codes "#") (drop 1 rest) else rest
+after_query rest = if starts question_mark rest then from_any (codes "#") (drop 1 rest) else rest
 
 abbrev pub components : List ℕ → Components
 components text =
@@ -84,6 +85,6 @@ components text =
       scheme = when (has_scheme text) (before_any (codes ":/?#") text);
       authority = when (has_authority rest) (before_any (codes "/?#") (drop 2 rest));
       path = before_any (codes "?#") tail;
-      query = when (starts 63 end) (before_any (codes "#") (drop 1 end));
-      fragment = when (starts 35 (after_query end)) (drop 1 (after_query end));
+      query = when (starts question_mark end) (before_any (codes "#") (drop 1 end));
+      fragment = when (starts number_sign (after_query end)) (drop 1 (after_query end));
     }

@@ -7,6 +7,7 @@ use Rattle.uri_parts.specs.declared.error.ParseErrorKind.{ParseErrorKind}
 use Rattle.uri_parts.specs.declared.error.ParseErrorKind.TheVariants.{InvalidPctEncodedOctet}
 use Rattle.uri_parts.specs.declared.error.ParseErrorKind.TheVariants.{UnexpectedChar}
 use Rattle.uri_parts.specs.declared.error.ParseErrorKind.TheVariants.{InvalidIpv6Addr}
+use Rattle.uri_pct.specs.Delimiters.{left_bracket}
 
 abbrev pub index_of : ParseError → ℕ
 index_of e = e.index
@@ -18,7 +19,7 @@ kind_of e = e.kind
 abbrev pub IsFault : List ℕ → ParseErrorKind → ℕ → Type 0
 IsFault text InvalidPctEncodedOctet index = IsStrayPercent text index
 IsFault text UnexpectedChar index = ⊤
-IsFault text InvalidIpv6Addr index = (0 < index) × (slice_index text (index - 1) ≡ 91)
+IsFault text InvalidIpv6Addr index = (0 < index) × (slice_index text (index - 1) ≡ left_bracket)
 
 -- the index lies on a character boundary of the text, and the kind says what is wrong there
 pub record IsErrorIn (text : List ℕ) (e : ParseError) : Type 0 where

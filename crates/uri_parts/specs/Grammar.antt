@@ -9,6 +9,7 @@ use Rattle.uri_pct.specs.Sets.{iquery_set, ifragment_set, segment_nz_nc_set, ise
 use Rattle.uri_pct.specs.Tokens.{is_valid_for}
 use Rattle.uri_parts.specs.Authority.{is_authority_for}
 use Rattle.uri_parts.specs.Components.{Components, components, before_any}
+use Rattle.uri_pct.specs.Delimiters.{colon}
 
 -- what tells the kinds apart: the sets of their components, and whether a scheme is needed
 pub record Kind : Type 0 where
@@ -67,7 +68,7 @@ is_authority kind text = is_authority_for kind.userinfo kind.reg_name text
 
 -- sections 3.3 and 4.2: the first segment of the path holds `:`
 abbrev pub has_colon_first : List ℕ → Bool
-has_colon_first path = list_any (λ c. c == 58) (before_any (codes "/") path)
+has_colon_first path = list_any (λ c. c == colon) (before_any (codes "/") path)
 
 -- a component that is absent, or passes a test
 abbrev pub if_some : Option (List ℕ) → (List ℕ → Bool) → Bool

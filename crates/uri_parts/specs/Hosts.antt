@@ -7,6 +7,7 @@ use Rattle.std.specs.Net.Reader.{whole_value, read_ipv4, read_ipv6}
 use Rattle.uri_pct.specs.Sets.{TableSet, is_one_of, hexdig_set, ipv_future_set}
 use Rattle.uri_pct.specs.Tokens.{IsValidFor, is_valid_for}
 use Rattle.uri_parts.specs.Components.{starts, before_any, from_any}
+use Rattle.uri_pct.specs.Delimiters.{full_stop, left_bracket}
 
 -- the four kinds, an address with its numbers
 pub data HostKind : Type 0 where
@@ -56,7 +57,7 @@ ipv6_value text = whole_value (read_ipv6 text)
 -- `.` and one or more characters
 abbrev pub is_future_address : List ℕ → Bool
 is_future_address text =
-    starts 46 text && (nat_lt 0 (length (drop 1 text)) && is_valid_for ipv_future_set (drop 1 text))
+    starts full_stop text && (nat_lt 0 (length (drop 1 text)) && is_valid_for ipv_future_set (drop 1 text))
 
 unfoldable pub is_ipv_future : List ℕ → Bool
 is_ipv_future [] = false
@@ -81,13 +82,13 @@ name_kind (Some octets) = Ipv4 octets
 -- the kind of a text that is a host
 unfoldable pub host_kind : List ℕ → HostKind
 host_kind text =
-    if starts 91 text then literal_kind (ipv6_value (literal_of text))
+    if starts left_bracket text then literal_kind (ipv6_value (literal_of text))
     else name_kind (ipv4_value text)
 
 -- the text is a host
 unfoldable pub is_host : TableSet → List ℕ → Bool
 is_host names text =
-    if starts 91 text
+    if starts left_bracket text
     then bytes_eq (bracketed (literal_of text)) text
     && (is_some (ipv6_value (literal_of text)) || is_ipv_future (literal_of text))
     else is_some (ipv4_value text) || is_valid_for names text

@@ -8,6 +8,7 @@ use Rattle.uri_parts.specs.declared.error.ParseErrorKind.TheVariants.{Unexpected
 use Rattle.uri_parts.specs.declared.error.ParseErrorKind.TheVariants.{InvalidIpv6Addr}
 use Rattle.uri_parts.specs.Components.{starts, before_any, from_any}
 use Rattle.uri_parts.specs.Hosts.{ipv6_value, is_ipv_future}
+use Rattle.uri_pct.specs.Delimiters.{right_bracket}
 
 -- the text before the first `]`
 abbrev pub literal_before : List ℕ → List ℕ
@@ -15,7 +16,7 @@ literal_before rest = before_any (codes "]") rest
 
 -- an address and `]` come first
 unfoldable pub reads_literal : List ℕ → Bool
-reads_literal rest = starts 93 (from_any (codes "]") rest)
+reads_literal rest = starts right_bracket (from_any (codes "]") rest)
     && (is_some (ipv6_value (literal_before rest)) || is_ipv_future (literal_before rest))
 
 -- the length of both

@@ -9,10 +9,11 @@ use Rattle.uri_parts.specs.Components.{starts, has_authority}
 use Rattle.uri_parts.specs.Grammar.{Kind}
 use Rattle.uri_parts.specs.declared.positions.Positions.{Positions}
 use Rattle.uri_parts.specs.declared.positions.AuthorityPositions.{AuthorityPositions}
+use Rattle.uri_pct.specs.Delimiters.{colon, number_sign, percent_sign, question_mark}
 
 -- reading for a set with octets stopped at a `%` that begins none
 abbrev pub is_stray : TableSet → List ℕ → Bool
-is_stray set rest = set.pct_encoded && starts 37 rest
+is_stray set rest = set.pct_encoded && starts percent_sign rest
 
 -- what follows the longest front that the set allows is read by a test
 abbrev pub reads_after : TableSet → (List ℕ → Bool) → List ℕ → Bool
@@ -25,12 +26,12 @@ is_end (b ∷ rest) = false
 -- a fragment if there is one, and then the end
 unfoldable pub reads_fragment : Kind → List ℕ → Bool
 reads_fragment kind rest =
-    if starts 35 rest then reads_after kind.fragment is_end (drop 1 rest) else is_end rest
+    if starts number_sign rest then reads_after kind.fragment is_end (drop 1 rest) else is_end rest
 
 -- a query if there is one, and what follows it
 unfoldable pub reads_end : Kind → List ℕ → Bool
 reads_end kind rest =
-    if starts 63 rest then reads_after kind.query (reads_fragment kind) (drop 1 rest)
+    if starts question_mark rest then reads_after kind.query (reads_fragment kind) (drop 1 rest)
     else reads_fragment kind rest
 
 -- a path, and what follows it
@@ -45,7 +46,7 @@ reads_authority kind rest =
 -- a path that has no colon behind the characters of a first segment, and what follows it
 unfoldable pub reads_relative : TableSet → Kind → List ℕ → Bool
 reads_relative segment kind rest =
-    reads_after segment (λ r. not (starts 58 r) && reads_path kind r) rest
+    reads_after segment (λ r. not (starts colon r) && reads_path kind r) rest
 
 -- what follows a scheme
 unfoldable pub reads_hier : Kind → List ℕ → Bool
@@ -60,7 +61,7 @@ reads_schemeless segment kind read rest =
 
 unfoldable pub reads : TableSet → Kind → List ℕ → Bool
 reads segment kind text =
-    if starts 58 (after scheme_set text)
+    if starts colon (after scheme_set text)
     then is_ascii_alphabetic (slice_index text 0)
     && reads_hier kind (drop 1 (after scheme_set text))
     else not kind.needs_scheme
@@ -69,7 +70,7 @@ reads segment kind text =
 -- where the query ends that begins at a place
 unfoldable pub query_end_at : Kind → ℕ → List ℕ → Option ℕ
 query_end_at kind place rest =
-    if starts 63 rest then Some (place + 1 + front kind.query (drop 1 rest)) else None
+    if starts question_mark rest then Some (place + 1 + front kind.query (drop 1 rest)) else None
 
 -- the positions, where the path begins at `start` and the text is read up to `place` within it
 unfoldable pub path_positions : Kind → Option ℕ → Option AuthorityPositions → ℕ → ℕ → List ℕ
@@ -107,6 +108,6 @@ schemeless_positions segment kind read rest =
 unfoldable pub read_positions : TableSet → Kind → List ℕ → Positions
 read_positions segment kind text =
     let read = front scheme_set text in
-    if starts 58 (after scheme_set text)
+    if starts colon (after scheme_set text)
     then hier_positions kind (Some read) (read + 1) (drop 1 (after scheme_set text))
     else schemeless_positions segment kind read (after scheme_set text)

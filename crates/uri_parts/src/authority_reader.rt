@@ -26,7 +26,7 @@ use crate::reader::Reader;
 use uri_pct::table::DIGIT;
 
 /// Passes a port with its mark, if one is next.
-#[tactic(auto, using(uri_pct::proofs::Constants::digit_table, crate::proofs::AuthorityCuts::behind_mark), unfolding(crate::specs::AuthorityReading::port_length))]
+#[tactic(auto, using(uri_pct::proofs::TableSets::Constants::digit_table, crate::proofs::Authorities::AuthorityCuts::behind_mark), unfolding(crate::specs::AuthorityReading::port_length))]
 #[inline(always)]
 fn pass_port(reader: &mut Reader<'_>)
     ensures text { text_of reader.new ≡ text_of reader.old }
@@ -40,7 +40,7 @@ fn pass_port(reader: &mut Reader<'_>)
 
 /// Passes a registered name and the port behind it, if there is one. Answers where the name ends,
 /// if nothing else of the authority is left.
-#[tactic(auto, using(crate::proofs::AuthorityCuts::behind), unfolding(crate::specs::AuthorityReading::finds_name, crate::specs::AuthorityReading::name_length))]
+#[tactic(auto, using(crate::proofs::Authorities::AuthorityCuts::behind), unfolding(crate::specs::AuthorityReading::finds_name, crate::specs::AuthorityReading::name_length))]
 #[inline(always)]
 fn find_name(reader: &mut Reader<'_>, grammar: &Grammar) -> Option<usize>
     ensures finds { is_some result ≡ finds_name (kind_of grammar.now) (rest_of reader.old) }
@@ -109,7 +109,7 @@ fn name_fault(start: Reader<'_>, end: Reader<'_>, grammar: &Grammar) -> ParseErr
 }
 
 /// Passes an address in brackets, of which the `[` is next.
-#[tactic(auto, using(crate::proofs::LiteralFaults::literal_error))]
+#[tactic(auto, using(crate::proofs::HostForms::LiteralFaults::literal_error))]
 fn pass_literal(reader: &mut Reader<'_>) -> Result<(), ParseError>
     requires { starts 91 (rest_of reader.old) ≡ true }
     ensures accepts { is_ok result ≡ reads_literal (drop 1 (rest_of reader.old)) }
@@ -128,7 +128,7 @@ fn pass_literal(reader: &mut Reader<'_>) -> Result<(), ParseError>
 
 /// Passes a host and the port behind it, if there is one, which have to end the authority. Answers
 /// where the host ends.
-#[tactic(auto, using(crate::proofs::AuthorityCuts::behind), unfolding(crate::specs::AuthorityReading::finds_host, crate::specs::AuthorityReading::passes_host, crate::specs::AuthorityReading::host_length, crate::specs::AuthorityReading::host_end))]
+#[tactic(auto, using(crate::proofs::Authorities::AuthorityCuts::behind), unfolding(crate::specs::AuthorityReading::finds_host, crate::specs::AuthorityReading::passes_host, crate::specs::AuthorityReading::host_length, crate::specs::AuthorityReading::host_end))]
 #[inline(always)]
 fn find_host(reader: &mut Reader<'_>, grammar: &Grammar) -> Result<usize, ParseError>
     ensures accepts { is_ok result ≡ finds_host (kind_of grammar.now) (rest_of reader.old) }
@@ -154,7 +154,7 @@ fn find_host(reader: &mut Reader<'_>, grammar: &Grammar) -> Result<usize, ParseE
 }
 
 /// Passes userinfo, of which a name and a port were read, and its `@`.
-#[tactic(auto, using(crate::proofs::AuthorityCuts::behind), unfolding(crate::specs::AuthorityReading::more_user))]
+#[tactic(auto, using(crate::proofs::Authorities::AuthorityCuts::behind), unfolding(crate::specs::AuthorityReading::more_user))]
 #[inline(always)]
 fn pass_userinfo(reader: &mut Reader<'_>, grammar: &Grammar) -> Result<(), ParseError>
     ensures accepts { let rest = rest_of reader.old in
@@ -180,7 +180,7 @@ fn pass_userinfo(reader: &mut Reader<'_>, grammar: &Grammar) -> Result<(), Parse
 
 /// An authority that is more than a name and a port, of which these were read: where it lies, and
 /// its host.
-#[tactic(auto, using(crate::proofs::AuthorityCuts::behind), unfolding(crate::specs::AuthorityReading::finds_other, crate::specs::AuthorityReading::passes_user, crate::specs::AuthorityReading::user_length, crate::specs::AuthorityReading::host_place, crate::specs::AuthorityReading::other_authority))]
+#[tactic(auto, using(crate::proofs::Authorities::AuthorityCuts::behind), unfolding(crate::specs::AuthorityReading::finds_other, crate::specs::AuthorityReading::passes_user, crate::specs::AuthorityReading::user_length, crate::specs::AuthorityReading::host_place, crate::specs::AuthorityReading::other_authority))]
 #[inline(never)]
 fn find_other_authority(
     start: Reader<'_>,

@@ -16,6 +16,10 @@ use uri_pct::pct_enc::EStr;
 
 /// An authority (RFC 3986, section 3.2): userinfo, host and port, over the encoders of its userinfo
 /// and of registered names.
+///
+/// # Examples
+///
+/// `user@example.com:8042` has the userinfo `user`, the host `example.com` and the port `8042`.
 pub struct Authority<'a, U: Encoder = Userinfo, R: Encoder = RegName> {
     text: &'a str,
     host_start: usize,
@@ -61,9 +65,17 @@ impl<'a, U: Encoder, R: Encoder> Authority<'a, U, R> {
     }
 
     /// The empty authority: an empty host alone.
+    ///
+    /// # Examples
+    ///
+    /// It is the authority of `file:///etc/hosts`.
     pub const EMPTY: Authority<'static, U, R> = Self::new_empty();
 
     /// The same, of which a caller knows the text: a constant has no contract.
+    ///
+    /// # Examples
+    ///
+    /// Its text is the empty one, as that of the authority of `file:///etc/hosts`.
     pub const fn new_empty() -> Authority<'static, U, R>
         ensures text { authority_text result ≡ [] }
         ensures host { (authority_parts (authority_text result)).host ≡ [] }
@@ -77,6 +89,10 @@ impl<'a, U: Encoder, R: Encoder> Authority<'a, U, R> {
     }
 
     /// The text, without the `//` before it, for as long as it was borrowed.
+    ///
+    /// # Examples
+    ///
+    /// Of the authority of `http://user@a:80/b` it is `user@a:80`.
     pub fn as_str(self) -> &'a str
         ensures text { result.now ≡ authority_text self.entry }
         ensures valid { is_authority_for U.set R.set result.now ≡ true }
@@ -85,6 +101,10 @@ impl<'a, U: Encoder, R: Encoder> Authority<'a, U, R> {
     }
 
     /// The userinfo without its `@`, if there is one (RFC 3986, section 3.2.1).
+    ///
+    /// # Examples
+    ///
+    /// Of `user@a` it is `user`, of `@a` the empty text, and of `a` there is none.
     pub fn userinfo(self) -> Option<EStr<'a, U>>
         ensures { option_map text_of result
             ≡ (authority_parts (authority_text self.entry)).userinfo }
@@ -92,10 +112,14 @@ impl<'a, U: Encoder, R: Encoder> Authority<'a, U, R> {
         if self.host_start == 0 {
             return None;
         }
-        Some(EStr::new_unchecked(&self.text[..self.host_start - 1]))
+        Some(EStr::new_or_panic(&self.text[..self.host_start - 1]))
     }
 
     /// The host, with its brackets where it has some; it may be empty (RFC 3986, section 3.2.2).
+    ///
+    /// # Examples
+    ///
+    /// Of `user@a:80` it is `a`, of `[::1]:80` it is `[::1]`, and of `:80` the empty text.
     pub fn host(self) -> &'a str
         ensures { result.now ≡ (authority_parts (authority_text self.entry)).host }
     {
@@ -104,6 +128,10 @@ impl<'a, U: Encoder, R: Encoder> Authority<'a, U, R> {
     }
 
     /// The port without its `:`, if there is one, which may be empty (RFC 3986, section 3.2.3).
+    ///
+    /// # Examples
+    ///
+    /// Of `a:80` it is `80`, of `a:` the empty text, and of `a` there is none.
     pub fn port(self) -> Option<EStr<'a, Port>>
         ensures { option_map text_of result ≡ (authority_parts (authority_text self.entry)).port }
     {
@@ -111,11 +139,15 @@ impl<'a, U: Encoder, R: Encoder> Authority<'a, U, R> {
         if self.host_end == text.len() {
             return None;
         }
-        Some(EStr::new_unchecked(&text[self.host_end + 1..]))
+        Some(EStr::new_or_panic(&text[self.host_end + 1..]))
     }
 
     /// Whether there is a userinfo.
-    #[tactic(auto, using(crate::proofs::AuthorityPlaces::some_user))]
+    ///
+    /// # Examples
+    ///
+    /// `@a` has one, which is empty, and `a` has none.
+    #[tactic(auto, using(crate::proofs::Authorities::AuthorityPlaces::some_user))]
     pub fn has_userinfo(self) -> bool
         ensures { result ≡ is_some (authority_parts (authority_text self.entry)).userinfo }
     {
@@ -123,6 +155,10 @@ impl<'a, U: Encoder, R: Encoder> Authority<'a, U, R> {
     }
 
     /// Whether there is a port.
+    ///
+    /// # Examples
+    ///
+    /// `a:` has one, which is empty, and `a` has none.
     pub fn has_port(self) -> bool
         ensures { result ≡ is_some (authority_parts (authority_text self.entry)).port }
     {
@@ -131,6 +167,11 @@ impl<'a, U: Encoder, R: Encoder> Authority<'a, U, R> {
     }
 
     /// The host by its kind: an address with its numbers, or a registered name.
+    ///
+    /// # Examples
+    ///
+    /// Of `127.0.0.1` it is `Ipv4`, of `[::1]` `Ipv6`, of `[v1.a]` `IpvFuture`, and of `127.1`, `a`
+    /// and the empty host `RegName`.
     pub fn host_parsed(self) -> Host<'a, R>
         ensures kind { host_kind_of result
             ≡ host_kind (authority_parts (authority_text self.entry)).host }
@@ -147,7 +188,7 @@ impl<'a, U: Encoder, R: Encoder> Authority<'a, U, R> {
             }
             None => match Ipv4Addr::read(host) {
                 Some(address) => Host::Ipv4(address),
-                None => Host::RegName(EStr::new_unchecked(host)),
+                None => Host::RegName(EStr::new_or_panic(host)),
             },
         }
     }
@@ -181,6 +222,10 @@ impl<'a, U: Encoder, R: Encoder> fmt::Debug for Authority<'a, U, R> {
 }
 
 /// A host (RFC 3986, section 3.2.2), whose registered name is an `N`.
+///
+/// # Examples
+///
+/// The host of `//127.0.0.1` is `Ipv4(Ipv4Addr::LOCALHOST)`.
 #[derive(Clone, Copy, Debug)]
 pub enum HostOf<N> {
     /// An IPv4 address.
@@ -194,4 +239,8 @@ pub enum HostOf<N> {
 }
 
 /// A host of an authority over the encoder of its registered names.
+///
+/// # Examples
+///
+/// `Host<'_>` is the host of a URI, and `IHost<'_>` that of an IRI.
 pub type Host<'a, R = RegName> = HostOf<EStr<'a, R>>;

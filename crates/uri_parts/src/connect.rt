@@ -19,6 +19,11 @@ use uri_pct::encoder::Encoder;
 use uri_pct::pct_enc::{CowStr, DecodeError, EStr};
 
 /// Where to connect to: an address, or a name that is to be looked up, and the port there.
+///
+/// # Examples
+///
+/// Of the authority `[::1]:80` it is an address, and of `example.com:80` a name; the port of both
+/// is 80.
 #[derive(Debug, Drop)]
 pub enum SocketTarget<'a> {
     /// An IPv4 address.
@@ -30,6 +35,10 @@ pub enum SocketTarget<'a> {
 }
 
 /// Why an authority does not say where to connect to.
+///
+/// # Examples
+///
+/// The authority `a:65536` is refused as `InvalidPort`.
 #[derive(Clone, Copy, Debug, PartialEq, Eq, Error)]
 pub enum SocketError {
     /// The port is over 65535.
@@ -56,6 +65,17 @@ impl<'a, U: Encoder, R: Encoder> Authority<'a, U, R> {
     /// `UnsupportedMechanism` for an address of a later version, `NameNotUtf8` for a name that does
     /// not decode to UTF-8 (RFC 3986, section 3.2.2), or `OutOfMemory`. Where no `%` stands in the
     /// host, no memory is taken and the name is `CowStr::Borrowed`.
+    ///
+    /// # Errors
+    ///
+    /// `InvalidPort` exactly if the port is over 65535. Else `UnsupportedMechanism` for an address
+    /// of a later version, `NameNotUtf8` for a name that does not decode to UTF-8 (RFC 3986,
+    /// section 3.2.2), and `OutOfMemory` if memory is refused.
+    ///
+    /// # Examples
+    ///
+    /// With the default port 443, `example.com` is the name `example.com` and the port 443, and
+    /// `127.0.0.1:80` the address and the port 80.
     pub fn socket_target(
         self,
         alloc: Global,

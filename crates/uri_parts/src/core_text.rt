@@ -120,7 +120,7 @@ impl<K: Kind, T: AsStr> Core<K, T> {
     }
 }
 
-#[tactic(auto, using(crate::proofs::Parts::parts_valid))]
+#[tactic(auto, using(crate::proofs::TextKinds::ComponentRules::parts_valid))]
 impl<'a, K: Kind> Core<K, &'a str> {
     ghost use Rattle.uri_pct.specs.EStrs.{text_of};
     ghost use Rattle.uri_parts.specs.Schemes.{scheme_text};
@@ -191,7 +191,7 @@ impl<'a, K: Kind> Core<K, &'a str> {
         ensures { option_map scheme_text result ≡ (components (core_text self.entry)).scheme }
     {
         match self.positions.scheme(self.text) {
-            Some(scheme) => Some(Scheme::new_unchecked(scheme)),
+            Some(scheme) => Some(Scheme::new_or_panic(scheme)),
             None => None,
         }
     }
@@ -224,7 +224,7 @@ impl<'a, K: Kind> Core<K, &'a str> {
     pub fn path(self) -> EStr<'a, K::PathE>
         ensures { text_of result ≡ (components (core_text self.entry)).path }
     {
-        EStr::new_unchecked(self.positions.path(self.text))
+        EStr::new_or_panic(self.positions.path(self.text))
     }
 
     /// The query, if there is one.
@@ -232,7 +232,7 @@ impl<'a, K: Kind> Core<K, &'a str> {
         ensures { option_map text_of result ≡ (components (core_text self.entry)).query }
     {
         match self.positions.query(self.text) {
-            Some(query) => Some(EStr::new_unchecked(query)),
+            Some(query) => Some(EStr::new_or_panic(query)),
             None => None,
         }
     }
@@ -242,7 +242,7 @@ impl<'a, K: Kind> Core<K, &'a str> {
         ensures { option_map text_of result ≡ (components (core_text self.entry)).fragment }
     {
         match self.positions.fragment(self.text) {
-            Some(fragment) => Some(EStr::new_unchecked(fragment)),
+            Some(fragment) => Some(EStr::new_or_panic(fragment)),
             None => None,
         }
     }

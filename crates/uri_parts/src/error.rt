@@ -4,6 +4,11 @@ ghost use Rattle.std.specs.Prelude.{◌≡◌};
 use thiserror::Error;
 
 /// What is wrong with a text that is no URI or IRI.
+///
+/// # Examples
+///
+/// `http://a b` is refused as `UnexpectedChar`, `%2` as `InvalidPctEncodedOctet`, and `//[::1::]`
+/// as `InvalidIpv6Addr`.
 #[derive(Clone, Copy, Debug, PartialEq, Eq)]
 pub enum ParseErrorKind {
     /// A `%` that two hexadecimal digits do not follow.
@@ -22,6 +27,10 @@ pub enum ParseErrorKind {
 
 /// Why a text is no URI or IRI, and where. `docs/REFUSALS.md` says which of the three is told of a
 /// text, and at which index.
+///
+/// # Examples
+///
+/// `http://a b` is refused at index 8, and prints `unexpected character at index 8`.
 #[derive(Clone, Copy, Debug, PartialEq, Eq, Error)]
 #[error("{} at index {index}", kind_text(.kind))]
 pub struct ParseError {
@@ -51,6 +60,10 @@ impl ParseError {
 
     /// Where the text was refused: a byte offset, at most the length of the text and on a
     /// character boundary.
+    ///
+    /// # Examples
+    ///
+    /// For `http://a b` it is 8, where the space stands.
     pub fn index(&self) -> usize
         ensures { result ≡ index_of self.now }
     {
@@ -58,6 +71,10 @@ impl ParseError {
     }
 
     /// What is wrong there.
+    ///
+    /// # Examples
+    ///
+    /// For `http://a b` it is `UnexpectedChar`.
     pub fn kind(&self) -> ParseErrorKind
         ensures { result ≡ kind_of self.now }
     {

@@ -27,7 +27,7 @@ pub struct Grammar {
 
 /// The tables of URIs, where a scheme is needed (RFC 3986, section 3), and else of URI references
 /// (section 4.1).
-#[tactic(auto, using(uri_pct::proofs::Constants::segment_nz_nc_table))]
+#[tactic(auto, using(uri_pct::proofs::TableSets::Constants::segment_nz_nc_table))]
 #[doc(hidden)]
 pub fn uri_grammar(needs_scheme: bool) -> Grammar
     ensures kind { kind_of result ≡ record uri_ref { needs_scheme = needs_scheme } }
@@ -46,7 +46,7 @@ pub fn uri_grammar(needs_scheme: bool) -> Grammar
 
 /// The tables of IRIs, where a scheme is needed, and else of IRI references (RFC 3987, section
 /// 2.2).
-#[tactic(auto, using(uri_pct::proofs::Constants::isegment_nz_nc_table))]
+#[tactic(auto, using(uri_pct::proofs::TableSets::Constants::isegment_nz_nc_table))]
 #[doc(hidden)]
 pub fn iri_grammar(needs_scheme: bool) -> Grammar
     ensures kind { kind_of result ≡ record iri_ref { needs_scheme = needs_scheme } }

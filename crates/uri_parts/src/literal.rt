@@ -15,7 +15,7 @@ use crate::net::Ipv6Addr;
 use uri_pct::table::{HEXDIG, IPV_FUTURE, Table};
 
 /// Whether this ASCII character stands at `index`.
-#[tactic(auto, using(crate::proofs::Next::starts_at))]
+#[tactic(auto, using(crate::proofs::Parsing::NextBytes::starts_at))]
 fn sees(text: &str, index: usize, byte: u8) -> bool
     requires { byte < 128 }
     ensures value { result ≡ starts byte (drop index text.now) }
@@ -40,7 +40,7 @@ fn is_lettered(text: &str) -> bool
 }
 
 /// Whether the version and the address are spelt as those of an IPvFuture address.
-#[tactic(auto, using(uri_pct::proofs::Constants::constant_tables))]
+#[tactic(auto, using(uri_pct::proofs::TableSets::Constants::constant_tables))]
 fn is_versioned(version: &str, address: &str) -> bool
     ensures { result
         ≡ ((nat_lt 0 (length version.now) && is_valid_for hexdig_set version.now)

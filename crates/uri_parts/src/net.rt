@@ -9,6 +9,10 @@ use std::{fmt, net};
 ///
 /// Addresses are compared by their octets, first to last. One is printed as four decimal numbers
 /// joined by `.`.
+///
+/// # Examples
+///
+/// `Ipv4Addr::new(192, 0, 2, 255)` is printed as `192.0.2.255`.
 #[derive(Clone, Copy, PartialEq, Eq, PartialOrd, Ord, Hash)]
 pub struct Ipv4Addr(net::Ipv4Addr);
 
@@ -23,6 +27,10 @@ impl Ipv4Addr {
     pub const UNSPECIFIED: Self = Ipv4Addr(net::Ipv4Addr::UNSPECIFIED);
 
     /// The address with these four octets, which prints as `a.b.c.d`.
+    ///
+    /// # Examples
+    ///
+    /// `Ipv4Addr::new(127, 0, 0, 1)` is `Ipv4Addr::LOCALHOST`.
     pub const fn new(a: u8, b: u8, c: u8, d: u8) -> Self
         ensures { ipv4_octets result ≡ a ∷ b ∷ c ∷ d ∷ [] }
     {
@@ -30,6 +38,10 @@ impl Ipv4Addr {
     }
 
     /// The four octets, first to last.
+    ///
+    /// # Examples
+    ///
+    /// Of `192.0.2.255` these are 192, 0, 2 and 255.
     pub const fn octets(&self) -> [u8; 4]
         ensures { result ≡ ipv4_octets self.now }
     {
@@ -37,6 +49,10 @@ impl Ipv4Addr {
     }
 
     /// The same address, as std has it.
+    ///
+    /// # Examples
+    ///
+    /// Of `Ipv4Addr::LOCALHOST` it is std's `Ipv4Addr::new(127, 0, 0, 1)`.
     pub const fn to_std(self) -> net::Ipv4Addr
         ensures { std_addresses.ipv4_octets result ≡ ipv4_octets self }
     {
@@ -45,7 +61,7 @@ impl Ipv4Addr {
 
     /// The address that the whole text writes, or `None` if it writes none.
     #[doc(hidden)]
-    #[tactic(auto, using(crate::proofs::Parsed::ipv4_parsed))]
+    #[tactic(auto, using(crate::proofs::HostForms::ParsedAddresses::ipv4_parsed))]
     pub fn read(text: &str) -> Option<Self>
         ensures { option_map ipv4_octets result ≡ ipv4_value text.now }
     {
@@ -95,6 +111,10 @@ impl From<net::Ipv4Addr> for Ipv4Addr {
 /// lower-case hexadecimal digits with no leading zeros, with `::` in place of the first longest
 /// run of two or more zero segments, and with the last two segments as an IPv4 address exactly
 /// where the address is `::ffff:a.b.c.d`.
+///
+/// # Examples
+///
+/// `Ipv6Addr::new(0x2001, 0xdb8, 0, 0, 0, 0, 0, 0xabc)` is printed as `2001:db8::abc`.
 #[derive(Clone, Copy, PartialEq, Eq, PartialOrd, Ord, Hash)]
 pub struct Ipv6Addr(net::Ipv6Addr);
 
@@ -109,6 +129,10 @@ impl Ipv6Addr {
     pub const UNSPECIFIED: Self = Ipv6Addr(net::Ipv6Addr::UNSPECIFIED);
 
     /// The address with these eight segments.
+    ///
+    /// # Examples
+    ///
+    /// `Ipv6Addr::new(0, 0, 0, 0, 0, 0, 0, 1)` is `Ipv6Addr::LOCALHOST`.
     pub const fn new(a: u16, b: u16, c: u16, d: u16, e: u16, f: u16, g: u16, h: u16) -> Self
         ensures { ipv6_segments result ≡ a ∷ b ∷ c ∷ d ∷ e ∷ f ∷ g ∷ h ∷ [] }
     {
@@ -116,6 +140,10 @@ impl Ipv6Addr {
     }
 
     /// The eight segments, first to last.
+    ///
+    /// # Examples
+    ///
+    /// Of `::1` these are seven times 0, and 1.
     pub const fn segments(&self) -> [u16; 8]
         ensures { result ≡ ipv6_segments self.now }
     {
@@ -123,6 +151,10 @@ impl Ipv6Addr {
     }
 
     /// The same address, as std has it.
+    ///
+    /// # Examples
+    ///
+    /// Of `Ipv6Addr::LOCALHOST` it is std's `Ipv6Addr::new(0, 0, 0, 0, 0, 0, 0, 1)`.
     pub const fn to_std(self) -> net::Ipv6Addr
         ensures { std_addresses.ipv6_segments result ≡ ipv6_segments self }
     {
@@ -131,7 +163,7 @@ impl Ipv6Addr {
 
     /// The address that the whole text writes, or `None` if it writes none.
     #[doc(hidden)]
-    #[tactic(auto, using(crate::proofs::Parsed::ipv6_parsed))]
+    #[tactic(auto, using(crate::proofs::HostForms::ParsedAddresses::ipv6_parsed))]
     pub fn read(text: &str) -> Option<Self>
         ensures { option_map ipv6_segments result ≡ ipv6_value text.now }
     {
@@ -177,6 +209,10 @@ impl From<net::Ipv6Addr> for Ipv6Addr {
 }
 
 /// An IP address of either version. Each IPv4 address is less than each IPv6 address.
+///
+/// # Examples
+///
+/// `IpAddr::V4(Ipv4Addr::LOCALHOST)` is less than `IpAddr::V6(Ipv6Addr::LOCALHOST)`.
 #[derive(Clone, Copy, PartialEq, Eq, PartialOrd, Ord, Hash)]
 pub enum IpAddr {
     /// An IPv4 address.
@@ -189,6 +225,10 @@ impl IpAddr {
     ghost use Rattle.uri_parts.specs.Addresses.{IsSameAddress};
 
     /// The same address, of the same version, as std has it.
+    ///
+    /// # Examples
+    ///
+    /// Of `IpAddr::V4(Ipv4Addr::LOCALHOST)` it is std's `IpAddr::V4`, of 127.0.0.1.
     pub const fn to_std(self) -> net::IpAddr
         ensures { IsSameAddress self result }
     {

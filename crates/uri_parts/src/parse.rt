@@ -183,7 +183,7 @@ fn pass_schemeless(reader: &mut Reader<'_>, grammar: &Grammar) -> Result<BeforeP
 }
 
 /// What stands before a path, from the beginning of the text on.
-#[tactic(auto, using(uri_pct::proofs::Constants::scheme_table), unfolding(crate::specs::Reading::reads, crate::specs::Reading::read_positions))]
+#[tactic(auto, using(uri_pct::proofs::TableSets::Constants::scheme_table), unfolding(crate::specs::Reading::reads, crate::specs::Reading::read_positions))]
 #[inline(always)]
 fn pass_front(reader: &mut Reader<'_>, grammar: &Grammar) -> Result<BeforePath, ParseError>
     requires { place_of reader.old ≡ 0 }

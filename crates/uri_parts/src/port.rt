@@ -18,6 +18,14 @@ impl<'a, U: Encoder, R: Encoder> Authority<'a, U, R> {
     ///
     /// The error comes exactly if the number is over 65535, however long it is; its kind is
     /// `PosOverflow`.
+    ///
+    /// # Errors
+    ///
+    /// Exactly if the number is over 65535, however long it is; its kind is `PosOverflow`.
+    ///
+    /// # Examples
+    ///
+    /// Of `a:0080` it is 80, of `a:` and of `a` there is none, and `a:65536` is refused.
     pub fn port_to_u16(self) -> Result<Option<u16>, ParseIntError>
         ensures number { let p = authority_parts (authority_text self.entry) in
             OkIff result (FitsPort (port_number p.port)) (port_number p.port) }

@@ -88,7 +88,7 @@ impl<'a> Reader<'a> {
     }
 
     /// Whether one of `/?#` is next, or nothing is left: what may stand behind an authority.
-    #[tactic(auto, using(crate::proofs::Next::ends_at, crate::proofs::Next::goes_on_at))]
+    #[tactic(auto, using(crate::proofs::Parsing::NextBytes::ends_at, crate::proofs::Parsing::NextBytes::goes_on_at))]
     #[inline]
     pub fn ends_authority(&self) -> bool
         ensures { result ≡ begins_any (codes "/?#") (rest_of self.now) }
@@ -101,7 +101,7 @@ impl<'a> Reader<'a> {
 
     /// Passes the longest front of the rest that the table allows; a `%` behind it that begins no
     /// octet is refused, where the table allows octets.
-    #[tactic(auto, using(crate::proofs::Next::stray_fault, crate::proofs::Next::starts_at))]
+    #[tactic(auto, using(crate::proofs::Parsing::NextBytes::stray_fault, crate::proofs::Parsing::NextBytes::starts_at))]
     #[inline(always)]
     pub fn pass(&mut self, table: &Table) -> Result<(), ParseError>
         ensures text { text_of self.new ≡ text_of self.old }
@@ -123,7 +123,7 @@ impl<'a> Reader<'a> {
     }
 
     /// Nothing is left.
-    #[tactic(auto, using(crate::proofs::Next::is_end_at))]
+    #[tactic(auto, using(crate::proofs::Parsing::NextBytes::is_end_at))]
     #[inline]
     pub fn is_at_end(&self) -> bool
         ensures { result ≡ is_end (rest_of self.now) }
@@ -132,7 +132,7 @@ impl<'a> Reader<'a> {
     }
 
     /// Whether this byte is next.
-    #[tactic(auto, using(crate::proofs::Next::starts_at))]
+    #[tactic(auto, using(crate::proofs::Parsing::NextBytes::starts_at))]
     #[inline]
     pub fn sees(&self, byte: u8) -> bool
         ensures { result ≡ starts byte (rest_of self.now) }
@@ -142,7 +142,7 @@ impl<'a> Reader<'a> {
     }
 
     /// Passes this ASCII character, if it is next.
-    #[tactic(auto, using(crate::proofs::Next::starts_at))]
+    #[tactic(auto, using(crate::proofs::Parsing::NextBytes::starts_at))]
     #[inline]
     pub fn skip(&mut self, byte: u8) -> bool
         requires { byte < 128 }

@@ -12,6 +12,10 @@ use uri_pct::table::SCHEME;
 ///
 /// Schemes are equal, and hash alike, where their texts are the same but for the case of ASCII
 /// letters. One is printed as it stands.
+///
+/// # Examples
+///
+/// The schemes of `http://a` and of `HTTP://a` are equal; the second is printed as `HTTP`.
 #[derive(Clone, Copy)]
 pub struct Scheme<'a> {
     text: &'a str,
@@ -23,7 +27,11 @@ impl<'a> Scheme<'a> {
 
     /// The text as a scheme, or `None` exactly if it is none: a letter, and then letters, digits,
     /// `+`, `-` and `.`.
-    #[tactic(auto, using(uri_pct::proofs::Constants::scheme_table))]
+    ///
+    /// # Examples
+    ///
+    /// `Scheme::new("foo+bar")` is a scheme, and `Scheme::new("1a")` is `None`.
+    #[tactic(auto, using(uri_pct::proofs::TableSets::Constants::scheme_table))]
     pub fn new(text: &'a str) -> Option<Self>
         ensures valid { IsSome result ↔ (is_scheme text.now ≡ true) }
         ensures same { IfSome result (λ s. scheme_text s ≡ text.now) }
@@ -32,22 +40,18 @@ impl<'a> Scheme<'a> {
             return None;
         };
         if first.is_ascii_alphabetic() && SCHEME.allows_text(text) {
-            Some(Scheme::new_unchecked(text))
+            Some(Scheme::new_or_panic(text))
         } else {
             None
         }
     }
 
     /// The text as a scheme, which it is: `new` tests it.
+    ///
+    /// # Examples
+    ///
+    /// `Scheme::new_or_panic("http")` is the scheme of `http://a`.
     pub fn new_or_panic(text: &'a str) -> Self
-        requires { is_scheme text.now ≡ true }
-        ensures { scheme_text result ≡ text.now }
-    {
-        Scheme::new_unchecked(text)
-    }
-
-    #[doc(hidden)]
-    pub fn new_unchecked(text: &'a str) -> Self
         requires { is_scheme text.now ≡ true }
         ensures { scheme_text result ≡ text.now }
     {
@@ -55,6 +59,10 @@ impl<'a> Scheme<'a> {
     }
 
     /// The text as it stands, for as long as it was borrowed.
+    ///
+    /// # Examples
+    ///
+    /// Of the scheme of `HTTP://a` it is `HTTP`.
     pub fn as_str(self) -> &'a str
         ensures text { result.now ≡ scheme_text self.entry }
         ensures valid { is_scheme result.now ≡ true }
@@ -64,6 +72,10 @@ impl<'a> Scheme<'a> {
 
     /// The default port of the scheme (RFC 3986, section 3.2.3), if it is one of the 44 that have
     /// one here. ASCII case makes no difference.
+    ///
+    /// # Examples
+    ///
+    /// Of `http` it is 80, of `HTTPS` 443, and of `foo` there is none.
     pub fn default_port(self) -> Option<u16>
         ensures { result ≡ default_port (lowered_scheme self.entry) }
     {

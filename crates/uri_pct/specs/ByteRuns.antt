@@ -1,6 +1,7 @@
 -- Runs of bytes that pass a test, and of such bytes and octets.
 use Rattle.std.specs.Prelude.{◌≡◌, ◌≤◌, ◌<◌, ℕ, Bool, true, false, List, ◌+◌, length, slice_index}
 use Rattle.uri_pct.specs.Fronts.{has_digits}
+use Rattle.uri_pct.specs.Delimiters.{percent_sign}
 
 -- from start to end is the longest run of bytes that pass the test
 pub record IsRun (test : ℕ → Bool) (bytes : List ℕ) (start end : ℕ) : Type 0 where
@@ -13,6 +14,6 @@ pub record IsRun (test : ℕ → Bool) (bytes : List ℕ) (start end : ℕ) : Ty
 pub record AreSpelt (test : ℕ → Bool) (bytes : List ℕ) (start n : ℕ) : Type 0 where
   pub octet : ℕ → Bool
   pub pass : (k : ℕ) → k < n → octet k ≡ false → ((j : ℕ) → j < k → k ≤ j + 2 → octet j ≡ false) → test (slice_index bytes (start + k)) ≡ true
-  pub percent : (k : ℕ) → octet k ≡ true → slice_index bytes (start + k) ≡ 37
+  pub percent : (k : ℕ) → octet k ≡ true → slice_index bytes (start + k) ≡ percent_sign
   pub digits : (k : ℕ) → octet k ≡ true → has_digits bytes (start + k) ≡ true
   pub whole : (k : ℕ) → k < n → octet k ≡ true → k + 3 ≤ n

@@ -3,6 +3,7 @@ use Rattle.std.specs.Prelude.{ℕ, true, not, ◌==◌, List, [], ◌∷◌, ◌
 use Rattle.std.specs.Char.{encode_utf8}
 use Rattle.uri_pct.specs.Sets.{TableSet}
 use Rattle.uri_pct.specs.Tokens.{Token, Char, Octet, tokens}
+use Rattle.uri_pct.specs.Delimiters.{percent_sign}
 
 -- text that stands for itself, or the value of an octet
 pub data Chunk : Type 0 where
@@ -31,4 +32,4 @@ chunk_bytes (Byte value) = value ∷ []
 
 -- the largest set of a table: what some table allows, this one allows
 abbrev pub widest_set : TableSet
-widest_set = record { ascii = λ c. not (c == 37); pct_encoded = true; ucschar = true; iprivate = true }
+widest_set = record { ascii = λ c. not (c == percent_sign); pct_encoded = true; ucschar = true; iprivate = true }

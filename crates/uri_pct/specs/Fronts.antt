@@ -3,6 +3,7 @@ use Rattle.std.specs.Prelude.{◌≡◌, ◌<◌, length, false, ℕ, zero, suc,
 use Rattle.std.specs.Char.{is_ascii_hexdigit}
 use Rattle.std.specs.Str.{chars, continuation_len}
 use Rattle.uri_pct.specs.Sets.{TableSet, allows_past_ascii}
+use Rattle.uri_pct.specs.Delimiters.{percent_sign}
 
 -- two hexadecimal digits come first
 unfoldable pub begins_hex : List ℕ → Bool
@@ -20,7 +21,7 @@ allows_first set b rest = if nat_lt b 128 then set.ascii b else allows_past_asci
 unfoldable pub front_from : TableSet → ℕ → List ℕ → ℕ
 front_from set skip [] = 0
 front_from set zero (b ∷ rest) =
-    if set.pct_encoded && b == 37
+    if set.pct_encoded && b == percent_sign
     then (if begins_hex rest then front_from set 2 rest + 1 else 0)
     else (if allows_first set b rest then front_from set (continuation_len b) rest + 1 else 0)
 front_from set (suc k) (b ∷ rest) = front_from set k rest + 1
@@ -40,9 +41,9 @@ has_digits text i = is_ascii_hexdigit (slice_index text (i + 1)) && is_ascii_hex
 -- a `%` that two hexadecimal digits do not follow stands there
 pub record IsStrayPercent (text : List ℕ) (i : ℕ) : Type 0 where
   pub inside : i < length text
-  pub percent : slice_index text i ≡ 37
+  pub percent : slice_index text i ≡ percent_sign
   pub stray : has_digits text i ≡ false
 
 -- the set allows octets, or characters past ASCII, and the byte begins one
 unfoldable pub may_go_on : TableSet → ℕ → Bool
-may_go_on set b = if b == 37 then set.pct_encoded else (not (nat_lt b 128) && (set.ucschar || set.iprivate))
+may_go_on set b = if b == percent_sign then set.pct_encoded else (not (nat_lt b 128) && (set.ucschar || set.iprivate))

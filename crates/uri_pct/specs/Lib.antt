@@ -1,3 +1,4 @@
+pub mod Delimiters
 pub mod Sets
 pub mod Tokens
 pub mod Fronts

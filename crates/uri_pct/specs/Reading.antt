@@ -7,6 +7,7 @@ use Rattle.std.specs.Str.{all_scalars}
 use Rattle.uri_pct.specs.Sets.{TableSet, is_unreserved, allows_past_ascii}
 use Rattle.uri_pct.specs.Tokens.{Token, Char, Octet, tokens}
 use Rattle.uri_pct.specs.Pieces.{Piece, WellFormed, IllFormed, char_of, utf8_pieces}
+use Rattle.uri_pct.specs.Delimiters.{percent_sign}
 
 -- a character that stands for its octets: one that is unreserved, and in an IRI one of `ucschar`, in its query also one
 -- of `iprivate`
@@ -74,5 +75,5 @@ lower_token (Octet value) = Octet value
 
 -- the token is read back from what is printed of it: a character other than `%`, or a byte
 abbrev pub is_printable : Token → Bool
-is_printable (Char c) = all_scalars (c ∷ []) && not (c == 37)
+is_printable (Char c) = all_scalars (c ∷ []) && not (c == percent_sign)
 is_printable (Octet value) = nat_lt value 256

@@ -3,6 +3,7 @@ use Rattle.std.specs.Prelude.{◌≡◌, ℕ, Bool, true, false, not, ◌&&◌, 
 use Rattle.std.specs.Int.{is_in_range}
 use Rattle.std.specs.List.{list_any}
 use Rattle.std.specs.Char.{is_ascii_alphabetic, is_ascii_digit, is_ascii_hexdigit}
+use Rattle.uri_pct.specs.Delimiters.{at_sign, colon, percent_sign, slash}
 
 -- one of the characters of an ASCII text
 abbrev pub is_one_of : List ℕ → ℕ → Bool
@@ -32,17 +33,17 @@ is_reg_name_char c = is_unreserved c || is_sub_delim c
 
 -- RFC 3986, section 3.2.1; those of an IPvFuture address too, section 3.2.2
 abbrev pub is_userinfo_char : ℕ → Bool
-is_userinfo_char c = is_reg_name_char c || c == 58
+is_userinfo_char c = is_reg_name_char c || c == colon
 
 -- RFC 3986, section 3.3
 abbrev pub is_pchar : ℕ → Bool
 is_pchar c = is_reg_name_char c || is_one_of (codes ":@") c
 
 abbrev pub is_segment_nz_nc_char : ℕ → Bool
-is_segment_nz_nc_char c = is_reg_name_char c || c == 64
+is_segment_nz_nc_char c = is_reg_name_char c || c == at_sign
 
 abbrev pub is_path_char : ℕ → Bool
-is_path_char c = is_pchar c || c == 47
+is_path_char c = is_pchar c || c == slash
 
 -- RFC 3986, sections 3.4 and 3.5: the characters of a query and of a fragment
 abbrev pub is_query_char : ℕ → Bool
@@ -78,7 +79,7 @@ allows set c = if nat_lt c 128 then set.ascii c else allows_past_ascii set c
 
 -- `%` stands for no character of the set
 abbrev pub LacksPercent : TableSet → Type 0
-LacksPercent set = set.ascii 37 ≡ false
+LacksPercent set = set.ascii percent_sign ≡ false
 
 -- characters alone; characters and percent-encoded octets
 abbrev pub plain : (ℕ → Bool) → TableSet

@@ -6,6 +6,10 @@ use std::fmt;
 use thiserror::Error;
 
 /// A text that is borrowed or owned.
+///
+/// # Examples
+///
+/// What `a%20b` decodes to is `Owned`, and what `ab` decodes to `Borrowed`.
 #[derive(Debug, Drop)]
 pub enum CowStr<'a> {
     /// A text that stands elsewhere.
@@ -15,6 +19,10 @@ pub enum CowStr<'a> {
 }
 
 /// Items that are borrowed or owned.
+///
+/// # Examples
+///
+/// The bytes that `%E9` decodes to are `Owned`, and those of `ab` `Borrowed`.
 #[derive(Debug, Drop)]
 pub enum CowSlice<'a, T> {
     /// Items that stand elsewhere.
@@ -27,6 +35,10 @@ impl<'a> CowStr<'a> {
     ghost use Rattle.uri_pct.specs.Cows.{cow_text, IsBorrowedText};
 
     /// The text, for as long as the value is borrowed.
+    ///
+    /// # Examples
+    ///
+    /// Of what `a%20b` decodes to it is `a b`.
     pub fn as_str(&self) -> &str
         ensures { result.now ≡ cow_text self.now }
     {
@@ -41,6 +53,11 @@ impl<'a> CowStr<'a> {
     /// # Errors
     ///
     /// Only if memory is refused for a copy. The borrowed text is where it was.
+    ///
+    /// # Examples
+    ///
+    /// Of what `ab` decodes to, which is borrowed, it is a copy of `ab`; of what `a%20b` decodes to
+    /// it is that text itself.
     pub fn into_owned(self, alloc: Global) -> Result<String, AllocError>
         ensures text { IfOk result (λ text. string_bytes text ≡ cow_text self.entry) }
         ensures refused { OnErr result (IsBorrowedText self.entry) }
@@ -71,6 +88,10 @@ impl<'a, T> CowSlice<'a, T> {
     ghost use Rattle.uri_pct.specs.Cows.{cow_items};
 
     /// The items, for as long as the value is borrowed.
+    ///
+    /// # Examples
+    ///
+    /// Of the bytes that `%E9` decodes to it is the one byte E9.
     pub fn as_slice(&self) -> &[T]
         ensures { result.now ≡ cow_items self.now }
     {
@@ -89,6 +110,11 @@ impl<'a, T: Copy> CowSlice<'a, T> {
     /// # Errors
     ///
     /// Only if memory is refused for a copy. The borrowed items are where they were.
+    ///
+    /// # Examples
+    ///
+    /// Of the bytes that `ab` decodes to, which are borrowed, it is a copy of the two; of those of
+    /// `%E9` it is that byte itself.
     pub fn into_owned(self, alloc: Global) -> Result<Vec<T>, AllocError>
         ensures items { IfOk result (λ items. items.items ≡ cow_items self.entry) }
         ensures refused { OnErr result (AreBorrowedItems self.entry) }
@@ -101,6 +127,10 @@ impl<'a, T: Copy> CowSlice<'a, T> {
 }
 
 /// Why a text does not decode to text.
+///
+/// # Examples
+///
+/// `%E9` does not decode to text: the error is `NotUtf8` with the byte E9.
 #[derive(Debug, Drop, Error)]
 pub enum DecodeError {
     /// The bytes that the text decodes to, which are not UTF-8.

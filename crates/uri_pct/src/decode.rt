@@ -13,6 +13,10 @@ use std::alloc::{AllocError, Global};
 use std::iter::FusedIterator;
 
 /// A part of a text that is decoded.
+///
+/// # Examples
+///
+/// The parts of `a%20b` are the text `a`, the byte 20 (hexadecimal) and the text `b`.
 #[derive(Clone, Copy, Debug, PartialEq, Eq)]
 pub enum DecodedChunk<'a> {
     /// A part without `%`, not empty and as long as can be.
@@ -23,6 +27,11 @@ pub enum DecodedChunk<'a> {
 
 /// What is left to decode of a text: an iterator of its parts, which answers `None` for ever once
 /// nothing is left.
+///
+/// # Examples
+///
+/// `EStr::<Query>::new_or_panic("a%20b").decode()` has three parts, and its `to_string` answers `a
+/// b`.
 #[derive(Drop)]
 pub struct Decode<'a> {
     rest: &'a str,
@@ -73,6 +82,15 @@ impl<'a> Decode<'a> {
 
     /// The bytes that the text which is left decodes to: its own, borrowed, where no `%` is left.
     /// They are the bytes of the items that are left. `+` is not read as a space.
+    ///
+    /// # Errors
+    ///
+    /// Only if memory is refused, which is asked for only where a `%` is left.
+    ///
+    /// # Examples
+    ///
+    /// Of `a%E9` these are the two bytes 61 and E9, owned; of `ab` they are those of `ab`,
+    /// borrowed.
     pub fn to_bytes(self, alloc: Global) -> Result<CowSlice<'a, u8>, AllocError>
         ensures bytes { IfOk result (λ b. cow_items b ≡ decoded self.entry) }
         ensures left { IfOk result (λ b. cow_items b ≡ bytes_left self.entry) }
@@ -142,6 +160,10 @@ impl<'a, E: Encoder> EStr<'a, E> {
     /// The text to be decoded. The table of `E` allows percent-encoded octets:
     /// `E::table().allows_pct_encoded` tests it. The number of its parts fits `usize`, so that
     /// `count` may be called.
+    ///
+    /// # Examples
+    ///
+    /// Of `%41b` the parts are the byte 41 and the text `b`.
     pub fn decode(self) -> Decode<'a>
         requires { IsTrue (E.set).pct_encoded }
         ensures text { undecoded result ≡ text_of self.entry }

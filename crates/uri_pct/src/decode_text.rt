@@ -75,7 +75,15 @@ impl<'a> Decode<'a> {
     /// The text that what is left decodes to: itself, borrowed, where no `%` is left. Its bytes are
     /// those of the items that are left. `+` is not read as a space.
     ///
-    /// The error is `NotUtf8` with the bytes, exactly if they are not UTF-8, or `OutOfMemory`.
+    /// # Errors
+    ///
+    /// `NotUtf8` with the bytes, exactly if they are not UTF-8; `OutOfMemory` if memory is refused,
+    /// which is asked for only where a `%` is left.
+    ///
+    /// # Examples
+    ///
+    /// Of `%C3%A9` it is `é`, owned; of `ab` it is `ab`, borrowed; and `%E9` is refused with the
+    /// byte E9.
     pub fn to_string(self, alloc: Global) -> Result<CowStr<'a>, DecodeError>
         ensures text { IfOk result (λ text. cow_text text ≡ decoded self.entry) }
         ensures utf8 { IsOk result → IsUtf8 (decoded self.entry) }
@@ -103,6 +111,14 @@ impl<'a> Decode<'a> {
     /// The text that what is left decodes to, with U+FFFD for each maximal ill-formed part of its
     /// bytes (Unicode, section 3.9): itself, borrowed, where no `%` is left. `+` is not read as a
     /// space.
+    ///
+    /// # Errors
+    ///
+    /// Only if memory is refused, which is asked for only where a `%` is left.
+    ///
+    /// # Examples
+    ///
+    /// Of `a%E9b` it is `a`, U+FFFD and `b`; of `%C3%A9` it is `é`.
     pub fn to_string_lossy(self, alloc: Global) -> Result<CowStr<'a>, AllocError>
         ensures text { IfOk result (λ text. cow_text text ≡ lossy_text (decoded self.entry)) }
         ensures left { IfOk result (λ text. cow_text text ≡ lossy_text (bytes_left self.entry)) }

@@ -7,6 +7,10 @@ use crate::table::{self, Table};
 ///
 /// `set` names the set once and for all: whoever implements the trait chooses it, and `table`
 /// answers it.
+///
+/// # Examples
+///
+/// `Query::table()` allows `a` and `?`, and not `#`.
 pub trait Encoder {
     ghost use Rattle.uri_pct.specs.Sets.{TableSet};
     ghost use Rattle.uri_pct.specs.Tables.{set_of};
@@ -19,9 +23,17 @@ pub trait Encoder {
 }
 
 /// An encoder of paths.
+///
+/// # Examples
+///
+/// `Path` and `IPath` are such encoders: `segments_if_absolute` may be called on their texts.
 pub trait PathEncoder: Encoder {}
 
 /// The encoder of a URI's userinfo (RFC 3986, section 3.2.1).
+///
+/// # Examples
+///
+/// `user:pass` is valid for it, and `a@b` is not.
 #[derive(Clone, Copy)]
 pub struct Userinfo;
 
@@ -30,13 +42,17 @@ impl Encoder for Userinfo {
 
     ghost set = { userinfo_set };
 
-    #[tactic(auto, using(crate::proofs::Constants::userinfo_table))]
+    #[tactic(auto, using(crate::proofs::TableSets::Constants::userinfo_table))]
     fn table() -> Table {
         table::USERINFO
     }
 }
 
 /// The encoder of a URI's registered name (RFC 3986, section 3.2.2).
+///
+/// # Examples
+///
+/// `example.com` is valid for it, and `a:b` is not.
 #[derive(Clone, Copy)]
 pub struct RegName;
 
@@ -45,13 +61,17 @@ impl Encoder for RegName {
 
     ghost set = { reg_name_set };
 
-    #[tactic(auto, using(crate::proofs::Constants::reg_name_table))]
+    #[tactic(auto, using(crate::proofs::TableSets::Constants::reg_name_table))]
     fn table() -> Table {
         table::REG_NAME
     }
 }
 
 /// The encoder of a port (RFC 3986, section 3.2.3): decimal digits alone.
+///
+/// # Examples
+///
+/// `8080` is valid for it, and `80a` is not.
 #[derive(Clone, Copy)]
 pub struct Port;
 
@@ -60,13 +80,17 @@ impl Encoder for Port {
 
     ghost set = { digit_set };
 
-    #[tactic(auto, using(crate::proofs::Constants::digit_table))]
+    #[tactic(auto, using(crate::proofs::TableSets::Constants::digit_table))]
     fn table() -> Table {
         table::DIGIT
     }
 }
 
 /// The encoder of a URI's path (RFC 3986, section 3.3).
+///
+/// # Examples
+///
+/// `/a/b;c=%20` is valid for it, and `a?b` is not.
 #[derive(Clone, Copy)]
 pub struct Path;
 
@@ -75,7 +99,7 @@ impl Encoder for Path {
 
     ghost set = { path_set };
 
-    #[tactic(auto, using(crate::proofs::Constants::path_table))]
+    #[tactic(auto, using(crate::proofs::TableSets::Constants::path_table))]
     fn table() -> Table {
         table::PATH
     }
@@ -84,6 +108,10 @@ impl Encoder for Path {
 impl PathEncoder for Path {}
 
 /// The encoder of a URI's query (RFC 3986, section 3.4).
+///
+/// # Examples
+///
+/// `a=b&c/?` is valid for it, and `a#b` is not.
 #[derive(Clone, Copy)]
 pub struct Query;
 
@@ -92,13 +120,17 @@ impl Encoder for Query {
 
     ghost set = { query_set };
 
-    #[tactic(auto, using(crate::proofs::Constants::query_table))]
+    #[tactic(auto, using(crate::proofs::TableSets::Constants::query_table))]
     fn table() -> Table {
         table::QUERY
     }
 }
 
 /// The encoder of a URI's fragment (RFC 3986, section 3.5).
+///
+/// # Examples
+///
+/// `a/b?c` is valid for it, and `a#b` is not.
 #[derive(Clone, Copy)]
 pub struct Fragment;
 
@@ -107,13 +139,17 @@ impl Encoder for Fragment {
 
     ghost set = { fragment_set };
 
-    #[tactic(auto, using(crate::proofs::Constants::fragment_table))]
+    #[tactic(auto, using(crate::proofs::TableSets::Constants::fragment_table))]
     fn table() -> Table {
         table::FRAGMENT
     }
 }
 
 /// The encoder of an IRI's userinfo (RFC 3987, section 2.2).
+///
+/// # Examples
+///
+/// `użytkownik:a` is valid for it, and `a@b` is not.
 #[derive(Clone, Copy)]
 pub struct IUserinfo;
 
@@ -122,13 +158,17 @@ impl Encoder for IUserinfo {
 
     ghost set = { iuserinfo_set };
 
-    #[tactic(auto, using(crate::proofs::Constants::iuserinfo_table))]
+    #[tactic(auto, using(crate::proofs::TableSets::Constants::iuserinfo_table))]
     fn table() -> Table {
         table::IUSERINFO
     }
 }
 
 /// The encoder of an IRI's registered name (RFC 3987, section 2.2).
+///
+/// # Examples
+///
+/// `例え.jp` is valid for it, and `a:b` is not.
 #[derive(Clone, Copy)]
 pub struct IRegName;
 
@@ -137,13 +177,17 @@ impl Encoder for IRegName {
 
     ghost set = { ireg_name_set };
 
-    #[tactic(auto, using(crate::proofs::Constants::ireg_name_table))]
+    #[tactic(auto, using(crate::proofs::TableSets::Constants::ireg_name_table))]
     fn table() -> Table {
         table::IREG_NAME
     }
 }
 
 /// The encoder of an IRI's path (RFC 3987, section 2.2).
+///
+/// # Examples
+///
+/// `/déjà/vu` is valid for it, and `a?b` is not.
 #[derive(Clone, Copy)]
 pub struct IPath;
 
@@ -152,7 +196,7 @@ impl Encoder for IPath {
 
     ghost set = { ipath_set };
 
-    #[tactic(auto, using(crate::proofs::Constants::ipath_table))]
+    #[tactic(auto, using(crate::proofs::TableSets::Constants::ipath_table))]
     fn table() -> Table {
         table::IPATH
     }
@@ -161,6 +205,10 @@ impl Encoder for IPath {
 impl PathEncoder for IPath {}
 
 /// The encoder of an IRI's query (RFC 3987, section 2.2).
+///
+/// # Examples
+///
+/// `où=là` is valid for it, and `a#b` is not.
 #[derive(Clone, Copy)]
 pub struct IQuery;
 
@@ -169,13 +217,17 @@ impl Encoder for IQuery {
 
     ghost set = { iquery_set };
 
-    #[tactic(auto, using(crate::proofs::Constants::iquery_table))]
+    #[tactic(auto, using(crate::proofs::TableSets::Constants::iquery_table))]
     fn table() -> Table {
         table::IQUERY
     }
 }
 
 /// The encoder of an IRI's fragment (RFC 3987, section 2.2).
+///
+/// # Examples
+///
+/// `forêt` is valid for it, and `a#b` is not.
 #[derive(Clone, Copy)]
 pub struct IFragment;
 
@@ -184,7 +236,7 @@ impl Encoder for IFragment {
 
     ghost set = { ifragment_set };
 
-    #[tactic(auto, using(crate::proofs::Constants::ifragment_table))]
+    #[tactic(auto, using(crate::proofs::TableSets::Constants::ifragment_table))]
     fn table() -> Table {
         table::IFRAGMENT
     }
@@ -192,6 +244,10 @@ impl Encoder for IFragment {
 
 /// The encoder of data that goes into a URI (RFC 3986, section 2.4): unreserved characters and
 /// percent-encoded octets, so that no delimiter is left.
+///
+/// # Examples
+///
+/// `a%26b` is valid for it, and `a&b` is not.
 #[derive(Clone, Copy)]
 pub struct Data;
 
@@ -200,7 +256,7 @@ impl Encoder for Data {
 
     ghost set = { data_set };
 
-    #[tactic(auto, using(crate::proofs::Constants::unreserved_table))]
+    #[tactic(auto, using(crate::proofs::TableSets::Constants::unreserved_table))]
     fn table() -> Table {
         table::UNRESERVED.or_pct_encoded()
     }
@@ -208,6 +264,10 @@ impl Encoder for Data {
 
 /// The encoder of data that goes into an IRI (RFC 3987, section 2.2): as `Data`, with the
 /// characters of `ucschar`.
+///
+/// # Examples
+///
+/// `é%26b` is valid for it, and `é&b` is not.
 #[derive(Clone, Copy)]
 pub struct IData;
 

@@ -17,6 +17,10 @@ use std::marker::PhantomData;
 
 /// A text of its own that is valid for `E`, as an `EStr<E>` is. It grows, and keeps the allocator
 /// that it was handed.
+///
+/// # Examples
+///
+/// `a%26b` is built for a query from `EString::<Query>::new(alloc)` by `encode_str::<Data>("a&b")`.
 #[derive(Drop)]
 pub struct EString<E: Encoder> {
     text: String,
@@ -25,7 +29,7 @@ pub struct EString<E: Encoder> {
     pub ghost lacks_percent: { LacksPercent E.set },
 }
 
-#[tactic(auto, using(crate::proofs::EStrs::valid_empty))]
+#[tactic(auto, using(crate::proofs::ValidTexts::EStrs::valid_empty))]
 impl<E: Encoder> EString<E> {
     ghost use Rattle.uri_pct.specs.EStrings.{owned_text, owned_capacity};
 
@@ -43,6 +47,10 @@ impl<E: Encoder> EString<E> {
     }
 
     /// The empty text, which takes no memory yet.
+    ///
+    /// # Examples
+    ///
+    /// Its text is the empty one, and its capacity 0.
     pub fn new(alloc: Global) -> EString<E>
         ensures { owned_text result ≡ [] }
     {
@@ -50,6 +58,14 @@ impl<E: Encoder> EString<E> {
     }
 
     /// The empty text, with room for `capacity` bytes.
+    ///
+    /// # Errors
+    ///
+    /// Only if memory is refused.
+    ///
+    /// # Examples
+    ///
+    /// With room for 10 bytes, ten letters are appended and no memory is asked for again.
     pub fn with_capacity(alloc: Global, capacity: usize) -> Result<EString<E>, AllocError>
         ensures text { IfOk result (λ s. owned_text s ≡ []) }
         ensures capacity { IfOk result (λ s. capacity ≤ owned_capacity s) }
@@ -58,13 +74,21 @@ impl<E: Encoder> EString<E> {
     }
 
     /// The text, for as long as the value is borrowed.
+    ///
+    /// # Examples
+    ///
+    /// Of what was built as `a%26b` it is the `EStr` of that text.
     pub fn as_estr(&self) -> EStr<'_, E>
         ensures { text_of result ≡ owned_text self.now }
     {
-        EStr::new_unchecked(self.text.as_str())
+        EStr::new_or_panic(self.text.as_str())
     }
 
     /// The text as it stands, for as long as the value is borrowed.
+    ///
+    /// # Examples
+    ///
+    /// Of what was built as `a%26b` it is `a%26b`.
     pub fn as_str(&self) -> &str
         ensures text { result.now ≡ owned_text self.now }
         ensures valid { IsValidFor E.set result.now }
@@ -73,6 +97,10 @@ impl<E: Encoder> EString<E> {
     }
 
     /// The length of the text in bytes.
+    ///
+    /// # Examples
+    ///
+    /// Of `a%26b` it is 5: an octet counts three.
     pub fn len(&self) -> usize
         ensures { result ≡ length (owned_text self.now) }
     {
@@ -80,6 +108,10 @@ impl<E: Encoder> EString<E> {
     }
 
     /// Whether the text is empty.
+    ///
+    /// # Examples
+    ///
+    /// A new one is empty, and `a` is not.
     pub fn is_empty(&self) -> bool
         ensures { result ≡ (length (owned_text self.now) == 0) }
     {
@@ -87,6 +119,10 @@ impl<E: Encoder> EString<E> {
     }
 
     /// How many bytes the text may have before it takes more memory.
+    ///
+    /// # Examples
+    ///
+    /// Of one made by `with_capacity(alloc, 10)` it is at least 10.
     pub fn capacity(&self) -> usize
         ensures { result ≡ owned_capacity self.now }
     {
@@ -94,6 +130,10 @@ impl<E: Encoder> EString<E> {
     }
 
     /// Leaves the empty text, and keeps the memory.
+    ///
+    /// # Examples
+    ///
+    /// `a%26b` becomes the empty text, and its capacity stays.
     pub fn clear(&mut self)
         ensures text { owned_text self.new ≡ [] }
         ensures capacity { owned_capacity self.new ≡ owned_capacity self.old }
@@ -102,6 +142,10 @@ impl<E: Encoder> EString<E> {
     }
 
     /// The text as it stands.
+    ///
+    /// # Examples
+    ///
+    /// Of what was built as `a%26b` it is the `String` of that text.
     pub fn into_string(self) -> String
         ensures { string_bytes result ≡ owned_text self }
     {
@@ -114,7 +158,14 @@ impl<E: Encoder> EString<E> {
     /// The table of `E` allows all that the table of `SubE` allows, and this one allows
     /// percent-encoded octets: `SubE::table().is_subset` and `SubE::table().allows_pct_encoded`
     /// test it.
-    /// Where memory is refused, the text is as it was.
+    ///
+    /// # Errors
+    ///
+    /// Only if memory is refused. The text is then as it was.
+    ///
+    /// # Examples
+    ///
+    /// `encode_str::<Data>("a&é")` appends `a%26%C3%A9`.
     pub fn encode_str<SubE: Encoder>(&mut self, text: &str) -> Result<(), AllocError>
         requires subset { IsSubset SubE.set E.set }
         requires octets { IsTrue (SubE.set).pct_encoded }
@@ -132,7 +183,14 @@ impl<E: Encoder> EString<E> {
     /// The table of `E` allows all that the table of `SubE` allows, and this one allows
     /// percent-encoded octets: `SubE::table().is_subset` and `SubE::table().allows_pct_encoded`
     /// test it.
-    /// Where memory is refused, the text is as it was.
+    ///
+    /// # Errors
+    ///
+    /// Only if memory is refused. The text is then as it was.
+    ///
+    /// # Examples
+    ///
+    /// `encode_bytes::<Data>(b"a\xE9")` appends `a%E9`.
     pub fn encode_bytes<SubE: Encoder>(&mut self, bytes: &[u8]) -> Result<(), AllocError>
         requires subset { IsSubset SubE.set E.set }
         requires octets { IsTrue (SubE.set).pct_encoded }
@@ -146,7 +204,13 @@ impl<E: Encoder> EString<E> {
 
     /// Appends a character that the table of `E` allows: `E::table().allows` tests it.
     ///
-    /// Where memory is refused, which it isn't within the capacity, the text is as it was.
+    /// # Errors
+    ///
+    /// Only if memory is refused, which it isn't within the capacity. The text is then as it was.
+    ///
+    /// # Examples
+    ///
+    /// For a query, `push('&')` appends `&`.
     pub fn push(&mut self, ch: char) -> Result<(), AllocError>
         requires { IsTrue (allows E.set ch) }
         ensures text { OnOk result (owned_text self.new ≡ owned_text self.old ++ encode_utf8 ch) }
@@ -160,7 +224,13 @@ impl<E: Encoder> EString<E> {
 
     /// Appends the text as it stands.
     ///
-    /// Where memory is refused, which it isn't within the capacity, the text is as it was.
+    /// # Errors
+    ///
+    /// Only if memory is refused, which it isn't within the capacity. The text is then as it was.
+    ///
+    /// # Examples
+    ///
+    /// For a query, `push_estr(EStr::new_or_panic("a=%20"))` appends `a=%20`.
     pub fn push_estr(&mut self, text: EStr<'_, E>) -> Result<(), AllocError>
         ensures text { OnOk result (owned_text self.new ≡ owned_text self.old ++ text_of text.entry) }
         ensures tokens { OnOk result (tokens (owned_text self.new) ≡ tokens (owned_text self.old) ++ tokens (text_of text.entry)) }
@@ -176,6 +246,14 @@ impl<'a, E: Encoder> EStr<'a, E> {
     ghost use Rattle.uri_pct.specs.EStrings.{owned_text};
 
     /// The same text, of its own.
+    ///
+    /// # Errors
+    ///
+    /// Only if memory is refused.
+    ///
+    /// # Examples
+    ///
+    /// Of `a%20b` it is `a%20b`, in memory of its own.
     pub fn to_owned(self, alloc: Global) -> Result<EString<E>, AllocError>
         ensures { IfOk result (λ s. owned_text s ≡ text_of self.entry) }
     {

@@ -1,5 +1,5 @@
 //! Laws of the definitions: each is the contract of a function that does nothing.
-#![tactic(auto, using(crate::proofs::ReadingLaws::reading_laws))]
+#![tactic(auto, using(crate::proofs::Theorems::reading_laws))]
 
 ghost use Rattle.std.specs.Prelude.{◌≡◌, ◌↔◌, ◌<◌, ◌/◌, ◌%◌, ◌&&◌, ℕ, Bool, true, false, List, ◌∷◌, ◌++◌, map, All};
 ghost use Rattle.std.specs.Char.{IsScalar, encode_utf8};
@@ -16,7 +16,7 @@ ghost use Rattle.uri_pct.specs.Reading.{read_alone, read_tokens, read};
 
 /// What is printed is read back as the tokens that were printed, and the tokens of a text that is
 /// valid for a set may be printed (RFC 3986, sections 2.1 and 6.2.2.1).
-pub fn printing()
+pub fn what_is_printed_is_read_back()
     ensures tokens { (ts : List Token) → list_all is_printable ts ≡ true → tokens (print ts) ≡ ts }
     ensures valid { (set : TableSet) (ts : List Token) → list_all is_printable ts ≡ true → list_all (allows_token set) ts ≡ true → IsValidFor set (print ts) }
     ensures printable { (set : TableSet) (text : List ℕ) → LacksPercent set → IsValidFor set text → list_all is_printable (tokens text) ≡ true }
@@ -24,8 +24,8 @@ pub fn printing()
 
 /// An octet is read as its value, whether its digits are in upper or in lower case (RFC 3986,
 /// section 2.1).
-#[tactic(auto, using(crate::proofs::OctetDigits::tokens_of_octet))]
-pub fn octets_in_either_case()
+#[tactic(auto, using(crate::proofs::Decodings::OctetDigits::tokens_of_octet))]
+pub fn octets_are_read_in_either_case()
     ensures { (upper : Bool) (value : ℕ) (rest : List ℕ) → value < 256
         → tokens (37 ∷ digit_glyph upper (value / 16) ∷ digit_glyph upper (value % 16) ∷ rest)
         ≡ Octet value ∷ tokens rest }
@@ -33,8 +33,8 @@ pub fn octets_in_either_case()
 
 /// What is encoded is read back as the same tokens, these decode to the text or the bytes that were
 /// given, also behind others, and a text is encoded as its bytes are (RFC 3986, section 2.1).
-#[tactic(auto, using(crate::proofs::EncodingLaws::encoding_laws))]
-pub fn encoding()
+#[tactic(auto, using(crate::proofs::Theorems::encoding_laws))]
+pub fn what_is_encoded_decodes_to_what_was_given()
     ensures text { (set : TableSet) (text : List ℕ) → IsUtf8 text → token_bytes (encode_text set text) ≡ text }
     ensures bytes { (set : TableSet) (bytes : List ℕ) → token_bytes (encode_bytes set bytes) ≡ bytes }
     ensures behind { (before behind : List Token) → token_bytes (before ++ behind) ≡ token_bytes before ++ token_bytes behind }
@@ -44,7 +44,7 @@ pub fn encoding()
 
 /// The pieces of bytes are together these bytes, those that are well-formed are characters, and they
 /// are cut wherever a character stands and before every byte but 80 to BF (Unicode, section 3.9).
-pub fn pieces()
+pub fn pieces_are_together_the_bytes()
     ensures bytes { (bytes : List ℕ) → bytes_of_pieces (utf8_pieces bytes) ≡ bytes }
     ensures characters { (bytes : List ℕ) → All IsOfCharacter (utf8_pieces bytes) }
     ensures around_char { (before : List ℕ) (c : ℕ) (behind : List ℕ) → IsScalar c → utf8_pieces (before ++ (encode_utf8 c ++ behind)) ≡ utf8_pieces before ++ WellFormed (encode_utf8 c) ∷ utf8_pieces behind }
@@ -53,7 +53,7 @@ pub fn pieces()
 
 /// Bytes are UTF-8 exactly where no piece is ill-formed, and the lossy text is that of std's
 /// `String::from_utf8_lossy`.
-pub fn lossy()
+pub fn lossy_texts_are_those_of_std()
     ensures whole { (bytes : List ℕ) → (list_all is_well_formed (utf8_pieces bytes) ≡ true) ↔ IsUtf8 bytes }
     ensures text { (bytes : List ℕ) → lossy_text bytes ≡ utf8_lossy bytes }
 {}
@@ -64,7 +64,7 @@ pub fn lossy()
 /// bidirectional text, which mean what their octets mean, none is read as itself where a set holds
 /// `ucschar` and octets (RFC 3987, section 4.1).
 #[doc(hidden)]
-pub fn reading()
+pub fn reading_changes_no_bytes()
     ensures bytes { (set : TableSet) (text : List ℕ) → token_bytes (read set text) ≡ token_bytes (tokens text) }
     ensures allowed { (set : TableSet) (text : List ℕ) → IsSubset unreserved_set set → IsValidFor set text → list_all (allows_token set) (read set text) ≡ true }
     ensures valid { (set : TableSet) (text : List ℕ) → LacksPercent set → IsSubset unreserved_set set → IsValidFor set text → IsValidFor set (print (read set text)) }
@@ -84,20 +84,20 @@ pub fn reading()
 /// In a URI each octet is read by itself (RFC 3986, section 6.2.2.2), which is the reading of an IRI
 /// (RFC 3987, section 5.3.2.3) at a set with no character past ASCII.
 #[doc(hidden)]
-pub fn reading_of_a_uri()
+pub fn uris_are_read_octet_by_octet()
     ensures { (set : TableSet) (text : List ℕ) → LacksPastAscii set → read set text ≡ map read_alone (tokens text) }
 {}
 
 /// Reading twice is reading once.
 #[doc(hidden)]
-pub fn reading_twice()
+pub fn reading_twice_is_reading_once()
     ensures tokens { (set : TableSet) (ts : List Token) → read_tokens set (read_tokens set ts) ≡ read_tokens set ts }
     ensures text { (set : TableSet) (text : List ℕ) → list_all is_printable (tokens text) ≡ true → read set (print (read set text)) ≡ read set text }
 {}
 
 /// The reading with its letters lowered is read as itself, and a set that allows the reading allows it.
 #[doc(hidden)]
-pub fn reading_lowered()
+pub fn lowering_may_come_before_reading()
     ensures tokens { (set : TableSet) (ts : List Token) → read_tokens set (map lower_token (read_tokens set ts)) ≡ map lower_token (read_tokens set ts) }
     ensures text { (set : TableSet) (text : List ℕ) → list_all is_printable (tokens text) ≡ true → read set (print (map lower_token (read set text))) ≡ map lower_token (read set text) }
     ensures twice { (ts : List Token) → map lower_token (map lower_token ts) ≡ map lower_token ts }

@@ -18,6 +18,10 @@ use std::marker::PhantomData;
 
 /// A text that is spelt by characters that the table of `E` allows and, where it allows
 /// percent-encoded octets, by `%` and two hexadecimal digits.
+///
+/// # Examples
+///
+/// `a%20b` is an `EStr<Query>`; `a#b` and `a%2` are none.
 pub struct EStr<'a, E: Encoder> {
     text: &'a str,
     encoder: PhantomData<E>,
@@ -38,39 +42,42 @@ impl<'a, E: Encoder> Clone for EStr<'a, E> {
 
 impl<'a, E: Encoder> Copy for EStr<'a, E> {}
 
-#[tactic(auto, using(crate::proofs::EStrs::valid_empty, crate::proofs::EStrs::valid_octet, crate::proofs::EStrs::valid_in_more))]
+#[tactic(auto, using(crate::proofs::ValidTexts::EStrs::valid_empty, crate::proofs::ValidTexts::EStrs::valid_octet, crate::proofs::ValidTexts::EStrs::valid_in_more))]
 impl<'a, E: Encoder> EStr<'a, E> {
     ghost use Rattle.uri_pct.specs.EStrs.{text_of};
 
     /// The empty text.
+    ///
+    /// # Examples
+    ///
+    /// `EStr::<Query>::EMPTY` is a query with nothing behind its `?`.
     pub const EMPTY: EStr<'static, E> = EStr {
         text: "",
         encoder: PhantomData,
     };
 
     /// The text as it stands, or `None` exactly if the table of `E` does not allow it.
+    ///
+    /// # Examples
+    ///
+    /// `EStr::<Query>::new("a b")` is `None`, and `EStr::<Query>::new("a%20b")` is that text.
     pub fn new(text: &'a str) -> Option<Self>
         ensures valid { IsSome result ↔ IsValidFor E.set text.now }
         ensures same { IfSome result (λ e. text_of e ≡ text.now) }
     {
         if E::table().allows_text(text) {
-            Some(EStr::new_unchecked(text))
+            Some(EStr::new_or_panic(text))
         } else {
             None
         }
     }
 
     /// The text as it stands, which the table of `E` allows: `new` tests it.
+    ///
+    /// # Examples
+    ///
+    /// `EStr::<Query>::new_or_panic("a=b")` is that text.
     pub fn new_or_panic(text: &'a str) -> Self
-        requires { IsValidFor E.set text.now }
-        ensures { text_of result ≡ text.now }
-    {
-        EStr::new_unchecked(text)
-    }
-
-    /// The text as it stands, with no test.
-    #[doc(hidden)]
-    pub fn new_unchecked(text: &'a str) -> Self
         requires { IsValidFor E.set text.now }
         ensures { text_of result ≡ text.now }
     {
@@ -81,6 +88,10 @@ impl<'a, E: Encoder> EStr<'a, E> {
     }
 
     /// The text, for as long as it was borrowed.
+    ///
+    /// # Examples
+    ///
+    /// Of `EStr::<Query>::new_or_panic("a=b")` it is `a=b`.
     pub fn as_str(self) -> &'a str
         ensures text { result.now ≡ text_of self.entry }
         ensures valid { IsValidFor E.set result.now }
@@ -89,6 +100,10 @@ impl<'a, E: Encoder> EStr<'a, E> {
     }
 
     /// The length of the text in bytes.
+    ///
+    /// # Examples
+    ///
+    /// Of `a%20b` it is 5: an octet counts three.
     pub fn len(self) -> usize
         ensures { result ≡ length (text_of self.entry) }
     {
@@ -96,6 +111,10 @@ impl<'a, E: Encoder> EStr<'a, E> {
     }
 
     /// Whether the text is empty.
+    ///
+    /// # Examples
+    ///
+    /// `EStr::EMPTY` is empty, and `a` is not.
     pub fn is_empty(self) -> bool
         ensures { result ≡ (length (text_of self.entry) == 0) }
     {
@@ -103,6 +122,10 @@ impl<'a, E: Encoder> EStr<'a, E> {
     }
 
     /// Whether no `%` stands in the text: it has no percent-encoded octet.
+    ///
+    /// # Examples
+    ///
+    /// `ab` has no octet, and `a%20b` has one.
     pub fn is_unencoded(self) -> bool
         ensures { result ≡ is_unencoded (text_of self.entry) }
     {
@@ -111,6 +134,10 @@ impl<'a, E: Encoder> EStr<'a, E> {
 
     /// The same text, for an encoder whose table allows all that the table of `E` allows:
     /// `E::table().is_subset` tests it.
+    ///
+    /// # Examples
+    ///
+    /// An `EStr<Data>` becomes an `EStr<Query>` by `upcast::<Query>()`.
     pub fn upcast<SuperE: Encoder>(self) -> EStr<'a, SuperE>
         requires { IsSubset E.set SuperE.set }
         ensures { text_of result ≡ text_of self.entry }
@@ -124,6 +151,10 @@ impl<'a, E: Encoder> EStr<'a, E> {
     /// The byte as a percent-encoded octet, `%` and two upper-case hexadecimal digits
     /// (RFC 3986, section 2.1). The table of `E` allows such octets:
     /// `E::table().allows_pct_encoded` tests it.
+    ///
+    /// # Examples
+    ///
+    /// Of the byte 20 (hexadecimal) it is `%20`, and of E9 `%E9`.
     pub fn encode_byte(byte: u8) -> EStr<'static, E>
         requires { IsTrue (E.set).pct_encoded }
         ensures { text_of result ≡ text_of_token (Octet byte) }
@@ -139,6 +170,10 @@ impl<'a, E: PathEncoder> EStr<'a, E> {
     ghost use Rattle.uri_pct.specs.EStrs.{text_of};
 
     /// Whether the path begins with `/`.
+    ///
+    /// # Examples
+    ///
+    /// `/a` is absolute, and `a/b` and the empty path are not.
     pub fn is_absolute(self) -> bool
         ensures { result ≡ is_absolute (text_of self.entry) }
     {
@@ -146,6 +181,10 @@ impl<'a, E: PathEncoder> EStr<'a, E> {
     }
 
     /// Whether the path does not begin with `/`.
+    ///
+    /// # Examples
+    ///
+    /// `a/b` and the empty path are rootless, and `/a` is not.
     pub fn is_rootless(self) -> bool
         ensures { result ≡ not (is_absolute (text_of self.entry)) }
     {
@@ -153,7 +192,7 @@ impl<'a, E: PathEncoder> EStr<'a, E> {
     }
 }
 
-#[tactic(auto, using(crate::proofs::EStrs::valid_empty))]
+#[tactic(auto, using(crate::proofs::ValidTexts::EStrs::valid_empty))]
 impl<'a, E: Encoder> Default for EStr<'a, E> {
     ghost use Rattle.std.specs.Prelude.{[]};
     ghost use Rattle.uri_pct.specs.EStrs.{text_of};
@@ -162,7 +201,7 @@ impl<'a, E: Encoder> Default for EStr<'a, E> {
 
     /// The empty text.
     fn default() -> Self {
-        EStr::new_unchecked("")
+        EStr::new_or_panic("")
     }
 }
 

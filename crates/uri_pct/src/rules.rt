@@ -36,7 +36,7 @@ pub struct Rules {
 }
 
 /// The constants, each under the name of its rule: it is the set of that rule.
-#[tactic(auto, using(crate::proofs::Constants::constant_tables))]
+#[tactic(auto, using(crate::proofs::TableSets::Constants::constant_tables))]
 pub fn constants() -> Rules
     ensures alpha { set_of result.alpha ≡ alpha_set }
     ensures digit { set_of result.digit ≡ digit_set }

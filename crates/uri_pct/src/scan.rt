@@ -184,7 +184,7 @@ impl Table {
     }
 
     /// Whether the text is spelt by what the table allows.
-    #[tactic(auto, using(crate::proofs::Cuts::valid_where_read, crate::proofs::Percent::lacks_percent))]
+    #[tactic(auto, using(crate::proofs::ValidTexts::Cuts::valid_where_read, crate::proofs::TableSets::Percent::lacks_percent))]
     #[doc(hidden)]
     pub fn allows_text(&self, text: &str) -> bool
         ensures { result ≡ is_valid_for (set_of self.now) text.now }

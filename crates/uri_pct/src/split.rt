@@ -11,6 +11,10 @@ use std::iter::FusedIterator;
 
 /// The pieces of a text between the places of a delimiter, from both ends: each comes once, from
 /// whichever end it is asked for, and after the last both ends answer `None`.
+///
+/// # Examples
+///
+/// `a&b&c` split at `&` is `a`, `b`, `c` from the front, and `c`, `b`, `a` from the back.
 #[derive(Drop)]
 pub struct Split<'a, E: Encoder> {
     rest: Option<EStr<'a, E>>,
@@ -90,30 +94,42 @@ impl<'a, E: Encoder> EStr<'a, E> {
 
     /// What stands before the first `delimiter` and what stands behind it, or `None` exactly if
     /// there is none. The delimiter is reserved (RFC 3986, section 2.2): `RESERVED.allows` tests it.
+    ///
+    /// # Examples
+    ///
+    /// `a=b=c` at `=` is `a` and `b=c`.
     pub fn split_once(self, delimiter: char) -> Option<(EStr<'a, E>, EStr<'a, E>)>
         requires { IsTrue (is_reserved delimiter) }
         ensures { MatchOption result (IsTrue (lacks delimiter (text_of self.entry)))
             (λ pair. IsFirstCut delimiter (text_of self.entry) (text_of pair.0) (text_of pair.1)) }
     {
         let (before, after) = self.as_str().split_once(delimiter)?;
-        Some((EStr::new_unchecked(before), EStr::new_unchecked(after)))
+        Some((EStr::new_or_panic(before), EStr::new_or_panic(after)))
     }
 
     /// What stands before the last `delimiter` and what stands behind it, or `None` exactly if
     /// there is none. The delimiter is reserved (RFC 3986, section 2.2): `RESERVED.allows` tests it.
+    ///
+    /// # Examples
+    ///
+    /// `a=b=c` at `=` is `a=b` and `c`.
     pub fn rsplit_once(self, delimiter: char) -> Option<(EStr<'a, E>, EStr<'a, E>)>
         requires { IsTrue (is_reserved delimiter) }
         ensures { MatchOption result (IsTrue (lacks delimiter (text_of self.entry)))
             (λ pair. IsLastCut delimiter (text_of self.entry) (text_of pair.0) (text_of pair.1)) }
     {
         let (before, after) = self.as_str().rsplit_once(delimiter)?;
-        Some((EStr::new_unchecked(before), EStr::new_unchecked(after)))
+        Some((EStr::new_or_panic(before), EStr::new_or_panic(after)))
     }
 
     /// The pieces between the places of `delimiter`, which is reserved (RFC 3986, section 2.2):
     /// `RESERVED.allows` tests it. No piece holds the delimiter, and joined by it they are the
     /// text; the empty text is one empty piece. Their number fits `usize`, so that `count` may be
     /// called.
+    ///
+    /// # Examples
+    ///
+    /// `a&&b` at `&` is `a`, the empty piece and `b`.
     pub fn split(self, delimiter: char) -> Split<'a, E>
         requires { IsTrue (is_reserved delimiter) }
         ensures pieces { pieces_left result ≡ slice_split (λ b. b == delimiter) (text_of self.entry) }
@@ -137,6 +153,11 @@ impl<'a, E: PathEncoder> EStr<'a, E> {
     /// The segments of the path (RFC 3986, section 3.3): what stands behind its first `/`, cut at
     /// each further `/`; or `None` exactly if the path does not begin with `/`. Their number fits
     /// `usize`.
+    ///
+    /// # Examples
+    ///
+    /// `/a//b` has the segments `a`, the empty one and `b`; `/` has one, which is empty; `a/b` has
+    /// none to answer.
     pub fn segments_if_absolute(self) -> Option<Split<'a, E>>
         ensures absolute { is_some result ≡ is_absolute (text_of self.entry) }
         ensures segments { IfSome result
@@ -146,7 +167,7 @@ impl<'a, E: PathEncoder> EStr<'a, E> {
         if self.is_rootless() {
             return None;
         }
-        let rest = EStr::<E>::new_unchecked(&self.as_str()[1..]);
+        let rest = EStr::<E>::new_or_panic(&self.as_str()[1..]);
         Some(rest.split('/'))
     }
 }

@@ -6,10 +6,21 @@ ghost use Rattle.uri_pct.specs.Masks.{has_bit, is_plain_ascii};
 ghost use Rattle.uri_pct.specs.Reading.{is_readable};
 ghost use Rattle.uri_pct.specs.Sets.{allows, allows_past_ascii, is_ucschar, is_iprivate, is_one_of, plain, union, difference, IsSubset};
 
+mod constants;
+
+pub use self::constants::{
+    ALPHA, DIGIT, FRAGMENT, GEN_DELIMS, HEXDIG, IFRAGMENT, IPATH, IPV_FUTURE, IQUERY, IREG_NAME,
+    ISEGMENT_NZ_NC, IUSERINFO, PATH, PCHAR, QUERY, REG_NAME, RESERVED, SCHEME, SEGMENT_NZ_NC,
+    SUB_DELIMS, UNRESERVED, USERINFO,
+};
 use crate::lanes::{holds, words};
 
 /// A set of ASCII characters other than `%`, and three flags: whether percent-encoded octets,
 /// the characters of `ucschar` and those of `iprivate` (RFC 3987, section 2.2) may stand beside them.
+///
+/// # Examples
+///
+/// `QUERY` allows the letters, and octets beside them.
 #[derive(Clone, Copy, Debug)]
 pub struct Table {
     low: u64,
@@ -28,6 +39,10 @@ impl Table {
     /// Each byte is ASCII and not `%`; the list may be empty. A function of the caller's with the
     /// clause `result ≡ list_all is_plain_ascii bytes.now` tests it, whose body is
     /// `bytes.iter().all(|&byte| byte < 128 && byte != b'%')`.
+    ///
+    /// # Examples
+    ///
+    /// `Table::new(b"ab")` allows `a` and `b` alone.
     pub fn new(bytes: &[u8]) -> Table
         requires { IsTrue (list_all is_plain_ascii bytes.now) }
         ensures { set_of result ≡ plain (is_one_of bytes.now) }
@@ -51,6 +66,10 @@ impl Table {
     }
 
     /// What `self` or `other` allows: the union of their characters, and of each flag.
+    ///
+    /// # Examples
+    ///
+    /// `ALPHA.or(&DIGIT)` allows `a` and `1`, and not `-`.
     pub fn or(self, other: &Table) -> Table
         ensures { set_of result ≡ union (set_of self) (set_of other.now) }
     {
@@ -64,6 +83,10 @@ impl Table {
     }
 
     /// What `self` allows and `other` does not, among the characters and the flags.
+    ///
+    /// # Examples
+    ///
+    /// `PATH.sub(&GEN_DELIMS)` allows `a` and not `/`.
     pub fn sub(self, other: &Table) -> Table
         ensures { set_of result ≡ difference (set_of self) (set_of other.now) }
     {
@@ -77,6 +100,10 @@ impl Table {
     }
 
     /// The same table, with percent-encoded octets allowed.
+    ///
+    /// # Examples
+    ///
+    /// `DIGIT.or_pct_encoded()` allows the text `1%20`, and `DIGIT` does not.
     pub fn or_pct_encoded(mut self) -> Table
         ensures { set_of result ≡ record (set_of self) { pct_encoded = true } }
     {
@@ -94,6 +121,10 @@ impl Table {
     }
 
     /// The same table, with the characters of `ucschar` (RFC 3987, section 2.2) allowed.
+    ///
+    /// # Examples
+    ///
+    /// `ALPHA.or_ucschar()` allows `é`, and `ALPHA` does not.
     pub fn or_ucschar(mut self) -> Table
         ensures { set_of result ≡ record (set_of self) { ucschar = true } }
     {
@@ -102,6 +133,10 @@ impl Table {
     }
 
     /// The same table, with the characters of `iprivate` (RFC 3987, section 2.2) allowed.
+    ///
+    /// # Examples
+    ///
+    /// `ALPHA.or_iprivate()` allows U+E000, and `ALPHA` does not.
     pub fn or_iprivate(mut self) -> Table
         ensures { set_of result ≡ record (set_of self) { iprivate = true } }
     {
@@ -110,6 +145,10 @@ impl Table {
     }
 
     /// Whether `other` allows every character that `self` allows, and has each flag that `self` has.
+    ///
+    /// # Examples
+    ///
+    /// `ALPHA.is_subset(&UNRESERVED)` holds, and `UNRESERVED.is_subset(&ALPHA)` does not.
     pub fn is_subset(&self, other: &Table) -> bool
         ensures { IsTrue result ↔ IsSubset (set_of self.now) (set_of other.now) }
     {
@@ -124,6 +163,10 @@ impl Table {
     }
 
     /// Whether percent-encoded octets are allowed.
+    ///
+    /// # Examples
+    ///
+    /// `PATH` allows them, and `DIGIT` does not.
     pub fn allows_pct_encoded(&self) -> bool
         ensures { result ≡ (set_of self.now).pct_encoded }
     {
@@ -177,6 +220,10 @@ impl Table {
     }
 
     /// Whether the character may stand for itself.
+    ///
+    /// # Examples
+    ///
+    /// `ALPHA.allows('a')` holds, and `ALPHA.allows('1')` does not.
     #[tactic(auto, using(std::proofs::lemmas::Bool::Decides::nat_tests))]
     pub fn allows(&self, ch: char) -> bool
         ensures { result ≡ allows (set_of self.now) ch }
@@ -205,7 +252,7 @@ impl Table {
 }
 
 /// A character of the rule `ucschar` (RFC 3987, section 2.2).
-#[tactic(auto, using(std::proofs::lemmas::Bool::Decides::nat_tests, crate::proofs::Ranges::ucschar_low, crate::proofs::Ranges::ucschar_middle, crate::proofs::Ranges::ucschar_last))]
+#[tactic(auto, using(std::proofs::lemmas::Bool::Decides::nat_tests, crate::proofs::TableSets::Ranges::ucschar_low, crate::proofs::TableSets::Ranges::ucschar_middle, crate::proofs::TableSets::Ranges::ucschar_last))]
 fn is_ucschar(ch: char) -> bool
     ensures { result ≡ is_ucschar ch }
 {
@@ -220,207 +267,9 @@ fn is_ucschar(ch: char) -> bool
 }
 
 /// A character of the rule `iprivate` (RFC 3987, section 2.2).
-#[tactic(auto, using(std::proofs::lemmas::Bool::Decides::nat_tests, crate::proofs::Ranges::iprivate_ranges))]
+#[tactic(auto, using(std::proofs::lemmas::Bool::Decides::nat_tests, crate::proofs::TableSets::Ranges::iprivate_ranges))]
 fn is_iprivate(ch: char) -> bool
     ensures { result ≡ is_iprivate ch }
 {
     matches!(ch as u32, 0xE000..=0xF8FF | 0xF0000..=0xFFFFD | 0x100000..=0x10FFFD)
 }
-
-/// `ALPHA = %x41-5A / %x61-7A`: the letters (RFC 3986, appendix A).
-pub const ALPHA: Table = Table {
-    low: 0x0000_0000_0000_0000,
-    high: 0x07FF_FFFE_07FF_FFFE,
-    pct_encoded: false,
-    ucschar: false,
-    iprivate: false,
-};
-
-/// `DIGIT = %x30-39`: the decimal digits (RFC 3986, appendix A).
-pub const DIGIT: Table = Table {
-    low: 0x03FF_0000_0000_0000,
-    high: 0x0000_0000_0000_0000,
-    pct_encoded: false,
-    ucschar: false,
-    iprivate: false,
-};
-
-/// `HEXDIG = DIGIT / "A" / "B" / "C" / "D" / "E" / "F"`, the letters in either case (RFC 3986, appendix A).
-pub const HEXDIG: Table = Table {
-    low: 0x03FF_0000_0000_0000,
-    high: 0x0000_007E_0000_007E,
-    pct_encoded: false,
-    ucschar: false,
-    iprivate: false,
-};
-
-/// The characters of `scheme = ALPHA *( ALPHA / DIGIT / "+" / "-" / "." )` (RFC 3986, section 3.1).
-pub const SCHEME: Table = Table {
-    low: 0x03FF_6800_0000_0000,
-    high: 0x07FF_FFFE_07FF_FFFE,
-    pct_encoded: false,
-    ucschar: false,
-    iprivate: false,
-};
-
-/// What `userinfo = *( unreserved / pct-encoded / sub-delims / ":" )` consists of (RFC 3986, section 3.2.1).
-pub const USERINFO: Table = Table {
-    low: 0x2FFF_7FD2_0000_0000,
-    high: 0x47FF_FFFE_87FF_FFFE,
-    pct_encoded: true,
-    ucschar: false,
-    iprivate: false,
-};
-
-/// The characters behind the dot of `IPvFuture = "v" 1*HEXDIG "." 1*( unreserved / sub-delims / ":" )` (RFC 3986, section 3.2.2).
-pub const IPV_FUTURE: Table = Table {
-    low: 0x2FFF_7FD2_0000_0000,
-    high: 0x47FF_FFFE_87FF_FFFE,
-    pct_encoded: false,
-    ucschar: false,
-    iprivate: false,
-};
-
-/// What `reg-name = *( unreserved / pct-encoded / sub-delims )` consists of (RFC 3986, section 3.2.2).
-pub const REG_NAME: Table = Table {
-    low: 0x2BFF_7FD2_0000_0000,
-    high: 0x47FF_FFFE_87FF_FFFE,
-    pct_encoded: true,
-    ucschar: false,
-    iprivate: false,
-};
-
-/// What a path consists of: `pchar / "/"` (RFC 3986, section 3.3).
-pub const PATH: Table = Table {
-    low: 0x2FFF_FFD2_0000_0000,
-    high: 0x47FF_FFFE_87FF_FFFF,
-    pct_encoded: true,
-    ucschar: false,
-    iprivate: false,
-};
-
-/// What `segment-nz-nc = 1*( unreserved / pct-encoded / sub-delims / "@" )` consists of (RFC 3986, section 3.3).
-pub const SEGMENT_NZ_NC: Table = Table {
-    low: 0x2BFF_7FD2_0000_0000,
-    high: 0x47FF_FFFE_87FF_FFFF,
-    pct_encoded: true,
-    ucschar: false,
-    iprivate: false,
-};
-
-/// `pchar = unreserved / pct-encoded / sub-delims / ":" / "@"` (RFC 3986, section 3.3).
-pub const PCHAR: Table = Table {
-    low: 0x2FFF_7FD2_0000_0000,
-    high: 0x47FF_FFFE_87FF_FFFF,
-    pct_encoded: true,
-    ucschar: false,
-    iprivate: false,
-};
-
-/// What `query = *( pchar / "/" / "?" )` consists of (RFC 3986, section 3.4).
-pub const QUERY: Table = Table {
-    low: 0xAFFF_FFD2_0000_0000,
-    high: 0x47FF_FFFE_87FF_FFFF,
-    pct_encoded: true,
-    ucschar: false,
-    iprivate: false,
-};
-
-/// What `fragment = *( pchar / "/" / "?" )` consists of (RFC 3986, section 3.5).
-pub const FRAGMENT: Table = Table {
-    low: 0xAFFF_FFD2_0000_0000,
-    high: 0x47FF_FFFE_87FF_FFFF,
-    pct_encoded: true,
-    ucschar: false,
-    iprivate: false,
-};
-
-/// `unreserved = ALPHA / DIGIT / "-" / "." / "_" / "~"` (RFC 3986, section 2.3).
-pub const UNRESERVED: Table = Table {
-    low: 0x03FF_6000_0000_0000,
-    high: 0x47FF_FFFE_87FF_FFFE,
-    pct_encoded: false,
-    ucschar: false,
-    iprivate: false,
-};
-
-/// `reserved = gen-delims / sub-delims` (RFC 3986, section 2.2).
-pub const RESERVED: Table = Table {
-    low: 0xAC00_9FDA_0000_0000,
-    high: 0x0000_0000_2800_0001,
-    pct_encoded: false,
-    ucschar: false,
-    iprivate: false,
-};
-
-/// `gen-delims = ":" / "/" / "?" / "#" / "[" / "]" / "@"` (RFC 3986, section 2.2).
-pub const GEN_DELIMS: Table = Table {
-    low: 0x8400_8008_0000_0000,
-    high: 0x0000_0000_2800_0001,
-    pct_encoded: false,
-    ucschar: false,
-    iprivate: false,
-};
-
-/// `sub-delims = "!" / "$" / "&" / "'" / "(" / ")" / "*" / "+" / "," / ";" / "="` (RFC 3986, section 2.2).
-pub const SUB_DELIMS: Table = Table {
-    low: 0x2800_1FD2_0000_0000,
-    high: 0x0000_0000_0000_0000,
-    pct_encoded: false,
-    ucschar: false,
-    iprivate: false,
-};
-
-/// What `iuserinfo = *( iunreserved / pct-encoded / sub-delims / ":" )` consists of (RFC 3987, section 2.2).
-pub const IUSERINFO: Table = Table {
-    low: 0x2FFF_7FD2_0000_0000,
-    high: 0x47FF_FFFE_87FF_FFFE,
-    pct_encoded: true,
-    ucschar: true,
-    iprivate: false,
-};
-
-/// What `ireg-name = *( iunreserved / pct-encoded / sub-delims )` consists of (RFC 3987, section 2.2).
-pub const IREG_NAME: Table = Table {
-    low: 0x2BFF_7FD2_0000_0000,
-    high: 0x47FF_FFFE_87FF_FFFE,
-    pct_encoded: true,
-    ucschar: true,
-    iprivate: false,
-};
-
-/// What a path of an IRI consists of: `ipchar / "/"` (RFC 3987, section 2.2).
-pub const IPATH: Table = Table {
-    low: 0x2FFF_FFD2_0000_0000,
-    high: 0x47FF_FFFE_87FF_FFFF,
-    pct_encoded: true,
-    ucschar: true,
-    iprivate: false,
-};
-
-/// What `isegment-nz-nc = 1*( iunreserved / pct-encoded / sub-delims / "@" )` consists of (RFC 3987, section 2.2).
-pub const ISEGMENT_NZ_NC: Table = Table {
-    low: 0x2BFF_7FD2_0000_0000,
-    high: 0x47FF_FFFE_87FF_FFFF,
-    pct_encoded: true,
-    ucschar: true,
-    iprivate: false,
-};
-
-/// What `iquery = *( ipchar / iprivate / "/" / "?" )` consists of (RFC 3987, section 2.2).
-pub const IQUERY: Table = Table {
-    low: 0xAFFF_FFD2_0000_0000,
-    high: 0x47FF_FFFE_87FF_FFFF,
-    pct_encoded: true,
-    ucschar: true,
-    iprivate: true,
-};
-
-/// What `ifragment = *( ipchar / "/" / "?" )` consists of (RFC 3987, section 2.2).
-pub const IFRAGMENT: Table = Table {
-    low: 0xAFFF_FFD2_0000_0000,
-    high: 0x47FF_FFFE_87FF_FFFF,
-    pct_encoded: true,
-    ucschar: true,
-    iprivate: false,
-};

@@ -21,7 +21,7 @@ use uri_parts::error::ParseError;
 use uri_pct::encoder::{IFragment, IPath, IQuery};
 use uri_pct::pct_enc::EStr;
 
-#[tactic(auto, using(uri_parts::proofs::KindLemmas::iri_laws))]
+#[tactic(auto, using(uri_parts::proofs::TextKinds::KindSets::iri_laws))]
 impl<'a> Iri<&'a str> {
     /// Reads a text as an IRI, once and from left to right, and takes no memory.
     ///

@@ -20,7 +20,7 @@ use uri_parts::error::ParseError;
 use uri_pct::encoder::{Fragment, Path, Query};
 use uri_pct::pct_enc::EStr;
 
-#[tactic(auto, using(uri_parts::proofs::KindLemmas::uri_laws))]
+#[tactic(auto, using(uri_parts::proofs::TextKinds::KindSets::uri_laws))]
 impl<'a> Uri<&'a str> {
     /// Reads a text as a URI, once and from left to right, and takes no memory.
     ///

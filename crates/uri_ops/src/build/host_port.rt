@@ -121,7 +121,7 @@ pub trait AsPort: Drop {
 }
 
 /// Written in decimal.
-#[tactic(auto, using(crate::proofs::BuilderHosts::decimal_port))]
+#[tactic(auto, using(crate::proofs::Builders::BuilderHosts::decimal_port))]
 impl AsPort for u16 {
     ghost use Rattle.std.specs.Fmt.{decimal};
 
@@ -134,7 +134,7 @@ impl AsPort for u16 {
 }
 
 /// Written as they stand.
-#[tactic(auto, using(crate::proofs::BuilderDrafts::text_from))]
+#[tactic(auto, using(crate::proofs::Builders::BuilderDrafts::text_from))]
 impl AsPort for EStr<'_, Port> {
     ghost use Rattle.uri_pct.specs.EStrs.{text_of};
 

@@ -6,28 +6,28 @@ use crate::build::state::{
     PortEnd, QueryEnd, SchemeEnd, Start, To, UserinfoEnd,
 };
 
-#[tactic(auto, using(crate::proofs::BuilderPlaces::fresh_reference))]
+#[tactic(auto, using(crate::proofs::Builders::BuilderPlaces::fresh_reference))]
 impl To<SchemeEnd> for Start {
     fn carry(self) -> Draft {
         self.draft
     }
 }
 
-#[tactic(auto, using(crate::proofs::BuilderPlaces::fresh_authority))]
+#[tactic(auto, using(crate::proofs::Builders::BuilderPlaces::fresh_authority))]
 impl To<AuthorityStart> for Start {
     fn carry(self) -> Draft {
         self.draft
     }
 }
 
-#[tactic(auto, using(crate::proofs::BuilderPlaces::fresh_path))]
+#[tactic(auto, using(crate::proofs::Builders::BuilderPlaces::fresh_path))]
 impl To<AuthorityEnd> for Start {
     fn carry(self) -> Draft {
         self.draft
     }
 }
 
-#[tactic(auto, using(crate::proofs::BuilderPlaces::fresh_path))]
+#[tactic(auto, using(crate::proofs::Builders::BuilderPlaces::fresh_path))]
 impl To<PathEnd> for Start {
     fn carry(self) -> Draft {
         self.draft
@@ -46,14 +46,14 @@ impl To<AuthorityStart> for SchemeEnd {
     }
 }
 
-#[tactic(auto, using(crate::proofs::BuilderPlaces::authority_path))]
+#[tactic(auto, using(crate::proofs::Builders::BuilderPlaces::authority_path))]
 impl To<AuthorityEnd> for SchemeEnd {
     fn carry(self) -> Draft {
         self.draft
     }
 }
 
-#[tactic(auto, using(crate::proofs::BuilderPlaces::authority_path))]
+#[tactic(auto, using(crate::proofs::Builders::BuilderPlaces::authority_path))]
 impl To<PathEnd> for SchemeEnd {
     fn carry(self) -> Draft {
         self.draft
@@ -66,7 +66,7 @@ impl To<UserinfoEnd> for AuthorityStart {
     }
 }
 
-#[tactic(auto, using(crate::proofs::BuilderPlaces::userinfo_host))]
+#[tactic(auto, using(crate::proofs::Builders::BuilderPlaces::userinfo_host))]
 impl To<HostEnd> for AuthorityStart {
     fn carry(self) -> Draft {
         self.draft
@@ -85,14 +85,14 @@ impl To<PortEnd> for HostEnd {
     }
 }
 
-#[tactic(auto, using(crate::proofs::BuilderPlaces::port_path))]
+#[tactic(auto, using(crate::proofs::Builders::BuilderPlaces::port_path))]
 impl To<AuthorityEnd> for HostEnd {
     fn carry(self) -> Draft {
         self.draft
     }
 }
 
-#[tactic(auto, using(crate::proofs::BuilderPlaces::inside_path))]
+#[tactic(auto, using(crate::proofs::Builders::BuilderPlaces::inside_path))]
 impl To<AuthorityEnd> for PortEnd {
     fn carry(self) -> Draft {
         self.draft
@@ -111,14 +111,14 @@ impl To<QueryEnd> for PathEnd {
     }
 }
 
-#[tactic(auto, using(crate::proofs::BuilderPlaces::query_fragment))]
+#[tactic(auto, using(crate::proofs::Builders::BuilderPlaces::query_fragment))]
 impl To<FragmentEnd> for PathEnd {
     fn carry(self) -> Draft {
         self.draft
     }
 }
 
-#[tactic(auto, using(crate::proofs::BuilderPlaces::query_end))]
+#[tactic(auto, using(crate::proofs::Builders::BuilderPlaces::query_end))]
 impl To<End> for PathEnd {
     fn carry(self) -> Draft {
         self.draft
@@ -131,7 +131,7 @@ impl To<FragmentEnd> for QueryEnd {
     }
 }
 
-#[tactic(auto, using(crate::proofs::BuilderPlaces::fragment_end))]
+#[tactic(auto, using(crate::proofs::Builders::BuilderPlaces::fragment_end))]
 impl To<End> for QueryEnd {
     fn carry(self) -> Draft {
         self.draft
@@ -144,56 +144,56 @@ impl To<End> for FragmentEnd {
     }
 }
 
-#[tactic(auto, using(crate::proofs::BuilderPlaces::fresh_authority))]
+#[tactic(auto, using(crate::proofs::Builders::BuilderPlaces::fresh_authority))]
 impl AdvanceTo<SchemeEnd> for Start {
     fn pass(self) -> SchemeEnd {
         SchemeEnd { draft: self.draft }
     }
 }
 
-#[tactic(auto, using(crate::proofs::BuilderPlaces::fresh_path))]
+#[tactic(auto, using(crate::proofs::Builders::BuilderPlaces::fresh_path))]
 impl AdvanceTo<AuthorityEnd> for Start {
     fn pass(self) -> AuthorityEnd {
         AuthorityEnd { draft: self.draft }
     }
 }
 
-#[tactic(auto, using(crate::proofs::BuilderPlaces::authority_path))]
+#[tactic(auto, using(crate::proofs::Builders::BuilderPlaces::authority_path))]
 impl AdvanceTo<AuthorityEnd> for SchemeEnd {
     fn pass(self) -> AuthorityEnd {
         AuthorityEnd { draft: self.draft }
     }
 }
 
-#[tactic(auto, using(crate::proofs::BuilderPlaces::userinfo_host))]
+#[tactic(auto, using(crate::proofs::Builders::BuilderPlaces::userinfo_host))]
 impl AdvanceTo<UserinfoEnd> for AuthorityStart {
     fn pass(self) -> UserinfoEnd {
         UserinfoEnd { draft: self.draft }
     }
 }
 
-#[tactic(auto, using(crate::proofs::BuilderPlaces::port_authority))]
+#[tactic(auto, using(crate::proofs::Builders::BuilderPlaces::port_authority))]
 impl AdvanceTo<PortEnd> for HostEnd {
     fn pass(self) -> PortEnd {
         PortEnd { draft: self.draft }
     }
 }
 
-#[tactic(auto, using(crate::proofs::BuilderPlaces::query_fragment))]
+#[tactic(auto, using(crate::proofs::Builders::BuilderPlaces::query_fragment))]
 impl AdvanceTo<QueryEnd> for PathEnd {
     fn pass(self) -> QueryEnd {
         QueryEnd { draft: self.draft }
     }
 }
 
-#[tactic(auto, using(crate::proofs::BuilderPlaces::query_end))]
+#[tactic(auto, using(crate::proofs::Builders::BuilderPlaces::query_end))]
 impl AdvanceTo<FragmentEnd> for PathEnd {
     fn pass(self) -> FragmentEnd {
         FragmentEnd { draft: self.draft }
     }
 }
 
-#[tactic(auto, using(crate::proofs::BuilderPlaces::fragment_end))]
+#[tactic(auto, using(crate::proofs::Builders::BuilderPlaces::fragment_end))]
 impl AdvanceTo<FragmentEnd> for QueryEnd {
     fn pass(self) -> FragmentEnd {
         FragmentEnd { draft: self.draft }

@@ -1,4 +1,4 @@
-use Rattle.uri_ops.proofs.EncodedTargets.{resolution_encoded, target_underflows_encoded}
+use Rattle.uri_ops.proofs.Theorems.{resolution_encoded, target_underflows_encoded}
 use Rattle.uri_ops.proofs.across.encoded_texts_resolve_alike.Goals as goal
 
 pub returns-clause-resolution : goal.returns-clause-resolution

@@ -1,4 +1,4 @@
-use Rattle.uri_ops.proofs.WiderKinds.{text_wider, ascii_within, with_scheme_within}
+use Rattle.uri_ops.proofs.TextKinds.WiderKinds.{text_wider, ascii_within, with_scheme_within}
 use Rattle.uri_parts.specs.Grammar.{uri_ref, iri_ref}
 use Rattle.uri_ops.proofs.across.texts_of_wider_kinds.Goals as goal
 

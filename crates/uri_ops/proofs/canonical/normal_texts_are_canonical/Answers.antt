@@ -1,4 +1,4 @@
-use Rattle.uri_ops.proofs.NormalTexts.{normal_is_text}
+use Rattle.uri_ops.proofs.Normal.NormalTexts.{normal_is_text}
 use Rattle.uri_ops.proofs.canonical.normal_texts_are_canonical.Goals as goal
 
 pub returns-clause-text : goal.returns-clause-text

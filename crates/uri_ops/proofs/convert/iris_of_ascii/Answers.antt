@@ -1,4 +1,4 @@
-use Rattle.uri_ops.proofs.Conversions.{iri_of_ascii, iri_ref_of_ascii, uri_of_ascii}
+use Rattle.uri_ops.proofs.TextKinds.Conversions.{iri_of_ascii, iri_ref_of_ascii, uri_of_ascii}
 use Rattle.uri_ops.proofs.convert.iris_of_ascii.Goals as goal
 
 pub returns-clause-uri : goal.returns-clause-uri

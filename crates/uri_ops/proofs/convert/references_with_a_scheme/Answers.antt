@@ -1,4 +1,4 @@
-use Rattle.uri_ops.proofs.Conversions.{uri_with_scheme, iri_with_scheme}
+use Rattle.uri_ops.proofs.TextKinds.Conversions.{uri_with_scheme, iri_with_scheme}
 use Rattle.uri_ops.proofs.convert.references_with_a_scheme.Goals as goal
 
 pub returns-clause-uri : goal.returns-clause-uri

@@ -1,5 +1,5 @@
 use Rattle.std.proofs.Common.{refl, sym, ap, ◌∙◌, ◌&&◌, false}
-use Rattle.uri_ops.proofs.DotStarts.{at_end, dots_begin, lacks_from, next_byte}
+use Rattle.uri_ops.proofs.Paths.DotStarts.{at_end, dots_begin, lacks_from, next_byte}
 use Rattle.uri_ops.proofs.dot_segments.may_have_dot_segments.Goals as goal
 
 pub loop-i-init : goal.loop-i-init

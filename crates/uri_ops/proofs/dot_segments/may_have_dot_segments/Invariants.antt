@@ -1,5 +1,5 @@
 use Rattle.std.proofs.Common.{length, drop, false, ◌-◌, ◌≡◌}
-use Rattle.uri_ops.proofs.DotStarts.{dots_begin}
+use Rattle.uri_ops.proofs.Paths.DotStarts.{dots_begin}
 use Rattle.uri_ops.proofs.dot_segments.may_have_dot_segments.Given as goal
 
 -- what is left decides

@@ -4,8 +4,8 @@ use Rattle.std.proofs.lemmas.Str.{IsUtf8-string_bytes}
 use Rattle.std.proofs.lemmas.Iterator.Splits.{YieldsList-from_str_split}
 use Rattle.std.proofs.lemmas.Iterator.Consumers.{YieldsList-so_far, YieldsList-end}
 use Rattle.uri_ops.specs.Dots.{segments}
-use Rattle.uri_ops.proofs.Slashed.{NoSlashes, segments_lack}
-use Rattle.uri_ops.proofs.KeptSegments.{after_none, take_lacks, after_single, after_double, after_other, cut_before, absolute_cut, whole_underflow, whole_with_slash, whole_without_slash}
+use Rattle.uri_ops.proofs.Paths.SlashedSegments.{NoSlashes, segments_lack}
+use Rattle.uri_ops.proofs.Paths.KeptSegments.{after_none, take_lacks, after_single, after_double, after_other, cut_before, absolute_cut, whole_underflow, whole_with_slash, whole_without_slash}
 use Rattle.uri_ops.proofs.dot_segments.push_kept_segments.Goals as goal
 
 pub range_from-requires : goal.range_from-requires

@@ -1,5 +1,5 @@
 use Rattle.std.proofs.Common.{◌≡◌, length, map, string_bytes}
-use Rattle.uri_ops.proofs.KeptSegments.{IsAfter}
+use Rattle.uri_ops.proofs.Paths.KeptSegments.{IsAfter}
 use Rattle.uri_ops.proofs.dot_segments.push_kept_segments.Given as goal
 
 abbrev pub invariant-loop-segment : goal.invariant-loop-segment

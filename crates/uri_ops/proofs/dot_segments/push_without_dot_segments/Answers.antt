@@ -1,5 +1,5 @@
 use Rattle.std.proofs.Common.{sym, ap, ◌∙◌, ◌++◌, string_bytes}
-use Rattle.uri_ops.proofs.DotLaws.{removed_of_plain, underflows_of_plain}
+use Rattle.uri_ops.proofs.Paths.DotLaws.{removed_of_plain, underflows_of_plain}
 use Rattle.uri_ops.proofs.dot_segments.push_without_dot_segments.Goals as goal
 
 pub returns-clause-text : goal.returns-clause-text

@@ -1,6 +1,6 @@
 use Rattle.std.proofs.Common.{arith}
 use Rattle.std.proofs.lemmas.Bool.{ltb-true, ltb-false}
-use Rattle.uri_ops.proofs.EncodedRuns.{run_plain}
+use Rattle.uri_ops.proofs.AsciiForms.EncodedRuns.{run_plain}
 use Rattle.uri_ops.proofs.encoded.ascii_len.Goals as goal
 
 pub returns-then-bytes-ge-LANES-clause-inside : goal.returns-then-bytes-ge-LANES-clause-inside

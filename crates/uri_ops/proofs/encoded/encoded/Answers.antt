@@ -2,7 +2,7 @@ use Rattle.std.proofs.Common.{◌++◌, ap, sym, subst, ◌∙◌}
 use Rattle.std.specs.Str.{IsUtf8}
 use Rattle.std.proofs.lemmas.Bool.{false≢true}
 use Rattle.uri_ops.specs.Encoded.{encoded_text}
-use Rattle.uri_ops.proofs.EncodedRuns.{utf8_encoded}
+use Rattle.uri_ops.proofs.AsciiForms.EncodedRuns.{utf8_encoded}
 use Rattle.uri_ops.proofs.encoded.encoded.Goals as goal
 
 pub unreachable-requires : goal.unreachable-requires

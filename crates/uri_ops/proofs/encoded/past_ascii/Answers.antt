@@ -1,5 +1,5 @@
 use Rattle.std.proofs.Common.{arith, ap, length}
-use Rattle.uri_ops.proofs.EncodedRuns.{nothing_encoded, longer_by_one, longer_by_three}
+use Rattle.uri_ops.proofs.AsciiForms.EncodedRuns.{nothing_encoded, longer_by_one, longer_by_three}
 use Rattle.uri_ops.proofs.encoded.past_ascii.Goals as goal
 use Rattle.uri_ops.proofs.encoded.past_ascii.Goals.{then-byte-ge128, else-byte-ge128}
 

@@ -1,6 +1,6 @@
 use Rattle.std.proofs.Common.{◌≡◌, ◌++◌, slice_index, arith, ap, ◌∙◌}
-use Rattle.uri_ops.proofs.EncodedTokens.{octet_text}
-use Rattle.uri_ops.proofs.EncodedRuns.{run_total, octet_total, nothing_total, end_inside}
+use Rattle.uri_ops.proofs.AsciiForms.EncodedTokens.{octet_text}
+use Rattle.uri_ops.proofs.AsciiForms.EncodedRuns.{run_total, octet_total, nothing_total, end_inside}
 use Rattle.uri_ops.proofs.encoded.push_encoded.Goals as goal
 
 pub loop-done-init : goal.loop-done-init

@@ -1,7 +1,7 @@
 use Rattle.std.proofs.Common.{◌≡◌, ◌++◌, take, drop, sym, ap, ◌∙◌, string_bytes}
 use Rattle.std.proofs.lemmas.List.{take-append-drop}
 use Rattle.uri_ops.specs.Formatting.{written_text}
-use Rattle.uri_ops.proofs.WrittenFormatting.{written_text-none}
+use Rattle.uri_ops.proofs.Meanings.WrittenFormatting.{written_text-none}
 use Rattle.uri_ops.proofs.formatting.encode_formatting.Goals as goal
 
 pub returns-then-not-has_formatting : goal.returns-then-not-has_formatting

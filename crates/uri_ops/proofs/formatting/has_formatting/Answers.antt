@@ -1,6 +1,6 @@
 use Rattle.std.proofs.Common.{◌≡◌, false, eqb, sym, ap, ◌∙◌}
 use Rattle.std.specs.List.{list_any}
-use Rattle.uri_ops.proofs.WrittenFormatting.{no_lead}
+use Rattle.uri_ops.proofs.Meanings.WrittenFormatting.{no_lead}
 use Rattle.uri_ops.proofs.formatting.has_formatting.Goals as goal
 
 pub returns-else-contains : goal.returns-else-contains

@@ -4,7 +4,7 @@ use Rattle.std.specs.Str.{chars}
 use Rattle.std.specs.Str.Iter.{chars_rest}
 use Rattle.std.proofs.lemmas.Str.{IsUtf8-past_char, chars_past_char}
 use Rattle.uri_pct.specs.Reading.{is_bidi_formatting}
-use Rattle.uri_ops.proofs.WrittenFormatting.{no_chars}
+use Rattle.uri_ops.proofs.Meanings.WrittenFormatting.{no_chars}
 use Rattle.uri_ops.proofs.formatting.is_any_formatting.Goals as goal
 
 pub returns-then-is_bidi_formatting : goal.returns-then-is_bidi_formatting

@@ -1,7 +1,7 @@
 use Rattle.std.proofs.Common.{ap, sym, ◌∙◌}
 use Rattle.uri_parts.specs.Addresses.{ipv4_octets}
 use Rattle.uri_parts.specs.Hosts.{host_kind}
-use Rattle.uri_ops.proofs.Decodable.{valid_decodes, ipv4_decodes}
+use Rattle.uri_ops.proofs.Meanings.Decodable.{valid_decodes, ipv4_decodes}
 use Rattle.uri_ops.proofs.normal_authority.push_host.Goals as goal
 
 pub push_read_host-requires : goal.push_read_host-requires

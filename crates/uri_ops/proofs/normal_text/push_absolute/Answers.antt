@@ -4,7 +4,7 @@ use Rattle.uri_pct.specs.Reading.{read}
 use Rattle.uri_pct.specs.Tokens.{print}
 use Rattle.uri_ops.specs.Dots.{lacks_dot_segments}
 use Rattle.uri_ops.specs.Target.{guarded}
-use Rattle.uri_ops.proofs.DotLaws.{removed_of_plain, underflows_of_plain}
+use Rattle.uri_ops.proofs.Paths.DotLaws.{removed_of_plain, underflows_of_plain}
 use Rattle.uri_ops.proofs.normal_text.push_absolute.Goals as goal
 
 -- the path has no dot segment

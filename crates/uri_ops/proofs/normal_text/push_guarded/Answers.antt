@@ -2,8 +2,8 @@ use Rattle.std.proofs.Common.{rules, ap, ◌++◌, ◌∙◌, string_bytes}
 use Rattle.std.proofs.lemmas.Result.{on_ok_weaker}
 use Rattle.uri_pct.specs.Reading.{read}
 use Rattle.uri_pct.specs.Tokens.{print}
-use Rattle.uri_ops.proofs.Decodable.{valid_decodes}
-use Rattle.uri_ops.proofs.NormalPieces.{guard_written}
+use Rattle.uri_ops.proofs.Meanings.Decodable.{valid_decodes}
+use Rattle.uri_ops.proofs.Normal.NormalPieces.{guard_written}
 use Rattle.uri_ops.proofs.normal_text.push_guarded.Goals as goal
 
 pub push_read-requires : goal.push_read-requires

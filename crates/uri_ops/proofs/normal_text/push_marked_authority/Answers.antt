@@ -4,7 +4,7 @@ use Rattle.uri_parts.specs.AuthorityTexts.{authority_text}
 use Rattle.uri_parts.specs.Components.{marked}
 use Rattle.uri_ops.specs.Meaning.{authority_meaning}
 use Rattle.uri_ops.specs.Normal.{normal_authority}
-use Rattle.uri_ops.proofs.NormalPieces.{marked_written}
+use Rattle.uri_ops.proofs.Normal.NormalPieces.{marked_written}
 use Rattle.uri_ops.proofs.normal_text.push_marked_authority.Goals as goal
 
 pub returns : goal.returns

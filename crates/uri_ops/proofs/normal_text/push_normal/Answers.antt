@@ -9,7 +9,7 @@ use Rattle.uri_parts.specs.Components.{components, marked}
 use Rattle.uri_ops.specs.Meaning.{authority_meaning}
 use Rattle.uri_ops.specs.Normal.{normal_authority}
 use Rattle.uri_ops.specs.NormalPaths.{path_text}
-use Rattle.uri_ops.proofs.NormalPieces.{normal_written, some_twice}
+use Rattle.uri_ops.proofs.Normal.NormalPieces.{normal_written, some_twice}
 use Rattle.uri_ops.proofs.normal_text.push_normal.Goals as goal
 
 pub returns-clause-text : goal.returns-clause-text

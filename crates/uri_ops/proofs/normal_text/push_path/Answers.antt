@@ -2,7 +2,7 @@ use Rattle.std.proofs.Common.{rules, ◌≡◌, ◌++◌, ◌&&◌, false, sym, 
 use Rattle.std.specs.Prelude.{is_some}
 use Rattle.uri_pct.specs.EStrs.{text_of}
 use Rattle.uri_parts.specs.Components.{starts}
-use Rattle.uri_ops.proofs.NormalPieces.{kept_path, and_off, absolute_starts}
+use Rattle.uri_ops.proofs.Normal.NormalPieces.{kept_path, and_off, absolute_starts}
 use Rattle.uri_ops.proofs.normal_text.push_path.Goals as goal
 use Rattle.uri_ops.proofs.normal_text.push_path.Goals.{else-has_scheme-via-then-has_scheme+else-is_absolute, else-has_scheme-via-else-has_scheme}
 

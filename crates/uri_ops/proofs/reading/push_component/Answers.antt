@@ -1,4 +1,4 @@
-use Rattle.uri_ops.proofs.Decodable.{valid_decodes}
+use Rattle.uri_ops.proofs.Meanings.Decodable.{valid_decodes}
 use Rattle.uri_ops.proofs.reading.push_component.Goals as goal
 
 pub push_read-requires : goal.push_read-requires

@@ -1,4 +1,4 @@
-use Rattle.uri_ops.proofs.Swaps.{resolved_alike, resolved_normal_texts}
+use Rattle.uri_ops.proofs.Theorems.{resolved_alike, resolved_normal_texts}
 use Rattle.uri_ops.proofs.swap.resolving_and_normalising_swap.Goals as goal
 
 pub returns-clause-alike : goal.returns-clause-alike

@@ -1,4 +1,4 @@
-use Rattle.uri_ops.proofs.TargetTexts.{target_is_text}
+use Rattle.uri_ops.proofs.Theorems.{target_is_text}
 use Rattle.uri_ops.proofs.swap.targets_are_texts.Goals as goal
 
 pub returns : goal.returns

@@ -1,9 +1,9 @@
 use Rattle.std.proofs.Common.{subst}
 use Rattle.uri_pct.specs.Chunks.{widest_set}
 use Rattle.uri_pct.specs.Sets.{LacksPercent}
-use Rattle.uri_pct.proofs.Decoding.{in_widest}
-use Rattle.uri_pct.proofs.EStrs.{valid_in_more}
-use Rattle.uri_pct.proofs.Percent.{lacks_percent}
+use Rattle.uri_pct.proofs.Decodings.Decoding.{in_widest}
+use Rattle.uri_pct.proofs.ValidTexts.EStrs.{valid_in_more}
+use Rattle.uri_pct.proofs.TableSets.Percent.{lacks_percent}
 use Rattle.uri_parts.proofs.connect.decoded_name.Goals as goal
 
 pub of_text-requires : goal.of_text-requires

@@ -1,5 +1,5 @@
 use Rattle.std.proofs.Common.{◌∙◌}
-use Rattle.uri_parts.proofs.SchemePorts.{port_of_constant}
+use Rattle.uri_parts.proofs.Authorities.SchemePorts.{port_of_constant}
 use Rattle.uri_parts.proofs.default_ports.of_scheme.Goals as goal
 
 pub returns : goal.returns

@@ -1,7 +1,7 @@
 use Rattle.std.proofs.Common.{rules, tests, ap, sym, ◌∙◌, option_map}
 use Rattle.std.proofs.lemmas.Iterator.{YieldsList-from_slice}
 use Rattle.std.proofs.lemmas.Iterator.Search.{find_from_yields_List}
-use Rattle.uri_parts.proofs.SchemePorts.{is_named, port_found}
+use Rattle.uri_parts.proofs.Authorities.SchemePorts.{is_named, port_found}
 use Rattle.uri_parts.proofs.default_ports.port_in.Goals as goal
 
 pub returns-in_err-port : goal.returns-in_err-port

@@ -3,7 +3,7 @@ use Rattle.std.specs.Prelude.{option_map, string_bytes}
 use Rattle.std.specs.Str.{IsCharBoundary}
 use Rattle.uri_pct.specs.EStrs.{text_of}
 use Rattle.uri_parts.specs.Fragments.{IsWithFragment}
-use Rattle.uri_parts.proofs.Fragments.{mark_boundary, stripped, added, stays_with, stays_without, same_places}
+use Rattle.uri_parts.proofs.Splitting.Fragments.{mark_boundary, stripped, added, stays_with, stays_without, same_places}
 use Rattle.uri_parts.proofs.fragment.set_fragment.Goals as goal
 
 -- the text that is left without a fragment, and the one with another

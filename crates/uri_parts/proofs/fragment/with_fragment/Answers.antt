@@ -2,7 +2,7 @@ use Rattle.std.proofs.Common.{Some, None, ap, sym, subst, ◌∙◌, ◌++◌, �
 use Rattle.std.specs.Prelude.{option_map, string_bytes}
 use Rattle.uri_pct.specs.EStrs.{text_of}
 use Rattle.uri_parts.specs.Fragments.{IsWithFragment}
-use Rattle.uri_parts.proofs.Fragments.{added, stays_with, stays_without, same_places}
+use Rattle.uri_parts.proofs.Splitting.Fragments.{added, stays_with, stays_without, same_places}
 use Rattle.uri_parts.proofs.fragment.with_fragment.Goals as goal
 
 -- the text that is made without a fragment, and with one

@@ -1,5 +1,5 @@
-use Rattle.uri_parts.proofs.Hosts.{is_host-complete}
-use Rattle.uri_parts.proofs.Authority.{names_outside}
+use Rattle.uri_parts.proofs.Theorems.{is_host-complete}
+use Rattle.uri_parts.proofs.Authorities.Authority.{names_outside}
 use Rattle.uri_parts.proofs.laws.a_host_is_of_one_kind.Goals as goal
 
 pub returns : goal.returns

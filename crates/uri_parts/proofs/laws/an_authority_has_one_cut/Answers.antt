@@ -1,4 +1,4 @@
-use Rattle.uri_parts.proofs.Authority.{authority_parts-only}
+use Rattle.uri_parts.proofs.Theorems.{authority_parts-only}
 use Rattle.uri_parts.proofs.laws.an_authority_has_one_cut.Goals as goal
 
 pub returns : goal.returns

@@ -1,5 +1,5 @@
 use Rattle.uri_parts.specs.Authority.{authority_parts}
-use Rattle.uri_parts.proofs.Authority.{is_authority_for-sound, is_authority_for-complete}
+use Rattle.uri_parts.proofs.Theorems.{is_authority_for-sound, is_authority_for-complete}
 use Rattle.uri_parts.proofs.laws.authority_test_is_the_grammar.Goals as goal
 
 pub returns : goal.returns

@@ -1,4 +1,4 @@
-use Rattle.uri_parts.proofs.Splits.{components-recompose}
+use Rattle.uri_parts.proofs.Theorems.{components-recompose}
 use Rattle.uri_parts.proofs.laws.components_are_the_only_split.Goals as goal
 
 pub returns : goal.returns

@@ -1,4 +1,4 @@
-use Rattle.uri_parts.proofs.Recompose.{recompose-components}
+use Rattle.uri_parts.proofs.Theorems.{recompose-components}
 use Rattle.uri_parts.proofs.laws.components_recompose.Goals as goal
 
 pub returns : goal.returns

@@ -1,6 +1,6 @@
 use Rattle.uri_parts.specs.Hosts.{host_kind}
-use Rattle.uri_parts.proofs.Hosts.{is_host-complete, is_host-sound}
-use Rattle.uri_parts.proofs.Authority.{names_outside}
+use Rattle.uri_parts.proofs.Theorems.{is_host-complete, is_host-sound}
+use Rattle.uri_parts.proofs.Authorities.Authority.{names_outside}
 use Rattle.uri_parts.proofs.laws.host_test_is_the_grammar.Goals as goal
 
 pub returns : goal.returns

@@ -1,6 +1,6 @@
 use Rattle.std.proofs.Common.{◌<◌, arith, sym, ◌∙◌, ltb-true}
 use Rattle.std.proofs.lemmas.Str.{IsCharBoundary-after_ascii}
-use Rattle.uri_parts.proofs.LiteralTexts.{digit_ascii}
+use Rattle.uri_parts.proofs.HostForms.LiteralTexts.{digit_ascii}
 use Rattle.uri_parts.proofs.literal.digits_end.Goals as goal
 
 pub loop-end-preserved : goal.loop-end-preserved

@@ -1,6 +1,6 @@
 use Rattle.std.proofs.Common.{sym, ◌∙◌, lit<}
 use Rattle.std.proofs.lemmas.Str.Pattern.{split_once_first}
-use Rattle.uri_parts.proofs.LiteralTexts.{future_cut, future_uncut, future_unlettered, lettered_boundary}
+use Rattle.uri_parts.proofs.HostForms.LiteralTexts.{future_cut, future_uncut, future_unlettered, lettered_boundary}
 use Rattle.uri_parts.proofs.literal.is_ipv_future.Goals as goal
 
 pub returns-then-not-is_lettered : goal.returns-then-not-is_lettered

@@ -1,6 +1,6 @@
 use Rattle.std.proofs.Common.{sym, ◌∙◌, lit<, drop}
 use Rattle.std.proofs.lemmas.Str.Pattern.{split_once_first}
-use Rattle.uri_parts.proofs.LiteralTexts.{reads_at, literal_end, reads_unclosed}
+use Rattle.uri_parts.proofs.HostForms.LiteralTexts.{reads_at, literal_end, reads_unclosed}
 use Rattle.uri_parts.proofs.literal.literal_end.Goals as goal
 use Rattle.uri_parts.proofs.literal.literal_end.Goals.{in-Some+else-is_literal, in_default}
 

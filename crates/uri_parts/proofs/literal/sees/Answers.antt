@@ -1,5 +1,5 @@
 use Rattle.std.proofs.Common.{arith}
-use Rattle.uri_parts.proofs.LiteralTexts.{behind_ascii}
+use Rattle.uri_parts.proofs.HostForms.LiteralTexts.{behind_ascii}
 use Rattle.uri_parts.proofs.literal.sees.Goals as goal
 
 pub returns-then-index-bytes-clause-behind : goal.returns-then-index-bytes-clause-behind

@@ -1,6 +1,6 @@
 use Rattle.std.proofs.Common.{◌≡◌, ap, sym, ◌∙◌, rules, subst}
 use Rattle.std.specs.Str.{IsCharBoundary}
-use Rattle.uri_pct.proofs.Cuts.{ascii_marks, mark_boundary, to_mark}
+use Rattle.uri_pct.proofs.ValidTexts.Cuts.{ascii_marks, mark_boundary, to_mark}
 use Rattle.uri_parts.proofs.slicing.cut_before.Goals as goal
 
 pub split_at-requires : goal.split_at-requires

@@ -1,6 +1,6 @@
 use Rattle.std.proofs.Common.{length, sym, ap, subst, string_bytes}
 use Rattle.std.specs.String.Boundary.{IsSplitPoint}
-use Rattle.uri_pct.proofs.Kept.{split_kept}
+use Rattle.uri_pct.proofs.ValidTexts.RestoredTexts.{split_kept}
 use Rattle.uri_pct.proofs.encode.append_text.Goals as goal
 
 pub truncate-requires : goal.truncate-requires

@@ -1,7 +1,7 @@
 use Rattle.std.proofs.Common.{◌≡◌, ◌+◌, drop, ap, ◌∙◌}
 use Rattle.uri_pct.specs.Fronts.{front}
 use Rattle.uri_pct.specs.Tables.{set_of}
-use Rattle.uri_pct.proofs.KeptFronts.{plain_set, kept_from, refused_behind}
+use Rattle.uri_pct.proofs.ValidTexts.KeptFronts.{plain_set, kept_from, refused_behind}
 use Rattle.uri_pct.proofs.encode.kept_end.Goals as goal
 
 read_to : (c : goal.After-read) → c.read.result ≡ c.args.start + front (plain_set (set_of c.args.table.now)) (drop c.args.start c.args.text.now)

@@ -4,8 +4,8 @@ use Rattle.std.specs.Str.Chunks.{utf8_chunks_rest, utf8_chunk_valid, utf8_chunk_
 use Rattle.uri_pct.specs.Encoding.{encode_text}
 use Rattle.uri_pct.specs.Tables.{set_of}
 use Rattle.uri_pct.specs.Tokens.{Octet, print}
-use Rattle.uri_pct.proofs.Encodings.{kept_on, bytes_step, bytes_end}
-use Rattle.uri_pct.proofs.Runs.{chunk_pieces}
+use Rattle.uri_pct.proofs.EncodedTexts.Encodings.{kept_on, bytes_step, bytes_end}
+use Rattle.uri_pct.proofs.Unicode.Runs.{chunk_pieces}
 use Rattle.uri_pct.proofs.encode.push_bytes.Goals as goal
 
 pub loop-chunk-preserved : goal.loop-chunk-preserved

@@ -1,6 +1,6 @@
 use Rattle.std.proofs.Common.{sym, ◌∙◌}
 use Rattle.std.specs.Prelude.{slice_index}
-use Rattle.uri_pct.proofs.Masks.{all_bits}
+use Rattle.uri_pct.proofs.TableSets.Masks.{all_bits}
 use Rattle.uri_pct.proofs.lanes.ascii_end.Goals as goal
 
 pub returns : goal.returns

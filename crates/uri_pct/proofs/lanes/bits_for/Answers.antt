@@ -2,7 +2,7 @@ use Rattle.std.proofs.Common.{◌≡◌, ◌∙◌, ap, subst, sym, map, replica
 use Rattle.std.proofs.lemmas.Simd.{zip2_splat, SwzOk, swz_l}
 use Rattle.std.specs.Simd.Lanes.{zip2}
 use Rattle.uri_pct.specs.LaneMasks.{bit_of}
-use Rattle.uri_pct.proofs.LaneMasks.{swizzles, looked_up, bit_place, bit_there, bit_list}
+use Rattle.uri_pct.proofs.LaneScans.LaneMasks.{swizzles, looked_up, bit_place, bit_there, bit_list}
 use Rattle.uri_pct.proofs.lanes.bits_for.Goals as goal
 
 places : (v : List ℕ) → length v ≡ 16 → zip2 bit_and v (replicate 16 135) ≡ map (λ b. bit_and b 135) v

@@ -4,7 +4,7 @@ use Rattle.std.proofs.lemmas.List.{length-map}
 use Rattle.std.proofs.lemmas.Simd.{zip2_splat, SwzOk, swz_l, map-map}
 use Rattle.std.specs.Simd.Lanes.{zip2}
 use Rattle.uri_pct.specs.LaneMasks.{bytes_of_masks}
-use Rattle.uri_pct.proofs.LaneMasks.{swizzles, looked_up, byte_place, byte_there}
+use Rattle.uri_pct.proofs.LaneScans.LaneMasks.{swizzles, looked_up, byte_place, byte_there}
 use Rattle.uri_pct.proofs.lanes.bytes_for.Goals as goal
 
 places : (v : List ℕ) → length v ≡ 16 → zip2 bit_and (zip2 (λ a b. a / 2 ^ b) v (replicate 16 3)) (replicate 16 15) ≡ map (λ b. b / 8 % 16) v

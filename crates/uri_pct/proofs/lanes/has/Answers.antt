@@ -2,7 +2,7 @@ use Rattle.std.proofs.Common.{◌≡◌, ◌-◌, ◌≤◌, ◌∙◌, sym, ap,
 use Rattle.std.specs.Int.{bit_at}
 use Rattle.std.proofs.lemmas.Nat.{and_mask}
 use Rattle.std.proofs.lemmas.Nat.Bits.{shr_and_one}
-use Rattle.uri_pct.proofs.Masks.{has_low_bit, has_high_bit}
+use Rattle.uri_pct.proofs.TableSets.Masks.{has_low_bit, has_high_bit}
 use Rattle.uri_pct.proofs.lanes.has.Goals as goal
 use Rattle.uri_pct.proofs.lanes.has.Goals.{then-byte-lt64, else-byte-lt64}
 

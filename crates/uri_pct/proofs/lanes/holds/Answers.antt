@@ -1,4 +1,4 @@
-use Rattle.uri_pct.proofs.Masks.{bit_read_is}
+use Rattle.uri_pct.proofs.TableSets.Masks.{bit_read_is}
 use Rattle.uri_pct.proofs.lanes.holds.Goals as goal
 
 pub returns : goal.returns

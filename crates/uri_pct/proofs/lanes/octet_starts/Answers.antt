@@ -4,10 +4,10 @@ use Rattle.std.specs.Int.{bit_at, bit_not}
 use Rattle.std.specs.Simd.Lanes.{mask_l, chunk}
 use Rattle.std.proofs.lemmas.Simd.{bitmask_splat, length-chunk}
 use Rattle.uri_pct.specs.Fronts.{has_digits}
-use Rattle.uri_pct.proofs.LaneRuns.{marks_of_load, LaneMarks}
+use Rattle.uri_pct.proofs.LaneScans.LaneRuns.{marks_of_load, LaneMarks}
 use Rattle.uri_pct.specs.Masks.{has_bit}
-use Rattle.uri_pct.proofs.LaneBits.{percent_lane, percents_below}
-use Rattle.uri_pct.proofs.OctetLanes.{octets_begin}
+use Rattle.uri_pct.proofs.LaneScans.LaneBits.{percent_lane, percents_below}
+use Rattle.uri_pct.proofs.LaneScans.OctetLanes.{octets_begin}
 use Rattle.uri_pct.proofs.lanes.octet_starts.Goals as goal
 
 pub returns : goal.returns

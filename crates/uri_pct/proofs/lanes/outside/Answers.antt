@@ -1,7 +1,7 @@
 use Rattle.std.proofs.Common.{◌≡◌, ◌∙◌, ◌^◌, ◌%◌, ap, eqb, cond, bit_and, map, replicate, List, ℕ}
 use Rattle.std.proofs.lemmas.Simd.{length-chunk}
 use Rattle.std.specs.Simd.Lanes.{chunk, zip2, mask_l, top}
-use Rattle.uri_pct.proofs.LaneMasks.{mask_is}
+use Rattle.uri_pct.proofs.LaneScans.LaneMasks.{mask_is}
 use Rattle.uri_pct.proofs.lanes.outside.Goals as goal
 
 mask_of : List ℕ → List ℕ → ℕ

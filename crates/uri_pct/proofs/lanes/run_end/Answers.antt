@@ -1,6 +1,6 @@
 use Rattle.std.proofs.Common.{◌≡◌, ◌+◌, ◌-◌, ◌/◌, ◌^◌, ◌≤◌, ℕ, List, length, map, not, arith, subst, sym}
 use Rattle.std.specs.Simd.Lanes.{mask_l, chunk}
-use Rattle.uri_pct.proofs.LaneRuns.{LaneMarks, marks_of_load, marks_behind, goes_on, ends_there}
+use Rattle.uri_pct.proofs.LaneScans.LaneRuns.{LaneMarks, marks_of_load, marks_behind, goes_on, ends_there}
 use Rattle.uri_pct.specs.Masks.{has_bit}
 use Rattle.uri_pct.proofs.lanes.run_end.Goals as goal
 

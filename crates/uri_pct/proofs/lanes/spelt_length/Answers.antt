@@ -4,8 +4,8 @@ use Rattle.std.proofs.lemmas.Nat.{and_le_l}
 use Rattle.std.proofs.lemmas.Nat.Bits.{bit_at-zero, bit_at-trailing_zeros, bit_at_above}
 use Rattle.std.proofs.lemmas.Bool.{eq-eqb, cases_lt}
 use Rattle.uri_pct.specs.Masks.{has_bit}
-use Rattle.uri_pct.proofs.LaneRuns.{LaneMarks, marks_of_load}
-use Rattle.uri_pct.proofs.OctetLanes.{are_spelt, opened, covered}
+use Rattle.uri_pct.proofs.LaneScans.LaneRuns.{LaneMarks, marks_of_load}
+use Rattle.uri_pct.proofs.LaneScans.OctetLanes.{are_spelt, opened, covered}
 use Rattle.uri_pct.proofs.lanes.spelt_length.Goals as goal
 
 pub returns-then-open-eq0-clause-spelt : goal.returns-then-open-eq0-clause-spelt

@@ -1,7 +1,7 @@
 use Rattle.std.proofs.Common.{◌≡◌, ◌+◌, ◌-◌, ◌*◌, arith}
 use Rattle.std.proofs.lemmas.Str.{IsCharBoundary-from_ascii}
 use Rattle.uri_pct.specs.declared.octet.TheConstants.{OCTETS}
-use Rattle.uri_pct.proofs.OctetTexts.{octet_entry, octets_ascii}
+use Rattle.uri_pct.proofs.Decodings.OctetTexts.{octet_entry, octets_ascii}
 use Rattle.uri_pct.proofs.octet.pct_encoded.Goals as goal
 
 pub range-requires-clause-start_boundary : goal.range-requires-clause-start_boundary

@@ -3,7 +3,7 @@ use Rattle.std.specs.Str.Chunks.{utf8_chunks_rest, utf8_chunk_valid, utf8_chunk_
 use Rattle.std.proofs.lemmas.List.{map-append, nil_from_length}
 use Rattle.uri_pct.specs.Parts.{Read, fault_pieces}
 use Rattle.uri_pct.specs.Pieces.{utf8_pieces}
-use Rattle.uri_pct.proofs.Runs.{chunk_pieces, nil_pieces}
+use Rattle.uri_pct.proofs.Unicode.Runs.{chunk_pieces, nil_pieces}
 use Rattle.uri_pct.proofs.parts.take_run.Goals as goal
 
 pub loop-chunk-preserved : goal.loop-chunk-preserved

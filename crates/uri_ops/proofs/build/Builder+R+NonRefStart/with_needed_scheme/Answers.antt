@@ -1,5 +1,5 @@
 use Rattle.std.proofs.Common.{◌∙◌}
-use Rattle.uri_ops.proofs.BuilderKinds.{fresh_parts}
+use Rattle.uri_ops.proofs.Builders.BuilderKinds.{fresh_parts}
 use Rattle.uri_ops.proofs.build.Builder+R+NonRefStart.with_needed_scheme.Goals as goal
 
 pub returns : goal.returns

@@ -1,5 +1,5 @@
 use Rattle.std.proofs.Common.{◌∙◌}
-use Rattle.uri_ops.proofs.BuilderKinds.{fresh_of_reference, fresh_parts}
+use Rattle.uri_ops.proofs.Builders.BuilderKinds.{fresh_of_reference, fresh_parts}
 use Rattle.uri_ops.proofs.build.Builder+R+Start.of_reference.Goals as goal
 
 pub invariant_of-result : goal.invariant_of-result

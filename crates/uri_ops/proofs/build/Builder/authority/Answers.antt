@@ -1,5 +1,5 @@
 use Rattle.std.proofs.Common.{ap, ◌∙◌}
-use Rattle.uri_ops.proofs.BuilderKinds.{allowed_authority}
+use Rattle.uri_ops.proofs.Builders.BuilderKinds.{allowed_authority}
 use Rattle.uri_ops.proofs.build.Builder.authority.Goals as goal
 
 pub with_authority-requires-clause-rule : goal.with_authority-requires-clause-rule

@@ -3,8 +3,8 @@ use Rattle.std.specs.Prelude.{is_some}
 use Rattle.std.proofs.lemmas.Bool.{false≢true}
 use Rattle.uri_ops.specs.Builders.{builder_parts}
 use Rattle.uri_ops.specs.Built.{IsTextOfParts, refusal}
-use Rattle.uri_ops.proofs.Built.{built, built_kind, nothing_refused}
-use Rattle.uri_ops.proofs.BuilderKinds.{taken_parts}
+use Rattle.uri_ops.proofs.Builders.Built.{built, built_kind, nothing_refused}
+use Rattle.uri_ops.proofs.Builders.BuilderKinds.{taken_parts}
 use Rattle.uri_ops.proofs.build.Builder.build.Goals as goal
 
 pub returns-then-draft-clause-refused : goal.returns-then-draft-clause-refused

@@ -1,5 +1,5 @@
 use Rattle.std.proofs.Common.{ap, ◌∙◌}
-use Rattle.uri_ops.proofs.BuilderKinds.{allowed}
+use Rattle.uri_ops.proofs.Builders.BuilderKinds.{allowed}
 use Rattle.uri_ops.proofs.build.Builder.fragment.Goals as goal
 
 pub with_fragment-requires-clause-rule : goal.with_fragment-requires-clause-rule

@@ -1,5 +1,5 @@
 use Rattle.std.proofs.Common.{ap, ◌∙◌}
-use Rattle.uri_ops.proofs.BuilderKinds.{allowed}
+use Rattle.uri_ops.proofs.Builders.BuilderKinds.{allowed}
 use Rattle.uri_ops.proofs.build.Builder.path.Goals as goal
 
 pub with_path-requires-clause-rule : goal.with_path-requires-clause-rule

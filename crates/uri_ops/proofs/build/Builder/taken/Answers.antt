@@ -1,5 +1,5 @@
 use Rattle.std.proofs.Common.{◌∙◌}
-use Rattle.uri_ops.proofs.BuilderKinds.{is_for_test, mark_kept, mark_set}
+use Rattle.uri_ops.proofs.Builders.BuilderKinds.{is_for_test, mark_kept, mark_set}
 use Rattle.uri_ops.proofs.build.Builder.taken.Goals as goal
 
 pub returns-then-is_for-clause-mark : goal.returns-then-is_for-clause-mark

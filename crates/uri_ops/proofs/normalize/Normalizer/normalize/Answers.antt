@@ -1,7 +1,7 @@
 use Rattle.std.proofs.Common.{subst, sym, string_bytes}
 use Rattle.uri_parts.specs.CoreTexts.{core_text}
 use Rattle.uri_ops.specs.Normalizers.{IsNormalForm, ports_of}
-use Rattle.uri_ops.proofs.NormalForms.{normal_is_of_kind, normal_form}
+use Rattle.uri_ops.proofs.Normal.NormalForms.{normal_is_of_kind, normal_form}
 use Rattle.uri_ops.proofs.normalize.Normalizer.normalize.Goals as goal
 
 pub owned-requires : goal.owned-requires

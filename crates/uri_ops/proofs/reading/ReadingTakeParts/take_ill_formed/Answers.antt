@@ -2,7 +2,7 @@ use Rattle.std.proofs.Common.{map, refl}
 use Rattle.std.proofs.lemmas.Result.{on_ok_weaker}
 use Rattle.uri_pct.specs.Tables.{set_of}
 use Rattle.uri_pct.specs.Tokens.{Octet, print}
-use Rattle.uri_ops.proofs.TakenReadings.{grown, octets_cased}
+use Rattle.uri_ops.proofs.Meanings.TakenReadings.{grown, octets_cased}
 use Rattle.uri_ops.proofs.reading.ReadingTakeParts.take_ill_formed.Goals as goal
 
 pub returns : goal.returns

@@ -3,8 +3,8 @@ use Rattle.std.specs.Str.{str_to_ascii_lowercase}
 use Rattle.std.proofs.lemmas.Bool.{cond-true}
 use Rattle.std.proofs.lemmas.Result.{on_ok_weaker}
 use Rattle.uri_pct.specs.Tables.{set_of}
-use Rattle.uri_pct.proofs.Taking.{when_ok}
-use Rattle.uri_ops.proofs.TakenReadings.{grown, plain_as_is, plain_lowered}
+use Rattle.uri_pct.proofs.Decodings.Taking.{when_ok}
+use Rattle.uri_ops.proofs.Meanings.TakenReadings.{grown, plain_as_is, plain_lowered}
 use Rattle.uri_ops.proofs.reading.ReadingTakeParts.take_unencoded.Goals as goal
 
 pub returns-then-self : goal.returns-then-self

@@ -4,7 +4,7 @@ use Rattle.std.proofs.lemmas.Result.{on_ok_weaker}
 use Rattle.uri_pct.specs.Encoding.{encode_text}
 use Rattle.uri_pct.specs.Tables.{set_of}
 use Rattle.uri_pct.specs.Tokens.{print}
-use Rattle.uri_ops.proofs.TakenReadings.{grown, spelt_as_is, spelt_lowered}
+use Rattle.uri_ops.proofs.Meanings.TakenReadings.{grown, spelt_as_is, spelt_lowered}
 use Rattle.uri_ops.proofs.reading.ReadingTakeParts.take_well_formed.Goals as goal
 
 pub returns-in_ok-lower : goal.returns-in_ok-lower

@@ -6,8 +6,8 @@ use Rattle.uri_ops.specs.Normalizers.{ports_of}
 use Rattle.uri_ops.specs.NormalTargets.{IsNormalTarget, IsRefusedAlike}
 use Rattle.uri_ops.specs.Resolvers.{base_of}
 use Rattle.uri_ops.specs.declared.resolve.ResolveError.TheVariants.{OutOfMemory}
-use Rattle.uri_ops.proofs.NormalForms.{normal_is_of_kind, normal_form}
-use Rattle.uri_ops.proofs.NormalTargets.{err_from, normal_target, refusal}
+use Rattle.uri_ops.proofs.Normal.NormalForms.{normal_is_of_kind, normal_form}
+use Rattle.uri_ops.proofs.Targeting.NormalTargets.{err_from, normal_target, refusal}
 use Rattle.uri_ops.proofs.resolve.Resolver.resolve_normalized.Goals as goal
 
 pub returns-in_err-target-clause-refusal : goal.returns-in_err-target-clause-refusal

@@ -1,5 +1,5 @@
 use Rattle.std.proofs.Common.{◌∙◌}
-use Rattle.uri_parts.proofs.AuthorityPlaces.{host_place}
+use Rattle.uri_parts.proofs.Authorities.AuthorityPlaces.{host_place}
 use Rattle.uri_parts.proofs.component.Authority.host.Goals as goal
 
 pub range-requires-clause-start_boundary : goal.range-requires-clause-start_boundary

@@ -3,11 +3,11 @@ use Rattle.std.specs.Prelude.{codes}
 use Rattle.uri_parts.specs.Addresses.{ipv4_octets, ipv6_segments}
 use Rattle.uri_parts.specs.Components.{starts, before_any}
 use Rattle.uri_parts.specs.Hosts.{host_kind, ipv4_value}
-use Rattle.uri_parts.proofs.AuthorityPlaces.{holds, name_valid, name_kind_of, literal_kind_of}
+use Rattle.uri_parts.proofs.Authorities.AuthorityPlaces.{holds, name_valid, name_kind_of, literal_kind_of}
 use Rattle.uri_parts.proofs.component.Authority.host_parsed.Goals as goal
 
-pub new_unchecked-requires : goal.new_unchecked-requires
-new_unchecked-requires g c =
+pub new_or_panic-requires : goal.new_or_panic-requires
+new_or_panic-requires g c =
     let host = c.host-host.result.now in
     let s : starts 91 host ≡ false = sym c.in-None.ensures.begins in
     let v : ipv4_value host ≡ None = sym c.in-None-read-2.ensures in

@@ -1,5 +1,5 @@
 use Rattle.std.proofs.Common.{refl}
-use Rattle.uri_parts.proofs.AuthorityPlaces.{empty_is}
+use Rattle.uri_parts.proofs.Authorities.AuthorityPlaces.{empty_is}
 use Rattle.uri_parts.proofs.component.Authority.new_empty.Goals as goal
 
 pub invariant_of-result : goal.invariant_of-result

@@ -2,7 +2,7 @@ use Rattle.std.proofs.Common.{◌≡◌, ◌∙◌, length, ap, sym, arith, ⊎_
 use Rattle.std.specs.Str.{IsUtf8}
 use Rattle.uri_pct.specs.Sets.{digit_set}
 use Rattle.uri_pct.specs.Tokens.{is_valid_for}
-use Rattle.uri_parts.proofs.AuthorityPlaces.{port_place, with_port}
+use Rattle.uri_parts.proofs.Authorities.AuthorityPlaces.{port_place, with_port}
 use Rattle.uri_parts.specs.Authority.{authority_parts}
 use Rattle.uri_parts.specs.Positions.{host_end_of}
 use Rattle.uri_parts.proofs.component.Authority.port.Goals as goal
@@ -25,8 +25,8 @@ range_from-requires g c =
     let text = c.as_str-text.result.now in
     λ _. (with_port g.U.Encoder.set g.R.Encoder.set text c.args.self.host_end c.as_str-text.ensures.valid c.as_str-text.utf8 (c.args.self.ends ∙ ap host_end_of (sym c.as_str-text.ensures.text)) c.if-self-text.false).cut
 
-pub new_unchecked-requires : goal.new_unchecked-requires
-new_unchecked-requires g c =
+pub new_or_panic-requires : goal.new_or_panic-requires
+new_or_panic-requires g c =
     let text = c.as_str-text.result.now in
     ap (is_valid_for digit_set) c.range_from.ensures.value
     ∙ (with_port g.U.Encoder.set g.R.Encoder.set text c.args.self.host_end c.as_str-text.ensures.valid c.as_str-text.utf8 (c.args.self.ends ∙ ap host_end_of (sym c.as_str-text.ensures.text)) c.if-self-text.false).valid
@@ -34,6 +34,6 @@ new_unchecked-requires g c =
 pub returns : goal.returns
 returns g c =
     let text = c.as_str-text.result.now in
-    ap Some (c.new_unchecked.ensures ∙ c.range_from.ensures.value)
+    ap Some (c.new_or_panic.ensures ∙ c.range_from.ensures.value)
     ∙ (with_port g.U.Encoder.set g.R.Encoder.set text c.args.self.host_end c.as_str-text.ensures.valid c.as_str-text.utf8 (c.args.self.ends ∙ ap host_end_of (sym c.as_str-text.ensures.text)) c.if-self-text.false).is
     ∙ ap (λ t. (authority_parts t).port) c.as_str-text.ensures.text

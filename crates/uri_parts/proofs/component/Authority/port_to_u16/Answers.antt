@@ -1,7 +1,7 @@
 use Rattle.std.proofs.Common.{ap, sym, ◌∙◌, length, eqb, Some, rules}
 use Rattle.std.specs.Prelude.{option_map}
 use Rattle.uri_pct.specs.EStrs.{text_of}
-use Rattle.uri_parts.proofs.Ports.{port_parsed}
+use Rattle.uri_parts.proofs.Authorities.Ports.{port_parsed}
 use Rattle.uri_parts.proofs.component.Authority.port_to_u16.Goals as goal
 
 pub returns-in_err-parse-in-Some-clause-number : goal.returns-in_err-parse-in-Some-clause-number

@@ -1,6 +1,6 @@
 use Rattle.std.proofs.Common.{◌≡◌, None, subst}
 use Rattle.uri_parts.specs.Hosts.{ipv6_value}
-use Rattle.uri_parts.proofs.Parsed.{ipv6_refused}
+use Rattle.uri_parts.proofs.HostForms.ParsedAddresses.{ipv6_refused}
 use Rattle.uri_parts.proofs.net.Ipv6Addr.read.Goals as goal
 
 pub returns-in-Err : goal.returns-in-Err

@@ -1,5 +1,5 @@
 use Rattle.std.proofs.Common.{ap, ◌∙◌, Some}
-use Rattle.uri_parts.proofs.Places.{authority_place}
+use Rattle.uri_parts.proofs.Splitting.Places.{authority_place}
 use Rattle.uri_parts.proofs.positions.Positions.authority.Goals as goal
 
 pub range-requires-clause-start_boundary : goal.range-requires-clause-start_boundary

@@ -1,4 +1,4 @@
-use Rattle.uri_parts.proofs.Places.{path_place}
+use Rattle.uri_parts.proofs.Splitting.Places.{path_place}
 use Rattle.uri_parts.proofs.positions.Positions.path.Goals as goal
 
 pub range-requires-clause-start_boundary : goal.range-requires-clause-start_boundary

@@ -1,6 +1,6 @@
 use Rattle.std.proofs.Common.{not, ap, ◌∙◌}
 use Rattle.uri_pct.specs.Texts.{is_unencoded}
-use Rattle.uri_pct.proofs.Percent.{lacks_unless_found}
+use Rattle.uri_pct.proofs.TableSets.Percent.{lacks_unless_found}
 use Rattle.uri_pct.proofs.decode.Decode.is_unencoded.Goals as goal
 
 pub returns : goal.returns

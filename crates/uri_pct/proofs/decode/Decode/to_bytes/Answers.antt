@@ -5,7 +5,7 @@ use Rattle.std.proofs.lemmas.Grind.{common_steps}
 use Rattle.uri_pct.specs.Chunks.{chunk_bytes}
 use Rattle.uri_pct.specs.Decodes.{chunks_left, decoded}
 use Rattle.uri_pct.specs.Tokens.{tokens}
-use Rattle.uri_pct.proofs.PartPieces.{token_bytes-unencoded, chunk_bytes-chunks_of, left_decoded}
+use Rattle.uri_pct.proofs.Unicode.PartPieces.{token_bytes-unencoded, chunk_bytes-chunks_of, left_decoded}
 use Rattle.uri_pct.proofs.decode.Decode.to_bytes.Goals as goal
 
 pub returns-then-is_unencoded-clause-bytes : goal.returns-then-is_unencoded-clause-bytes

@@ -2,9 +2,9 @@ use Rattle.std.proofs.Common.{ℕ, Vec, Global, refl, sym, ap, ◌∙◌, subst}
 use Rattle.std.specs.Str.{IsUtf8}
 use Rattle.std.proofs.lemmas.Bool.{both_ways}
 use Rattle.uri_pct.specs.Decodes.{decoded}
-use Rattle.uri_pct.proofs.Lossy.{well_formed-IsUtf8, IsUtf8-well_formed}
-use Rattle.uri_pct.proofs.PartPieces.{token_bytes-unencoded, left_decoded}
-use Rattle.uri_pct.proofs.Taking.{taken_bytes, taken_is_text}
+use Rattle.uri_pct.proofs.Unicode.Lossy.{well_formed-IsUtf8, IsUtf8-well_formed}
+use Rattle.uri_pct.proofs.Unicode.PartPieces.{token_bytes-unencoded, left_decoded}
+use Rattle.uri_pct.proofs.Decodings.Taking.{taken_bytes, taken_is_text}
 use Rattle.uri_pct.proofs.decode.Decode.to_string.Goals as goal
 
 pub returns-then-is_unencoded-clause-text : goal.returns-then-is_unencoded-clause-text

@@ -1,9 +1,9 @@
 use Rattle.std.proofs.Common.{sym, ap, ◌∙◌, subst}
 use Rattle.std.specs.Str.{IsUtf8}
 use Rattle.uri_pct.specs.Pieces.{lossy_text}
-use Rattle.uri_pct.proofs.Lossy.{lossy_of_text}
-use Rattle.uri_pct.proofs.PartPieces.{token_bytes-unencoded, left_decoded}
-use Rattle.uri_pct.proofs.Taking.{taken_text}
+use Rattle.uri_pct.proofs.Unicode.Lossy.{lossy_of_text}
+use Rattle.uri_pct.proofs.Unicode.PartPieces.{token_bytes-unencoded, left_decoded}
+use Rattle.uri_pct.proofs.Decodings.Taking.{taken_text}
 use Rattle.uri_pct.proofs.decode.Decode.to_string_lossy.Goals as goal
 
 pub returns-then-is_unencoded-clause-text : goal.returns-then-is_unencoded-clause-text

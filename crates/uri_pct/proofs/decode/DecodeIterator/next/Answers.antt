@@ -4,7 +4,7 @@ use Rattle.std.specs.List.{position_or_len}
 use Rattle.std.specs.Str.{IsUtf8}
 use Rattle.uri_pct.specs.Chunks.{Byte, Text, chunks, widest_set}
 use Rattle.uri_pct.specs.Tokens.{IsValidFor}
-use Rattle.uri_pct.proofs.Decoding.{octet_of_bytes, text_of_bytes, octet_boundary, chunks-octet, chunks-nil}
+use Rattle.uri_pct.proofs.Decodings.Decoding.{octet_of_bytes, text_of_bytes, octet_boundary, chunks-octet, chunks-nil}
 use Rattle.std.proofs.lemmas.List.{nil_from_length}
 use Rattle.std.proofs.lemmas.Bool.{eqb-true}
 use Rattle.uri_pct.proofs.decode.DecodeIterator.next.Goals as goal

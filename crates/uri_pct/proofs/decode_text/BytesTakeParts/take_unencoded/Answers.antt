@@ -1,6 +1,6 @@
 use Rattle.std.proofs.Common.{ap, ◌∙◌, ◌++◌, refl}
 use Rattle.std.proofs.lemmas.Bool.{cond-true}
-use Rattle.uri_pct.proofs.Taking.{when_ok, took_text, plain_pieces}
+use Rattle.uri_pct.proofs.Decodings.Taking.{when_ok, took_text, plain_pieces}
 use Rattle.uri_pct.proofs.decode_text.BytesTakeParts.take_unencoded.Goals as goal
 
 pub returns : goal.returns

@@ -1,8 +1,8 @@
 use Rattle.std.proofs.Common.{ap, ◌∙◌, ◌++◌, refl}
 use Rattle.std.proofs.lemmas.Bool.{cond-true}
 use Rattle.uri_pct.specs.Pieces.{utf8_pieces}
-use Rattle.uri_pct.proofs.Taking.{when_ok, took_text}
-use Rattle.uri_pct.proofs.PartPieces.{read_pieces}
+use Rattle.uri_pct.proofs.Decodings.Taking.{when_ok, took_text}
+use Rattle.uri_pct.proofs.Unicode.PartPieces.{read_pieces}
 use Rattle.uri_pct.proofs.decode_text.BytesTakeParts.take_well_formed.Goals as goal
 
 pub returns : goal.returns

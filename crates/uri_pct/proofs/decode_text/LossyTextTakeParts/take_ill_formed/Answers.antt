@@ -1,7 +1,7 @@
 use Rattle.std.proofs.Common.{◌∙◌}
 use Rattle.std.specs.Char.{encode_utf8}
 use Rattle.std.proofs.lemmas.Bool.{cond-true}
-use Rattle.uri_pct.proofs.Taking.{when_ok}
+use Rattle.uri_pct.proofs.Decodings.Taking.{when_ok}
 use Rattle.uri_pct.proofs.decode_text.LossyTextTakeParts.take_ill_formed.Goals as goal
 
 pub returns : goal.returns

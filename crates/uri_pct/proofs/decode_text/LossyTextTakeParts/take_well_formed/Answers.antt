@@ -1,8 +1,8 @@
 use Rattle.std.proofs.Common.{◌∙◌}
 use Rattle.std.proofs.lemmas.Bool.{cond-true}
 use Rattle.uri_pct.specs.Pieces.{utf8_pieces}
-use Rattle.uri_pct.proofs.Taking.{when_ok, lossy_took_text}
-use Rattle.uri_pct.proofs.PartPieces.{read_pieces}
+use Rattle.uri_pct.proofs.Decodings.Taking.{when_ok, lossy_took_text}
+use Rattle.uri_pct.proofs.Unicode.PartPieces.{read_pieces}
 use Rattle.uri_pct.proofs.decode_text.LossyTextTakeParts.take_well_formed.Goals as goal
 
 pub returns : goal.returns

@@ -3,8 +3,8 @@ use Rattle.uri_pct.specs.Encoding.{encode_bytes}
 use Rattle.uri_pct.specs.Tables.{set_of}
 use Rattle.uri_pct.specs.Tokens.{print}
 use Rattle.std.proofs.lemmas.Str.{IsUtf8-string_bytes}
-use Rattle.uri_pct.proofs.EncodedTokens.{all_small}
-use Rattle.uri_pct.proofs.Growing.{by_bytes, valid_either}
+use Rattle.uri_pct.proofs.EncodedTexts.EncodedTokens.{all_small}
+use Rattle.uri_pct.proofs.ValidTexts.Growing.{by_bytes, valid_either}
 use Rattle.uri_pct.proofs.estring.EString.encode_bytes.Goals as goal
 
 pub invariant_of-self : goal.invariant_of-self

@@ -3,7 +3,7 @@ use Rattle.uri_pct.specs.Encoding.{encode_text}
 use Rattle.uri_pct.specs.Tables.{set_of}
 use Rattle.uri_pct.specs.Tokens.{print}
 use Rattle.std.proofs.lemmas.Str.{IsUtf8-string_bytes}
-use Rattle.uri_pct.proofs.Growing.{by_text, valid_either}
+use Rattle.uri_pct.proofs.ValidTexts.Growing.{by_text, valid_either}
 use Rattle.uri_pct.proofs.estring.EString.encode_str.Goals as goal
 
 pub invariant_of-self : goal.invariant_of-self

@@ -1,6 +1,6 @@
 use Rattle.std.proofs.Common.{subst}
 use Rattle.uri_pct.specs.Sets.{LacksPercent}
-use Rattle.uri_pct.proofs.Percent.{lacks_percent}
+use Rattle.uri_pct.proofs.TableSets.Percent.{lacks_percent}
 use Rattle.uri_pct.proofs.estring.EString.of_text.Goals as goal
 
 pub invariant_of-result : goal.invariant_of-result

@@ -1,7 +1,7 @@
 use Rattle.std.proofs.Common.{string_bytes}
 use Rattle.std.specs.Char.{encode_utf8}
 use Rattle.std.proofs.lemmas.Str.{IsUtf8-string_bytes}
-use Rattle.uri_pct.proofs.Growing.{by_char, valid_pushed}
+use Rattle.uri_pct.proofs.ValidTexts.Growing.{by_char, valid_pushed}
 use Rattle.uri_pct.proofs.estring.EString.push.Goals as goal
 
 pub invariant_of-self : goal.invariant_of-self

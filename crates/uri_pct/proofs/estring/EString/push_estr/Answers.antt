@@ -1,7 +1,7 @@
 use Rattle.std.proofs.Common.{◌++◌, ap, ◌∙◌, string_bytes}
 use Rattle.uri_pct.specs.Tokens.{tokens}
 use Rattle.std.proofs.lemmas.Str.{IsUtf8-string_bytes}
-use Rattle.uri_pct.proofs.Growing.{by_valid, valid_pushed}
+use Rattle.uri_pct.proofs.ValidTexts.Growing.{by_valid, valid_pushed}
 use Rattle.uri_pct.proofs.estring.EString.push_estr.Goals as goal
 
 pub invariant_of-self : goal.invariant_of-self

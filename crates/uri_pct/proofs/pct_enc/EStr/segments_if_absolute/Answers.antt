@@ -2,8 +2,8 @@ use Rattle.std.proofs.Common.{◌≡◌, ◌<◌, ◌∷◌, [], length, get_or,
 use Rattle.std.proofs.lemmas.Bool.{not-false}
 use Rattle.std.proofs.lemmas.Str.{IsCharBoundary-after_ascii}
 use Rattle.uri_pct.specs.Texts.{is_absolute}
-use Rattle.uri_pct.proofs.Delimiters.{absolute_text}
-use Rattle.uri_pct.proofs.TokenCuts.{reserved_mark, slash_reserved, valid_after}
+use Rattle.uri_pct.proofs.ValidTexts.Delimiters.{absolute_text}
+use Rattle.uri_pct.proofs.ValidTexts.TokenCuts.{reserved_mark, slash_reserved, valid_after}
 use Rattle.uri_pct.proofs.pct_enc.EStr.segments_if_absolute.Goals as goal
 
 pub range_from-requires : goal.range_from-requires
@@ -14,8 +14,8 @@ range_from-requires g c =
     let some : 0 < length text = omega (arith, ap length begins) in
     λ _. IsCharBoundary-after_ascii text 0 c.as_str.utf8 some (omega arith)
 
-pub new_unchecked-rest-requires : goal.new_unchecked-rest-requires
-new_unchecked-rest-requires g c =
+pub new_or_panic-rest-requires : goal.new_or_panic-rest-requires
+new_or_panic-rest-requires g c =
     let text = c.as_str.result.now in
     let begins : text ≡ 47 ∷ drop 1 text = absolute_text text (ap is_absolute c.as_str.ensures.text ∙ not-false _ (sym c.is_rootless.ensures ∙ c.if-is_rootless.false)) in
     rw c.range_from.ensures.value (valid_after g.E.Encoder.set text [] (drop 1 text) 47 c.as_str.ensures.valid begins (reserved_mark 47 slash_reserved) c.as_str.utf8)

@@ -4,8 +4,8 @@ use Rattle.std.proofs.lemmas.List.Splits.{join_with_byte-slice_split}
 use Rattle.std.proofs.lemmas.List.Sums.{AllPass-from_list_all}
 use Rattle.uri_pct.specs.EStrs.{text_of}
 use Rattle.uri_pct.specs.Texts.{lacks}
-use Rattle.uri_pct.proofs.Counts.{length-pieces}
-use Rattle.uri_pct.proofs.Delimiters.{pieces_lack}
+use Rattle.uri_pct.proofs.Decodings.Counts.{length-pieces}
+use Rattle.uri_pct.proofs.ValidTexts.Delimiters.{pieces_lack}
 use Rattle.uri_pct.proofs.pct_enc.EStr.split.Goals as goal
 
 pub returns-clause-joined : goal.returns-clause-joined

@@ -2,8 +2,8 @@ use Rattle.std.proofs.Common.{◌≡◌, ◌∷◌, [], eqb, length, rules, ap, 
 use Rattle.std.specs.List.{slice_split}
 use Rattle.uri_pct.specs.EStrs.{text_of}
 use Rattle.uri_pct.specs.Splits.{pieces_left}
-use Rattle.uri_pct.proofs.Delimiters.{pieces_first, slice_split_lacks}
-use Rattle.uri_pct.proofs.Splits.{pieces_left-at}
+use Rattle.uri_pct.proofs.ValidTexts.Delimiters.{pieces_first, slice_split_lacks}
+use Rattle.uri_pct.proofs.Decodings.Splits.{pieces_left-at}
 use Rattle.uri_pct.proofs.split.SplitIterator.next.Goals as goal
 
 cut : (g : _) (c : goal.After-self-1 g) → pieces_left c.args.self.now ≡ text_of c.in-Some.piece ∷ slice_split (λ b. eqb b c.args.self.now.delimiter) (text_of c.in-Some.rest)

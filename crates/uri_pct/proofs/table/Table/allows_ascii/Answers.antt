@@ -1,5 +1,5 @@
 use Rattle.std.proofs.Common.{sym, ◌∙◌}
-use Rattle.uri_pct.proofs.Masks.{bit_ascii}
+use Rattle.uri_pct.proofs.TableSets.Masks.{bit_ascii}
 use Rattle.uri_pct.proofs.table.Table.allows_ascii.Goals as goal
 
 pub returns-clause-ascii : goal.returns-clause-ascii

@@ -1,5 +1,5 @@
 use Rattle.std.proofs.Common.{arith}
-use Rattle.uri_pct.proofs.Tables.{empty_if_clear, clear_if_empty}
+use Rattle.uri_pct.proofs.TableSets.Tables.{empty_if_clear, clear_if_empty}
 use Rattle.uri_pct.proofs.table.Table.is_empty.Goals as goal
 
 pub returns : goal.returns

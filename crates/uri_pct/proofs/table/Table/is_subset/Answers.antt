@@ -1,6 +1,6 @@
 use Rattle.std.proofs.Common.{◌∙◌, sym}
 use Rattle.uri_pct.specs.Tables.{set_of}
-use Rattle.uri_pct.proofs.Tables.{subset_if_empty, empty_if_subset}
+use Rattle.uri_pct.proofs.TableSets.Tables.{subset_if_empty, empty_if_subset}
 use Rattle.uri_pct.proofs.table.Table.is_subset.Goals as goal
 
 pub returns : goal.returns

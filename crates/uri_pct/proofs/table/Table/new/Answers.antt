@@ -3,8 +3,8 @@ use Rattle.std.proofs.lemmas.List.{take_all}
 use Rattle.std.proofs.lemmas.List.Folds.{list_any_more}
 use Rattle.uri_pct.specs.Sets.{is_one_of}
 use Rattle.uri_pct.specs.Masks.{has_bit}
-use Rattle.uri_pct.proofs.Masks.{percent_bit, has_no_bits, has_bit_set_low, has_bit_set_high}
-use Rattle.uri_pct.proofs.Tables.{not_one_of, plain_bytes}
+use Rattle.uri_pct.proofs.TableSets.Masks.{percent_bit, has_no_bits, has_bit_set_low, has_bit_set_high}
+use Rattle.uri_pct.proofs.TableSets.Tables.{not_one_of, plain_bytes}
 use Rattle.uri_pct.proofs.table.Table.new.Goals as goal
 use Rattle.uri_pct.proofs.table.Table.new.Goals.{then-byte-lt64, else-byte-lt64}
 

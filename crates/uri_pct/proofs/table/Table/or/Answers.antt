@@ -1,9 +1,9 @@
 use Rattle.std.proofs.Common.{◌∙◌, sym, ◌||◌}
 use Rattle.std.proofs.lemmas.Bool.{or_from}
 use Rattle.uri_pct.specs.Masks.{has_bit}
-use Rattle.uri_pct.proofs.Masks.{has_bit_or, percent_bit}
-use Rattle.uri_pct.proofs.Percent.{lacks_percent}
-use Rattle.uri_pct.proofs.Tables.{same_set}
+use Rattle.uri_pct.proofs.TableSets.Masks.{has_bit_or, percent_bit}
+use Rattle.uri_pct.proofs.TableSets.Percent.{lacks_percent}
+use Rattle.uri_pct.proofs.TableSets.Tables.{same_set}
 use Rattle.uri_pct.proofs.table.Table.or.Goals as goal
 
 pub invariant_of-result : goal.invariant_of-result

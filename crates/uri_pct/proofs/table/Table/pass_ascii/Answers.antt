@@ -3,10 +3,10 @@ use Rattle.std.proofs.lemmas.Str.{IsCharBoundary-after_ascii}
 use Rattle.uri_pct.specs.ByteRuns.{IsRun}
 use Rattle.uri_pct.specs.Masks.{has_bit}
 use Rattle.uri_pct.specs.Tables.{set_of}
-use Rattle.uri_pct.proofs.AsciiRuns.{run_read}
-use Rattle.uri_pct.proofs.Fronts.{front-char}
-use Rattle.uri_pct.proofs.Masks.{bit_ascii}
-use Rattle.uri_pct.proofs.Percent.{lacks_percent}
+use Rattle.uri_pct.proofs.LaneScans.AsciiRuns.{run_read}
+use Rattle.uri_pct.proofs.ValidTexts.Fronts.{front-char}
+use Rattle.uri_pct.proofs.TableSets.Masks.{bit_ascii}
+use Rattle.uri_pct.proofs.TableSets.Percent.{lacks_percent}
 use Rattle.uri_pct.proofs.table.Table.pass_ascii.Goals as goal
 
 pub returns-then-bytes-ge-LANES-clause-total : goal.returns-then-bytes-ge-LANES-clause-total

@@ -5,9 +5,9 @@ use Rattle.uri_pct.specs.Fronts.{front}
 use Rattle.uri_pct.specs.Masks.{has_bit}
 use Rattle.uri_pct.specs.Tables.{set_of}
 use Rattle.uri_pct.specs.declared.table.Table.{Table}
-use Rattle.uri_pct.proofs.Masks.{bit_ascii}
-use Rattle.uri_pct.proofs.Percent.{lacks_percent}
-use Rattle.uri_pct.proofs.SpeltRuns.{spelt_read}
+use Rattle.uri_pct.proofs.TableSets.Masks.{bit_ascii}
+use Rattle.uri_pct.proofs.TableSets.Percent.{lacks_percent}
+use Rattle.uri_pct.proofs.ValidTexts.SpeltRuns.{spelt_read}
 use Rattle.uri_pct.proofs.table.Table.pass_blocks.Goals as goal
 
 -- one block further

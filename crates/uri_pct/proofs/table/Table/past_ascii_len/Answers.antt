@@ -5,8 +5,8 @@ use Rattle.std.specs.Str.{IsCharBoundary}
 use Rattle.std.proofs.lemmas.Bool.{and_parts, cond-false}
 use Rattle.uri_pct.specs.Fronts.{front}
 use Rattle.uri_pct.specs.Tables.{set_of}
-use Rattle.uri_pct.proofs.Fronts.{front-past-at}
-use Rattle.uri_pct.proofs.LeadBytes.{two_read, three_read, char_read, lead_range}
+use Rattle.uri_pct.proofs.ValidTexts.Fronts.{front-past-at}
+use Rattle.uri_pct.proofs.TableSets.LeadBytes.{two_read, three_read, char_read, lead_range}
 use Rattle.uri_pct.proofs.table.Table.past_ascii_len.Goals as goal
 
 two : (c : goal.Then-byte-lt224) → (front (set_of c.args.self.now) (drop c.args.index c.args.text.now) ≡ front (set_of c.args.self.now) (drop (c.args.index + 2) c.args.text.now) + 2) × IsCharBoundary c.args.text.now (c.args.index + 2)

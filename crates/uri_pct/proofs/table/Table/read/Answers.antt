@@ -1,8 +1,8 @@
 use Rattle.std.proofs.Common.{◌≡◌, ◌+◌, ◌<◌, ◌≤◌, ◌∙◌, false, length, drop, get_or, arith, sym}
 use Rattle.uri_pct.specs.Fronts.{front}
 use Rattle.uri_pct.specs.Tables.{set_of}
-use Rattle.uri_pct.proofs.Fronts.{front-end, front-done}
-use Rattle.uri_pct.proofs.Percent.{lacks_percent}
+use Rattle.uri_pct.proofs.ValidTexts.Fronts.{front-end, front-done}
+use Rattle.uri_pct.proofs.TableSets.Percent.{lacks_percent}
 use Rattle.uri_pct.proofs.table.Table.read.Goals as goal
 use Rattle.uri_pct.proofs.table.Table.read.Goals.{then-i-bytes-via-then-i-bytes, then-i-bytes-via-else-i-bytes+then-not-may_go_on}
 

@@ -3,9 +3,9 @@ use Rattle.std.proofs.lemmas.Bool.{and_left, and_right, ne_eqb}
 use Rattle.std.proofs.lemmas.Str.{IsCharBoundary-after_ascii}
 use Rattle.uri_pct.specs.Fronts.{front, has_digits}
 use Rattle.uri_pct.specs.Tables.{set_of}
-use Rattle.uri_pct.proofs.Fronts.{front-end, front-char, front-stop, front-stray}
-use Rattle.uri_pct.proofs.Percent.{lacks_percent}
-use Rattle.uri_pct.proofs.SpeltRuns.{octet_read}
+use Rattle.uri_pct.proofs.ValidTexts.Fronts.{front-end, front-char, front-stop, front-stray}
+use Rattle.uri_pct.proofs.TableSets.Percent.{lacks_percent}
+use Rattle.uri_pct.proofs.ValidTexts.SpeltRuns.{octet_read}
 use Rattle.uri_pct.proofs.table.Table.read_on.Goals as goal
 use Rattle.uri_pct.proofs.table.Table.read_on.Goals.{then-not-allows_pct_encoded-via-then-not-allows_pct_encoded, then-not-allows_pct_encoded-via-else-not-allows_pct_encoded+then-not-begins_octet}
 

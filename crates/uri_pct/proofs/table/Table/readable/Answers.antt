@@ -1,5 +1,5 @@
 use Rattle.uri_pct.specs.Tables.{set_of}
-use Rattle.uri_pct.proofs.Readable.{allows_where_readable}
+use Rattle.uri_pct.proofs.TableSets.Readable.{allows_where_readable}
 use Rattle.uri_pct.proofs.table.Table.readable.Goals as goal
 
 pub returns : goal.returns

@@ -1,9 +1,9 @@
 use Rattle.std.proofs.Common.{◌∙◌, sym, ◌&&◌, not, arith}
 use Rattle.std.proofs.lemmas.Bool.{and_left}
 use Rattle.uri_pct.specs.Masks.{has_bit}
-use Rattle.uri_pct.proofs.Masks.{has_bit_without, percent_bit}
-use Rattle.uri_pct.proofs.Percent.{lacks_percent}
-use Rattle.uri_pct.proofs.Tables.{same_set}
+use Rattle.uri_pct.proofs.TableSets.Masks.{has_bit_without, percent_bit}
+use Rattle.uri_pct.proofs.TableSets.Percent.{lacks_percent}
+use Rattle.uri_pct.proofs.TableSets.Tables.{same_set}
 use Rattle.uri_pct.proofs.table.Table.sub.Goals as goal
 
 pub invariant_of-result : goal.invariant_of-result

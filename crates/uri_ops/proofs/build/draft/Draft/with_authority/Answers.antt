@@ -3,7 +3,7 @@ use Rattle.std.specs.Prelude.{Some, is_some, is_none}
 use Rattle.std.specs.Option.{option_map_or}
 use Rattle.uri_ops.specs.BuilderParts.{with_authority}
 use Rattle.uri_ops.specs.Builders.{is_before_path, is_before_userinfo}
-use Rattle.uri_ops.proofs.BuilderDrafts.{adds_of, at_authority, behind_authority, authority_draft, stands}
+use Rattle.uri_ops.proofs.Builders.BuilderDrafts.{adds_of, at_authority, behind_authority, authority_draft, stands}
 use Rattle.uri_ops.proofs.build.draft.Draft.with_authority.Goals as goal
 
 pub appended-requires : goal.appended-requires

@@ -2,7 +2,7 @@ use Rattle.std.proofs.Common.{◌&&◌, ◌||◌, ◌++◌, not, length, codes}
 use Rattle.std.specs.Prelude.{Some, is_some}
 use Rattle.uri_ops.specs.BuilderParts.{with_fragment}
 use Rattle.uri_ops.specs.Builders.{is_at_end}
-use Rattle.uri_ops.proofs.BuilderDrafts.{adds_of, behind_fragment, fragment_draft, stands}
+use Rattle.uri_ops.proofs.Builders.BuilderDrafts.{adds_of, behind_fragment, fragment_draft, stands}
 use Rattle.uri_ops.proofs.build.draft.Draft.with_fragment.Goals as goal
 
 pub appended-requires : goal.appended-requires

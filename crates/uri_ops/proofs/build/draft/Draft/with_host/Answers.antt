@@ -2,8 +2,8 @@ use Rattle.std.proofs.Common.{◌≡◌, ◌∙◌, false, subst, string_bytes}
 use Rattle.uri_ops.specs.BuilderParts.{takes_host, takes_port, with_host}
 use Rattle.uri_ops.specs.Builders.{draft_kind, is_before_host, is_before_port}
 use Rattle.uri_ops.specs.HostParts.{IsHostText}
-use Rattle.uri_ops.proofs.BuilderDrafts.{adds_from}
-use Rattle.uri_ops.proofs.BuilderGrowth.{behind_more, host_goes_on, known_sets, more_draft, string_length}
+use Rattle.uri_ops.proofs.Builders.BuilderDrafts.{adds_from}
+use Rattle.uri_ops.proofs.Builders.BuilderGrowth.{behind_more, host_goes_on, known_sets, more_draft, string_length}
 use Rattle.uri_ops.proofs.build.draft.Draft.with_host.Goals as goal
 
 pub invariant_of-result : goal.invariant_of-result

@@ -2,7 +2,7 @@ use Rattle.std.proofs.Common.{◌&&◌, ◌||◌, not, length}
 use Rattle.std.specs.Prelude.{Some, is_some, is_none}
 use Rattle.uri_ops.specs.BuilderParts.{with_path}
 use Rattle.uri_ops.specs.Builders.{is_before_query}
-use Rattle.uri_ops.proofs.BuilderDrafts.{adds_of, behind_path, path_draft, stands}
+use Rattle.uri_ops.proofs.Builders.BuilderDrafts.{adds_of, behind_path, path_draft, stands}
 use Rattle.uri_ops.proofs.build.draft.Draft.with_path.Goals as goal
 
 pub appended-requires : goal.appended-requires

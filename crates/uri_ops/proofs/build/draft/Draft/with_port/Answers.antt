@@ -2,9 +2,9 @@ use Rattle.std.proofs.Common.{◌≡◌, ◌∙◌, ◌++◌, false, codes, stri
 use Rattle.uri_ops.specs.BuilderParts.{takes_port, with_port}
 use Rattle.uri_ops.specs.Builders.{draft_kind, is_before_port, is_in_authority}
 use Rattle.uri_ops.specs.Drafts.{behind_part}
-use Rattle.uri_ops.proofs.BuilderDrafts.{adds_from, two_pieces}
-use Rattle.uri_ops.proofs.BuilderGrowth.{any_authority, behind_more, known_sets, more_draft, port_goes_on, string_length}
-use Rattle.uri_ops.proofs.BuilderPlaces.{inside}
+use Rattle.uri_ops.proofs.Builders.BuilderDrafts.{adds_from, two_pieces}
+use Rattle.uri_ops.proofs.Builders.BuilderGrowth.{any_authority, behind_more, known_sets, more_draft, port_goes_on, string_length}
+use Rattle.uri_ops.proofs.Builders.BuilderPlaces.{inside}
 use Rattle.uri_ops.proofs.build.draft.Draft.with_port.Goals as goal
 
 pub invariant_of-result : goal.invariant_of-result

@@ -2,7 +2,7 @@ use Rattle.std.proofs.Common.{◌&&◌, ◌||◌, ◌++◌, not, length, codes}
 use Rattle.std.specs.Prelude.{Some, is_some, is_none}
 use Rattle.uri_ops.specs.BuilderParts.{with_scheme}
 use Rattle.uri_ops.specs.Builders.{is_before_authority}
-use Rattle.uri_ops.proofs.BuilderDrafts.{adds_of, behind_scheme, scheme_draft, stands}
+use Rattle.uri_ops.proofs.Builders.BuilderDrafts.{adds_of, behind_scheme, scheme_draft, stands}
 use Rattle.uri_ops.proofs.build.draft.Draft.with_scheme.Goals as goal
 
 pub appended-requires : goal.appended-requires

@@ -2,9 +2,9 @@ use Rattle.std.proofs.Common.{◌≡◌, ◌∙◌, ◌++◌, false, refl, codes
 use Rattle.uri_ops.specs.BuilderParts.{takes_host, with_userinfo}
 use Rattle.uri_ops.specs.Builders.{draft_kind, is_before_host}
 use Rattle.uri_ops.specs.Dots.{is_empty}
-use Rattle.uri_ops.proofs.BuilderDrafts.{adds_from, two_pieces}
-use Rattle.uri_ops.proofs.BuilderGrowth.{behind_more, known_sets, more_draft, string_length, userinfo_goes_on}
-use Rattle.uri_ops.proofs.BuilderPlaces.{begun}
+use Rattle.uri_ops.proofs.Builders.BuilderDrafts.{adds_from, two_pieces}
+use Rattle.uri_ops.proofs.Builders.BuilderGrowth.{behind_more, known_sets, more_draft, string_length, userinfo_goes_on}
+use Rattle.uri_ops.proofs.Builders.BuilderPlaces.{begun}
 use Rattle.uri_ops.proofs.build.draft.Draft.with_userinfo.Goals as goal
 
 pub invariant_of-result : goal.invariant_of-result

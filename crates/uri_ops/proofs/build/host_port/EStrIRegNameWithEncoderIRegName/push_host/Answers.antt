@@ -1,7 +1,7 @@
 use Rattle.std.proofs.Common.{refl, subst}
 use Rattle.uri_pct.specs.Sets.{ireg_name_set}
 use Rattle.uri_ops.specs.HostParts.{IsHostText}
-use Rattle.uri_ops.proofs.BuilderHosts.{name_host}
+use Rattle.uri_ops.proofs.Builders.BuilderHosts.{name_host}
 use Rattle.uri_ops.proofs.build.host_port.EStrIRegNameWithEncoderIRegName.push_host.Goals as goal
 
 pub returns-clause-host : goal.returns-clause-host

@@ -1,4 +1,4 @@
-use Rattle.uri_ops.proofs.BuilderHosts.{ipv4_host}
+use Rattle.uri_ops.proofs.Builders.BuilderHosts.{ipv4_host}
 use Rattle.uri_ops.proofs.build.host_port.Ipv4AddrWithEncoder.push_host.Goals as goal
 
 pub returns-clause-host : goal.returns-clause-host

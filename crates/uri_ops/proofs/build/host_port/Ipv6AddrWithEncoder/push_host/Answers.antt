@@ -1,4 +1,4 @@
-use Rattle.uri_ops.proofs.BuilderHosts.{ipv6_host}
+use Rattle.uri_ops.proofs.Builders.BuilderHosts.{ipv6_host}
 use Rattle.uri_ops.proofs.build.host_port.Ipv6AddrWithEncoder.push_host.Goals as goal
 
 pub returns-clause-host : goal.returns-clause-host

@@ -1,0 +1,10 @@
+-- Texts without characters past ASCII: the octets of each stand in its place.
+pub mod EncodedTokens
+pub mod EncodedReadings
+pub mod EncodedPaths
+pub mod EncodedComponents
+pub mod EncodedTargets
+pub mod EncodedAuthorities
+pub mod EncodedMeanings
+pub mod AsciiTexts
+pub mod EncodedRuns

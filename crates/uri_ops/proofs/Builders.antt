@@ -1,0 +1,10 @@
+-- What each step of a builder makes of its text.
+pub mod Drafting
+pub mod BuilderAuthorities
+pub mod BuilderSteps
+pub mod BuilderDrafts
+pub mod BuilderPlaces
+pub mod BuilderKinds
+pub mod BuilderHosts
+pub mod BuilderGrowth
+pub mod Built

@@ -1,0 +1,151 @@
+-- What a step inside an authority makes of a draft: the authority, which ends the text, goes on.
+use Rattle.std.proofs.Common.{◌≡◌, ℕ, ◌+◌, ◌-◌, ◌≤◌, Bool, true, false, not, ◌&&◌, ◌||◌, List, [], ◌∷◌, ◌++◌, length, take, drop, refl, sym, ap, subst, ◌∙◌, arith, length-append, string_bytes}
+use Rattle.std.specs.Prelude.{codes, Option, Some, None, IfSome, is_some, is_none, option_map, unwrap_or}
+use Rattle.std.specs.Option.{option_map_or}
+use Rattle.std.specs.Str.{IsUtf8, is_utf8}
+use Rattle.std.specs.String.{string_len}
+use Rattle.std.specs.declared.string.String.{String}
+use Rattle.std.proofs.lemmas.Str.{IsUtf8-from_is_utf8}
+use Rattle.std.proofs.lemmas.Bool.{and_parts, and_from, false≢true}
+use Rattle.std.proofs.lemmas.List.{length-take, length-drop}
+use Rattle.uri_pct.specs.Sets.{digit_set}
+use Rattle.uri_pct.specs.Tokens.{is_valid_for}
+use Rattle.uri_parts.specs.Grammar.{Kind, if_some}
+use Rattle.uri_ops.specs.declared.build.draft.Draft.{Draft}
+use Rattle.uri_ops.specs.declared.build.draft.Lengths.{Lengths}
+use Rattle.uri_ops.specs.BuilderParts.{BuilderParts, is_authority_text, is_text_for, known_kind, takes_host, takes_port, with_more_authority}
+use Rattle.uri_ops.specs.Builders.{draft_kind, draft_parts}
+use Rattle.uri_ops.specs.ComponentSets.{HasComponentSets}
+use Rattle.uri_ops.specs.Dots.{is_empty}
+use Rattle.uri_ops.specs.Drafts.{behind_part, part_in, parts_in}
+use Rattle.uri_ops.specs.HostParts.{IsHostText}
+use Rattle.uri_ops.proofs.Builders.BuilderAuthorities.{host_parts, port_parts, user_parts}
+use Rattle.uri_ops.proofs.Builders.BuilderDrafts.{holds}
+use Rattle.uri_ops.proofs.Builders.BuilderSteps.{more_step}
+use Rattle.uri_ops.proofs.Builders.Drafting.{IsStep, none_of, rules_of}
+use Rattle.uri_ops.proofs.TextKinds.FourKinds.{uri_sets, uri_ref_sets, iri_sets, iri_ref_sets}
+
+pub known_sets : (international needs_scheme : Bool) → HasComponentSets (known_kind international needs_scheme)
+known_sets true true = iri_sets
+known_sets true false = iri_ref_sets
+known_sets false true = uri_sets
+known_sets false false = uri_ref_sets
+
+-- an authority that goes on is one, and stands where its next part may follow
+abbrev pub GoesOn : Kind → (List ℕ → Bool) → (List ℕ → Bool) → List ℕ → Type 0
+GoesOn kind takes then x = (a : List ℕ) → is_authority_text kind a ≡ true → takes a ≡ true → (is_authority_text kind (a ++ x) ≡ true) × (then (a ++ x) ≡ true)
+
+pub userinfo_goes_on : (kind : Kind) → HasComponentSets kind → (user : List ℕ) → IsUtf8 user → is_valid_for kind.userinfo user ≡ true → GoesOn kind is_empty takes_host (user ++ codes "@")
+userinfo_goes_on kind sets user u valid [] e t =
+    let h = user_parts kind sets user u valid in
+    (h.rule, ap (λ (p : _). is_empty p.host && is_none p.port) h.parts)
+userinfo_goes_on kind sets user u valid (c ∷ a) e t = absurd (false≢true t)
+
+pub host_goes_on : (kind : Kind) → HasComponentSets kind → (host : List ℕ) → IsHostText kind.reg_name host → GoesOn kind takes_host takes_port host
+host_goes_on kind sets host h = λ a e t. let p = host_parts kind sets a host e t h in (p.rule, ap (λ (q : _). is_none q.port) p.parts)
+
+abbrev pub any_authority : List ℕ → Bool
+any_authority a = true
+
+port_goes : (kind : Kind) → HasComponentSets kind → (digits : List ℕ) → IsUtf8 digits → is_valid_for digit_set digits ≡ true → (a : List ℕ) → is_authority_text kind a ≡ true → takes_port a ≡ true → is_authority_text kind (a ++ (codes ":" ++ digits)) ≡ true
+port_goes kind sets digits u valid a e t = (port_parts kind sets a digits e t u valid).rule
+
+pub port_goes_on : (kind : Kind) → HasComponentSets kind → (digits : List ℕ) → is_text_for digit_set digits ≡ true → GoesOn kind takes_port any_authority (codes ":" ++ digits)
+unfolding is_text_for
+port_goes_on kind sets digits d =
+    let p = and_parts (is_utf8 digits) (is_valid_for digit_set digits) d in
+    λ a e t. (port_goes kind sets digits (IsUtf8-from_is_utf8 digits p.0) p.1 a e t, refl)
+
+pub string_length : {Z : Type 0} (s : String Z) → string_len s ≡ length (string_bytes s)
+string_length s = s.bytes.ok.0
+
+-- the authority that a draft holds
+held_at : (takes : List ℕ → Bool) (o : Option ℕ) (rest : List ℕ) → option_map_or takes (part_in 2 o rest) false ≡ true → (n : ℕ) × (o ≡ Some n) × (takes (take n (drop 2 rest)) ≡ true)
+held_at takes None rest e = absurd (false≢true e)
+held_at takes (Some n) rest e = (n, refl, e)
+
+taken_inside : (o : Option ℕ) (text rest : List ℕ) → length rest ≤ length text → option_map length (part_in 2 o rest) ≡ o → IfSome o (λ n. n ≤ length text)
+taken_inside None text rest shorter e = tt
+taken_inside (Some n) text rest shorter e =
+    let count : length (take n (drop 2 rest)) ≡ n = some_injective e in
+    omega (arith, count, length-take n (drop 2 rest), length-drop 2 rest, shorter)
+  where
+    some_injective : {a b : ℕ} → Some a ≡ Some b → a ≡ b
+    some_injective e = ap (λ o. unwrap_or o 0) e
+
+behind_shorter : (marks : ℕ) (o : Option ℕ) (text : List ℕ) → length (behind_part marks o text) ≤ length text
+behind_shorter marks None text = omega arith
+behind_shorter marks (Some n) text = omega (arith, length-drop (marks + n) text)
+
+module _ (a : Draft) (whole : a.failed ≡ false) where
+  abbrev rest : List ℕ
+  rest = behind_part 1 a.lengths.scheme (string_bytes a.text)
+
+  pub authority_inside : IfSome a.lengths.authority (λ n. n ≤ length (string_bytes a.text))
+  authority_inside = taken_inside a.lengths.authority (string_bytes a.text) rest (behind_shorter 1 a.lengths.scheme (string_bytes a.text)) (ap (λ (l : Lengths). l.authority) (a.ok whole).counted)
+
+module _ (a : Draft) (x new : List ℕ) (g : Bool) (kept : g ≡ false → a.failed ≡ false) (m n : ℕ) (before_len : m ≡ length (string_bytes a.text)) (after_len : n ≡ length new) where
+  abbrev text : List ℕ
+  text = string_bytes a.text
+
+  abbrev kind : Kind
+  kind = draft_kind a
+
+  abbrev parts : BuilderParts
+  parts = parts_in a.lengths text false
+
+  abbrev scheme_there : Bool
+  scheme_there = is_some a.lengths.scheme || not a.needs_scheme
+
+  abbrev no_path : Bool
+  no_path = is_none a.lengths.path && (is_none a.lengths.query && is_none a.lengths.fragment)
+
+  abbrev longer : Lengths
+  longer = record a.lengths { authority = option_map (λ k. k + (n - m)) a.lengths.authority }
+
+  -- where the authority takes what follows
+  abbrev Takes : (List ℕ → Bool) → Type 0
+  Takes takes = (a.failed || (scheme_there && (option_map_or takes (draft_parts a).authority false && no_path))) ≡ true
+
+  grown_by : (k : ℕ) → a.lengths.authority ≡ Some k → new ≡ text ++ x → (record a.lengths { authority = Some (k + length x) }) ≡ longer
+  grown_by k e appended =
+      let by : length x ≡ n - m = omega (arith, before_len, after_len, ap length appended, length-append text x) in
+      (λ i. record a.lengths { authority = Some (k + by i) }) ∙ ap (λ (o : Option ℕ). record a.lengths { authority = option_map (λ j. j + (n - m)) o }) (sym e)
+
+  more : (takes then : List ℕ → Bool) → Takes takes → GoesOn kind takes then x → g ≡ false → new ≡ text ++ x
+      → IsStep kind (with_more_authority x parts) longer new × ((scheme_there && (option_map_or then (parts_in longer new false).authority false && no_path)) ≡ true)
+  more takes then before goes e appended =
+      let t = and_parts _ _ (holds _ _ (kept e) before) in
+      let s = and_parts _ _ t.1 in
+      let p = and_parts _ _ s.1 in
+      let q = and_parts _ _ p.1 in
+      let behind : List ℕ = behind_part 1 a.lengths.scheme text in
+      let held = held_at takes a.lengths.authority behind s.0 in
+      let authority : List ℕ = take held.0 (drop 2 behind) in
+      let is : parts.authority ≡ Some authority = ap (λ o. part_in 2 o behind) held.1 in
+      let rule : is_authority_text kind authority ≡ true = sym (ap (λ o. if_some o (is_authority_text kind)) is) ∙ (rules_of kind parts (a.ok (kept e)).rules).authority in
+      let on = goes authority rule held.2 in
+      let step = more_step kind a.lengths text (a.ok (kept e)) held.0 authority x held.1 is (none_of _ p.0) (none_of _ q.0) (none_of _ q.1) on.0 in
+      let whole : IsStep kind (with_more_authority x parts) longer new =
+      subst (λ l. IsStep kind (with_more_authority x parts) l new) (grown_by held.0 held.1 appended)
+      (subst (IsStep kind (with_more_authority x parts) (record a.lengths { authority = Some (held.0 + length x) })) (sym appended) step) in (
+        whole,
+        and_from _ _ t.0 (and_from _ _ (ap (λ (b : BuilderParts). option_map_or then b.authority false) whole.parts ∙ ap (λ o. option_map_or then (option_map (λ u. u ++ x) o) false) is ∙ on.1) s.1),
+      )
+
+  module _ (takes then : List ℕ → Bool) (before : Takes takes) (lengths : Lengths) (grown : g ≡ false → lengths ≡ longer) (appended : g ≡ false → new ≡ text ++ x) (goes : g ≡ false → GoesOn kind takes then x) where
+    pub more_draft : g ≡ false → IsStep kind (with_more_authority x parts) lengths new
+    more_draft e = subst (λ l. IsStep kind (with_more_authority x parts) l new) (sym (grown e)) (more takes then before (goes e) e (appended e)).0
+
+    pub behind_more : (g || ((is_some lengths.scheme || not a.needs_scheme)
+        && (option_map_or then (parts_in lengths new g).authority false
+        && (is_none lengths.path && (is_none lengths.query && is_none lengths.fragment))))) ≡ true
+    behind_more = placed g refl
+      where
+        placed : (f : Bool) → g ≡ f → (f || ((is_some lengths.scheme || not a.needs_scheme)
+            && (option_map_or then (parts_in lengths new g).authority false
+            && (is_none lengths.path && (is_none lengths.query && is_none lengths.fragment))))) ≡ true
+        placed true e = refl
+        placed false e =
+            subst (λ (l : Lengths). ((is_some l.scheme || not a.needs_scheme) && (option_map_or then (parts_in l new g).authority false && (is_none l.path && (is_none l.query && is_none l.fragment)))) ≡ true)
+            (sym (grown e)) (more takes then before (goes e) e (appended e)).1

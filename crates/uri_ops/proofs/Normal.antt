@@ -1,0 +1,5 @@
+-- Normal texts, and that each has the meaning it was printed from.
+pub mod NormalComponents
+pub mod NormalTexts
+pub mod NormalPieces
+pub mod NormalForms

@@ -1,0 +1,16 @@
+-- Paths, segment by segment: dot segments, and what is read of a path.
+pub mod DotRows
+pub mod PathCharacters
+pub mod Segments
+pub mod SlashedSegments
+pub mod LastSlashes
+pub mod KeptSegments
+pub mod DotLaws
+pub mod DotRuns
+pub mod DotStarts
+pub mod DotBytes
+pub mod SegmentMaps
+pub mod ReadPaths
+pub mod ReadStarts
+pub mod PathMeanings
+pub mod MergedPaths

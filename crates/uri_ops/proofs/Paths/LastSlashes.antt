@@ -1,0 +1,92 @@
+-- The cut at the last `/` of what stands in a text from a place on.
+use Rattle.std.proofs.Common.{◌≡◌, ℕ, suc, ◌+◌, ◌-◌, ◌<◌, ◌≤◌, true, false, eqb, List, [], ◌∷◌, ◌++◌, length, take, drop, get_or, refl, sym, ap, ◌∙◌, arith, drop-cons, cond, inl, inr, rules, tests}
+use Rattle.std.proofs.Math.Seq.{take-add}
+use Rattle.std.proofs.lemmas.List.{append-nil, take-append-drop, drop-drop}
+use Rattle.std.proofs.lemmas.Bool.{cond-false, cond-true, or_parts, eqb-true, false≢true}
+use Rattle.std.proofs.lemmas.Str.{IsCharBoundary-after_ascii}
+use Rattle.std.specs.Prelude.{codes, ◌==◌}
+use Rattle.std.specs.Str.{IsUtf8, IsCharBoundary}
+use Rattle.uri_parts.specs.Components.{IsRooted}
+use Rattle.uri_ops.specs.Dots.{is_empty, has_slash, is_double_dot, before_last_slash, last_segment, directory, IsAbsolute}
+use Rattle.uri_ops.specs.Places.{IsSlashOrAt}
+use Rattle.uri_ops.proofs.Paths.SlashedSegments.{any_slash, before_append, last_append}
+use Rattle.uri_ops.proofs.Tests.{true_of}
+
+before_slash : (xs ys : List ℕ) → has_slash ys ≡ false → before_last_slash (xs ++ 47 ∷ ys) ≡ xs
+before_slash xs ys e = before_append xs (47 ∷ ys) refl ∙ ap (λ t. xs ++ t) (cond-false _ _ _ e) ∙ append-nil xs
+
+pub before_none : (ys : List ℕ) → has_slash ys ≡ false → before_last_slash ys ≡ []
+before_none [] e = refl
+before_none (c ∷ ys) e = cond-false _ _ _ (or_parts (eqb c 47) (has_slash ys) e).1
+
+rest_at : (bytes : List ℕ) (end : ℕ) → end < length bytes → get_or bytes end 0 ≡ 47 → drop end bytes ≡ 47 ∷ drop (end + 1) bytes
+rest_at bytes end within slash = drop-cons bytes end 0 within ∙ ap (λ n. get_or bytes end 0 ∷ drop n bytes) next ∙ ap (λ c. c ∷ drop (end + 1) bytes) slash
+  where
+    next : suc end ≡ end + 1
+    next = omega arith
+
+before_place : (bytes : List ℕ) (start k end : ℕ) → start + k ≡ end → end < length bytes → get_or bytes end 0 ≡ 47 → has_slash (drop (end + 1) bytes) ≡ false
+    → before_last_slash (drop start bytes) ≡ take k (drop start bytes)
+before_place bytes start k end same within slash none =
+    ap before_last_slash (sym (take-append-drop k (drop start bytes)) ∙ ap (λ t. take k (drop start bytes) ++ t) (drop-drop k start bytes ∙ ap (λ n. drop n bytes) same ∙ rest_at bytes end within slash))
+    ∙ before_slash (take k (drop start bytes)) (drop (end + 1) bytes) none
+
+pub cut_at_slash : (bytes : List ℕ) (start end : ℕ) → start ≤ end → end < length bytes → get_or bytes end 0 ≡ 47 → has_slash (drop (end + 1) bytes) ≡ false
+    → take end bytes ≡ take start bytes ++ before_last_slash (drop start bytes)
+cut_at_slash bytes start end from within slash none =
+    let same : start + (end - start) ≡ end = omega (arith, from) in
+    ap (λ n. take n bytes) (sym same) ∙ take-add start (end - start) bytes
+    ∙ ap (λ t. take start bytes ++ t) (sym (before_place bytes start (end - start) end same within slash none))
+
+pub cut_at_start : (bytes : List ℕ) (start : ℕ) → has_slash (drop start bytes) ≡ false → take start bytes ≡ take start bytes ++ before_last_slash (drop start bytes)
+cut_at_start bytes start none = sym (ap (λ t. take start bytes ++ t) (before_none (drop start bytes) none) ∙ append-nil (take start bytes))
+
+pub none_behind : (bytes : List ℕ) (start : ℕ) → has_slash (drop start bytes) ≡ false → has_slash (drop (start + 1) bytes) ≡ false
+none_behind bytes start none = sym (ap has_slash (drop-drop 1 start bytes)) ∙ fewer (drop start bytes) none
+  where
+    fewer : (ys : List ℕ) → has_slash ys ≡ false → has_slash (drop 1 ys) ≡ false
+    fewer [] e = refl
+    fewer (c ∷ ys) e = (or_parts (eqb c 47) (has_slash ys) e).1
+
+-- the directory of a path that is cut at its last `/`
+last_of : (x y : List ℕ) → has_slash y ≡ false → last_segment (x ++ 47 ∷ y) ≡ y
+last_of x y e = last_append x (47 ∷ y) refl ∙ cond-false _ _ _ e
+
+pub directory_of : (x y : List ℕ) → has_slash y ≡ false → directory (x ++ 47 ∷ y) ≡ cond (is_double_dot y) ((x ++ 47 ∷ y) ++ codes "/") (x ++ codes "/")
+unfolding directory
+directory_of [] y e = ap (λ s. cond (is_double_dot s) ((47 ∷ y) ++ codes "/") (before_last_slash (47 ∷ y) ++ codes "/")) (last_of [] y e) ∙ ap (λ t. cond (is_double_dot y) ((47 ∷ y) ++ codes "/") (t ++ codes "/")) (before_slash [] y e)
+directory_of (c ∷ x) y e =
+    ap (λ s. cond (is_double_dot s) (((c ∷ x) ++ 47 ∷ y) ++ codes "/") (cond (has_slash ((c ∷ x) ++ 47 ∷ y)) (before_last_slash ((c ∷ x) ++ 47 ∷ y) ++ codes "/") [])) (last_of (c ∷ x) y e)
+    ∙ ap (λ b. cond (is_double_dot y) (((c ∷ x) ++ 47 ∷ y) ++ codes "/") (cond b (before_last_slash ((c ∷ x) ++ 47 ∷ y) ++ codes "/") [])) (any_slash (c ∷ x) (47 ∷ y) refl)
+    ∙ ap (λ t. cond (is_double_dot y) (((c ∷ x) ++ 47 ∷ y) ++ codes "/") (t ++ codes "/")) (before_slash (c ∷ x) y e)
+
+at_slash : (path : List ℕ) (slash : ℕ) → IsAbsolute path → IsSlashOrAt path 0 slash → (slash < length path) × (get_or path slash 0 ≡ 47)
+at_slash [] slash h p = absurd (false≢true (true_of _ h))
+at_slash (c ∷ rest) slash h (p, inl e) = (omega arith, ap (λ n. get_or (c ∷ rest) n 0) e ∙ eqb-true c 47 (true_of _ h))
+at_slash (c ∷ rest) slash h (p, inr q) = q
+
+module _ (path : List ℕ) (slash : ℕ) (absolute : IsAbsolute path) (place : IsSlashOrAt path 0 slash) where
+  pub behind_slash : IsUtf8 path → IsCharBoundary path (slash + 1)
+  behind_slash u = let at = at_slash path slash absolute place in IsCharBoundary-after_ascii path slash u at.0 (omega (arith, at.1))
+
+  cut : path ≡ take slash path ++ 47 ∷ drop (slash + 1) path
+  cut = let at = at_slash path slash absolute place in sym (take-append-drop slash path) ∙ ap (λ t. take slash path ++ t) (rest_at path slash at.0 at.1)
+
+  directory_cut : has_slash (drop (slash + 1) path) ≡ false → directory path ≡ cond (is_double_dot (drop (slash + 1) path)) (path ++ codes "/") (take slash path ++ codes "/")
+  directory_cut last = ap directory cut ∙ directory_of (take slash path) (drop (slash + 1) path) last ∙ ap (λ t. cond (is_double_dot (drop (slash + 1) path)) (t ++ codes "/") (take slash path ++ codes "/")) (sym cut)
+
+  pub directory_plain : has_slash (drop (slash + 1) path) ≡ false → is_double_dot (drop (slash + 1) path) ≡ false → directory path ≡ take slash path ++ codes "/"
+  directory_plain last e = directory_cut last ∙ cond-false _ _ _ e
+
+  pub directory_dots : has_slash (drop (slash + 1) path) ≡ false → is_double_dot (drop (slash + 1) path) ≡ true → directory path ≡ path ++ codes "/"
+  directory_dots last e = directory_cut last ∙ cond-true _ _ _ e
+
+pub rooted_some : (path : List ℕ) → IsRooted path → (length path == 0) ≡ false → IsAbsolute path
+rooted_some [] h f = absurd (false≢true (sym f))
+rooted_some (c ∷ path) (inl e) f = absurd (false≢true (ap is_empty e))
+rooted_some (c ∷ path) (inr h) f = h
+
+pub rooted_none : (path : List ℕ) → (length path == 0) ≡ true → directory path ≡ codes "/"
+unfolding directory
+rooted_none [] e = refl
+rooted_none (c ∷ path) e = absurd (false≢true (search (rules, tests)))

@@ -1,0 +1,11 @@
+-- Authorities: their parts, where these lie, and their ports.
+pub mod SchemePorts
+mod PortRows
+pub mod Ports
+pub mod AuthorityCuts
+pub mod AuthorityPlaces
+pub mod WholeAuthorities
+pub mod HostReading
+pub mod FoundAuthorities
+pub mod Authority
+mod AuthorityRows

@@ -1,0 +1,7 @@
+-- Hosts: names, addresses, and addresses in brackets.
+pub mod LiteralFaults
+pub mod Addresses
+pub mod Futures
+pub mod Hosts
+pub mod ParsedAddresses
+pub mod LiteralTexts

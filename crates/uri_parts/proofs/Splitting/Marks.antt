@@ -1,0 +1,104 @@
+-- Where each component of a recomposed text is cut: one lemma a component, over its own text.
+use Rattle.std.proofs.Common.{◌≡◌, ℕ, ◌<◌, Bool, true, false, eqb, List, [], ◌∷◌, ◌++◌, length, drop, refl, sym, ap, ◌∙◌, arith, ⊎_elim, append_assoc, rules}
+use Rattle.std.specs.Prelude.{codes, Some, None, Option, IsTrue, IfSome, IfNone}
+use Rattle.std.proofs.lemmas.List.{append-nil}
+use Rattle.std.proofs.lemmas.Bool.{cond-true, cond-false, and_left, and_right, and_from, eqb-true, not_from_false}
+use Rattle.std.proofs.lemmas.Bool.Decides.{nat_tests}
+use Rattle.uri_pct.specs.Sets.{is_one_of}
+use Rattle.uri_parts.specs.Components.{marked, starts, has_scheme, has_authority, after_scheme, after_authority, after_query, when, Lacks, IsRooted, before_any, from_any}
+use Rattle.uri_parts.proofs.Splitting.Cuts.{Begins, Begins-more, cut-append}
+
+-- the text of a fragment, and of a query and a fragment
+abbrev pub fragment_text : Option (List ℕ) → List ℕ
+fragment_text fragment = marked (codes "#") fragment []
+
+abbrev pub query_text : Option (List ℕ) → Option (List ℕ) → List ℕ
+query_text query fragment = marked (codes "?") query [] ++ fragment_text fragment
+
+pub Begins-fragment_text : (fragment : Option (List ℕ)) → Begins (codes "#") (fragment_text fragment)
+Begins-fragment_text None = tt
+Begins-fragment_text (Some f) = refl
+
+pub Begins-query_text : (query fragment : Option (List ℕ)) → Begins (codes "?#") (query_text query fragment)
+Begins-query_text None fragment = Begins-more (codes "#") (codes "?#") (fragment_text fragment) (λ c e. grind (arith, nat_tests)) (Begins-fragment_text fragment)
+Begins-query_text (Some q) fragment = refl
+
+starts-fragment_text : (fragment : Option (List ℕ)) → starts 63 (fragment_text fragment) ≡ false
+starts-fragment_text None = refl
+starts-fragment_text (Some f) = refl
+
+-- the fragment that is read in such a text is that fragment
+pub fragment-read : (fragment : Option (List ℕ)) → when (starts 35 (fragment_text fragment)) (drop 1 (fragment_text fragment)) ≡ fragment
+fragment-read None = refl
+fragment-read (Some f) = ap Some (append-nil f)
+
+-- the query that is read, and what is left behind it
+pub query-read : (query fragment : Option (List ℕ)) → IfSome query (λ q. Lacks (codes "#") q) →
+    (when (starts 63 (query_text query fragment)) (before_any (codes "#") (drop 1 (query_text query fragment))) ≡ query)
+    × (after_query (query_text query fragment) ≡ fragment_text fragment)
+query-read None fragment lacks =
+    let e = starts-fragment_text fragment in
+    (ap (λ t. when t (before_any (codes "#") (drop 1 (fragment_text fragment)))) e, cond-false _ _ _ e)
+query-read (Some q) fragment lacks =
+    let cut = cut-append (codes "#") q (fragment_text fragment) lacks (Begins-fragment_text fragment) in
+    let e : (q ++ []) ++ fragment_text fragment ≡ q ++ fragment_text fragment = ap (λ t. t ++ fragment_text fragment) (append-nil q) in
+    (ap Some (ap (before_any (codes "#")) e ∙ cut.0), ap (from_any (codes "#")) e ∙ cut.1)
+
+no_slash : (c : ℕ) → is_one_of (codes "?#") c ≡ true → eqb c 47 ≡ false
+no_slash c h = grind (arith, nat_tests)
+
+-- what stands behind a path does not make it begin with `//`
+pub has_authority-append : (path tail : List ℕ) → Begins (codes "?#") tail → has_authority (path ++ tail) ≡ has_authority path
+has_authority-append [] [] begins = refl
+has_authority-append [] (c ∷ tail) begins = and_left _ _ (no_slash c begins)
+has_authority-append (a ∷ []) [] begins = refl
+has_authority-append (a ∷ []) (c ∷ tail) begins = and_right _ _ (no_slash c begins) ∙ sym (and_right _ _ refl)
+has_authority-append (a ∷ d ∷ path) tail begins = refl
+
+pub nil_cons : (c : ℕ) (xs : List ℕ) → c ∷ xs ≡ [] → ⊥
+nil_cons c xs e = cc
+
+true_of : (b : Bool) → IsTrue b → b ≡ true
+true_of b h = search rules
+
+slash_mark : (c : ℕ) → eqb c 47 ≡ true → is_one_of (codes "/?#") c ≡ true
+slash_mark c e = ap (is_one_of (codes "/?#")) (eqb-true c 47 e)
+
+-- a rooted path ends an authority
+pub Begins-rooted : (path tail : List ℕ) → IsRooted path → Begins (codes "?#") tail → Begins (codes "/?#") (path ++ tail)
+Begins-rooted [] tail rooted begins = Begins-more (codes "?#") (codes "/?#") tail (λ c e. grind (arith, nat_tests)) begins
+Begins-rooted (c ∷ path) tail rooted begins = ⊎_elim (λ e. absurd (nil_cons c path e)) (λ e. slash_mark c (true_of _ e)) rooted
+
+-- the authority that is read, and what is left behind it
+pub authority-read : (authority : Option (List ℕ)) (path tail : List ℕ) →
+    IfSome authority (λ a. Lacks (codes "/?#") a × IsRooted path) → IfNone authority (has_authority path ≡ false) → Begins (codes "?#") tail →
+    (when (has_authority (marked (codes "//") authority [] ++ (path ++ tail))) (before_any (codes "/?#") (drop 2 (marked (codes "//") authority [] ++ (path ++ tail)))) ≡ authority)
+    × (after_authority (marked (codes "//") authority [] ++ (path ++ tail)) ≡ path ++ tail)
+authority-read None path tail some none begins =
+    let e : has_authority (path ++ tail) ≡ false = has_authority-append path tail begins ∙ none in
+    (ap (λ t. when t (before_any (codes "/?#") (drop 2 (path ++ tail)))) e, cond-false _ _ _ e)
+authority-read (Some a) path tail some none begins =
+    let cut = cut-append (codes "/?#") a (path ++ tail) some.0 (Begins-rooted path tail some.1 begins) in
+    let e : (a ++ []) ++ (path ++ tail) ≡ a ++ (path ++ tail) = ap (λ t. t ++ (path ++ tail)) (append-nil a) in
+    (ap Some (ap (before_any (codes "/?#")) e ∙ cut.0), ap (from_any (codes "/?#")) e ∙ cut.1)
+
+no_colon : (c : ℕ) → is_one_of (codes ":/?#") c ≡ false → eqb c 58 ≡ false
+no_colon c e = grind (arith, nat_tests)
+
+scheme_first : (s rest : List ℕ) → 0 < length s → Lacks (codes ":/?#") s → starts 58 (s ++ (58 ∷ rest)) ≡ false
+scheme_first [] rest h lacks = absurd (omega arith)
+scheme_first (c ∷ s) rest h lacks = no_colon c (lacks 0 0 (omega arith))
+
+-- the scheme that is read, and what is left behind it
+pub scheme-read : (scheme : Option (List ℕ)) (rest : List ℕ) →
+    IfSome scheme (λ s. (0 < length s) × Lacks (codes ":/?#") s) → IfNone scheme (has_scheme (marked [] scheme (codes ":") ++ rest) ≡ false) →
+    (when (has_scheme (marked [] scheme (codes ":") ++ rest)) (before_any (codes ":/?#") (marked [] scheme (codes ":") ++ rest)) ≡ scheme)
+    × (after_scheme (marked [] scheme (codes ":") ++ rest) ≡ rest)
+scheme-read None rest some none = (ap (λ t. when t (before_any (codes ":/?#") rest)) none, cond-false _ _ _ none)
+scheme-read (Some s) rest some none =
+    let text : List ℕ = (s ++ codes ":") ++ rest in
+    let e : text ≡ s ++ (58 ∷ rest) = append_assoc s (codes ":") rest in
+    let cut = cut-append (codes ":/?#") s (58 ∷ rest) some.1 refl in
+    let back : from_any (codes ":/?#") text ≡ 58 ∷ rest = ap (from_any (codes ":/?#")) e ∙ cut.1 in
+    let t : has_scheme text ≡ true = and_from _ _ (ap (starts 58) back) (not_from_false _ (ap (starts 58) e ∙ scheme_first s rest some.0 some.1)) in
+    (ap (λ t. when t (before_any (codes ":/?#") text)) t ∙ ap Some (ap (before_any (codes ":/?#")) e ∙ cut.0), cond-true _ _ _ t ∙ ap (drop 1) back)

@@ -1,0 +1,58 @@
+-- Masks of lanes, bit by bit: shifted, and as the lanes of a load.
+use Rattle.std.proofs.Common.{◌≡◌, ℕ, ◌+◌, ◌-◌, ◌*◌, ◌/◌, ◌%◌, ◌^◌, ◌<◌, ◌≤◌, min, Bool, true, false, not, cond, eqb, List, map, length, get_or, refl, sym, ap, subst, ◌∙◌, arith}
+use Rattle.std.specs.Int.{bit_at}
+use Rattle.std.proofs.lemmas.Nat.{shr-shr, and_mask, pow_pos}
+use Rattle.std.proofs.lemmas.Nat.Bits.{bit_at-lt, bit_at_and, bit_at_ones, bit_at_cat_high, bit_at_cat_low, bit_at-zero}
+use Rattle.std.specs.Simd.Lanes.{mask_l, chunk}
+use Rattle.std.proofs.lemmas.Simd.{bit_mask_l, mask_l-lt, get_or-chunk, length-chunk}
+use Rattle.std.proofs.lemmas.List.{get_or_default, length-map}
+use Rattle.std.proofs.Math.ListN.{get_or-map}
+use Rattle.uri_pct.proofs.LaneScans.LaneRuns.{LaneMarks}
+
+-- the bit is set
+abbrev pub bit : ℕ → ℕ → Bool
+bit n k = eqb (bit_at n k) 1
+
+pub bit_shr : (n s k : ℕ) → bit (n / 2 ^ s) k ≡ bit n (s + k)
+bit_shr n s k = ap (λ m. eqb (m % 2) 1) (shr-shr n s k)
+
+pub bit_shl : (n s k : ℕ) → k < 64 → s ≤ k → bit (n * 2 ^ s % 2 ^ 64) k ≡ bit n (k - s)
+bit_shl n s k h l =
+    let b : bit_at (n * 2 ^ s) k < 2 = bit_at-lt (n * 2 ^ s) k in
+    let z : n * 2 ^ s + 0 ≡ n * 2 ^ s = omega arith in
+    ap (λ m. eqb m 1)
+    (ap (λ m. bit_at m k) (sym (and_mask (n * 2 ^ s) 64)) ∙ bit_at_and (n * 2 ^ s) (2 ^ 64 - 1) k ∙ ap (λ m. min (bit_at (n * 2 ^ s) k) m) (bit_at_ones 64 k h) ∙ omega arith
+    ∙ ap (λ m. bit_at m k) (sym z) ∙ bit_at_cat_high n s 0 k (pow_pos s) l)
+
+pub bit_shl_low : (n s k : ℕ) → k < 64 → k < s → bit (n * 2 ^ s % 2 ^ 64) k ≡ false
+bit_shl_low n s k h l =
+    let z : n * 2 ^ s + 0 ≡ n * 2 ^ s = omega arith in
+    let none : bit_at (n * 2 ^ s) k ≡ 0 = ap (λ m. bit_at m k) (sym z) ∙ bit_at_cat_low n s 0 k l ∙ bit_at-zero k in
+    let e : bit_at (n * 2 ^ s % 2 ^ 64) k ≡ 0 = ap (λ m. bit_at m k) (sym (and_mask (n * 2 ^ s) 64)) ∙ bit_at_and (n * 2 ^ s) (2 ^ 64 - 1) k ∙ omega arith in
+    ap (λ m. eqb m 1) e
+
+-- what a mask says of a lane
+pub lane_test : (test : ℕ → Bool) (bs : List ℕ) (i w mask k : ℕ) → LaneMarks test bs i w mask → k < w → bit mask k ≡ false → test (get_or bs (i + k) 0) ≡ true
+lane_test test bs i w mask k m h e = unset (test (get_or bs (i + k) 0)) (sym (ap (λ b. eqb b 1) (m.lane k h)) ∙ e)
+  where
+    unset : (b : Bool) → eqb (cond (not b) 1 0) 1 ≡ false → b ≡ true
+    unset true f = refl
+    unset false f = sym f
+
+-- the lanes of a load at which `%` stands
+pub percent_lane : (bs : List ℕ) (i k : ℕ) → i + 16 ≤ length bs → k < 16 → bit (mask_l (map (λ b. eqb b 37) (chunk i 16 bs))) k ≡ eqb (get_or bs (i + k) 0) 37
+percent_lane bs i k room h =
+    let v = chunk i 16 bs in
+    let ms = map (λ b. eqb b 37) v in
+    let long : length ms ≡ 16 = length-map v (λ b. eqb b 37) ∙ length-chunk i 16 bs room in
+    ap (λ m. eqb m 1) (bit_mask_l ms k ∙ ap (λ b. cond b 1 0) (get_or_default ms k false (eqb 0 37) (omega (arith, long)) ∙ get_or-map (λ b. eqb b 37) v k 0 ∙ ap (λ b. eqb b 37) (get_or-chunk i 16 bs k 0 h)))
+    ∙ one_if (eqb (get_or bs (i + k) 0) 37)
+  where
+    one_if : (b : Bool) → eqb (cond b 1 0) 1 ≡ b
+    one_if true = refl
+    one_if false = refl
+
+pub percents_below : (bs : List ℕ) (i : ℕ) → i + 16 ≤ length bs → mask_l (map (λ b. eqb b 37) (chunk i 16 bs)) < 2 ^ 16
+percents_below bs i room =
+    let ms = map (λ b. eqb b 37) (chunk i 16 bs) in
+    subst (λ n. mask_l ms < 2 ^ n) (length-map (chunk i 16 bs) (λ b. eqb b 37) ∙ length-chunk i 16 bs room) (mask_l-lt ms)
