@@ -6,6 +6,8 @@ mod commands;
 #[cfg(test)]
 mod large;
 #[cfg(test)]
+mod lines;
+#[cfg(test)]
 mod rows;
 #[cfg(test)]
 mod writers;
