@@ -2,7 +2,9 @@
 #![tactic(auto)]
 
 ghost use Rattle.std.specs.Prelude.{◌≡◌};
-ghost use Rattle.fluent_uri.specs.Sets.{userinfo_set, reg_name_set, digit_set, path_set, query_set, fragment_set, iuserinfo_set, ireg_name_set, ipath_set, iquery_set, ifragment_set, data_set, idata_set};
+ghost use Rattle.fluent_uri.specs.Sets.{userinfo_set, reg_name_set, digit_set, path_set, query_set};
+ghost use Rattle.fluent_uri.specs.Sets.{fragment_set, iuserinfo_set, ireg_name_set, ipath_set};
+ghost use Rattle.fluent_uri.specs.Sets.{iquery_set, ifragment_set, data_set, idata_set};
 ghost use Rattle.fluent_uri.specs.Tables.{set_of};
 
 use fluent_uri::pct_enc::Table;

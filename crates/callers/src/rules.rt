@@ -1,6 +1,11 @@
 //! The constants, each under its public name, are the sets of their rules.
 ghost use Rattle.std.specs.Prelude.{◌≡◌};
-ghost use Rattle.fluent_uri.specs.Sets.{alpha_set, digit_set, hexdig_set, scheme_set, userinfo_set, ipv_future_set, reg_name_set, path_set, segment_nz_nc_set, pchar_set, query_set, fragment_set, unreserved_set, reserved_set, gen_delims_set, sub_delims_set, iuserinfo_set, ireg_name_set, ipath_set, isegment_nz_nc_set, iquery_set, ifragment_set};
+ghost use Rattle.fluent_uri.specs.Sets.{alpha_set, digit_set, hexdig_set, scheme_set, userinfo_set};
+ghost use Rattle.fluent_uri.specs.Sets.{ipv_future_set, reg_name_set, path_set, segment_nz_nc_set};
+ghost use Rattle.fluent_uri.specs.Sets.{pchar_set, query_set, fragment_set, unreserved_set};
+ghost use Rattle.fluent_uri.specs.Sets.{reserved_set, gen_delims_set, sub_delims_set};
+ghost use Rattle.fluent_uri.specs.Sets.{iuserinfo_set, ireg_name_set, ipath_set};
+ghost use Rattle.fluent_uri.specs.Sets.{isegment_nz_nc_set, iquery_set, ifragment_set};
 ghost use Rattle.fluent_uri.specs.Tables.{set_of};
 
 use fluent_uri::pct_enc::table::{self, Table};

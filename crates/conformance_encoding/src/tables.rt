@@ -6,7 +6,8 @@ const LETTERS: &str = "ABCDEFGHIJKLMNOPQRSTUVWXYZabcdefghijklmnopqrstuvwxyz";
 
 const DIGITS: &str = "0123456789";
 
-/// The ASCII characters of the table are letters and digits, as far as it has them, and the others given.
+/// The ASCII characters of the table are letters and digits, as far as it has them, and the others
+/// given.
 fn has_characters<R: Abort>(rt: &R, table: &Table, letters: &str, digits: &str, others: &str) {
     for code in 0..128u8 {
         let ch = char::from(code);

@@ -42,9 +42,11 @@ pub mod laws {
         four_kinds_have_component_sets, meaning_under_ports, normal_texts_are_canonical,
     };
     pub use uri_ops::laws::{
-        authorities_have_one_cut, bases_may_be_removed_before_merging, front_pieces_may_be_removed_first, kinds_are_their_grammar,
-        nothing_is_left_to_read, paths_without_dot_segments_are_left_as_they_are, directories_are_taken_before_or_after_removing, removing_and_reading_swap, removing_twice_is_removing_once,
-        no_dot_segment_is_left,
+        authorities_have_one_cut, bases_may_be_removed_before_merging,
+        directories_are_taken_before_or_after_removing, front_pieces_may_be_removed_first,
+        kinds_are_their_grammar, no_dot_segment_is_left, nothing_is_left_to_read,
+        paths_without_dot_segments_are_left_as_they_are, removing_and_reading_swap,
+        removing_twice_is_removing_once,
     };
     pub use uri_ops::swap::{resolving_and_normalising_swap, targets_are_texts};
     pub use uri_parts::laws::{
@@ -53,7 +55,11 @@ pub mod laws {
         ipv4_text_is_read_back, ipv6_addresses_compare_alike, ipv6_addresses_compare_by_segments,
         ipv6_text_is_read_back,
     };
-    pub use uri_pct::laws::{what_is_encoded_decodes_to_what_was_given, lossy_texts_are_those_of_std, octets_are_read_in_either_case, pieces_are_together_the_bytes, what_is_printed_is_read_back};
+    pub use uri_pct::laws::{
+        lossy_texts_are_those_of_std, octets_are_read_in_either_case,
+        pieces_are_together_the_bytes, what_is_encoded_decodes_to_what_was_given,
+        what_is_printed_is_read_back,
+    };
 }
 
 /// IP addresses (RFC 3986, section 3.2.2), and their canonical texts (RFC 5952).

@@ -1,5 +1,6 @@
 -- What the words of a command line ask for, and what is printed then.
-use Rattle.std.specs.Prelude.{◌≡◌, Bool, ℕ, ◌&&◌, List, [], ◌∷◌, ◌++◌, codes, map, String, string_bytes, Option, Some, None, option_map, if◌then◌else◌}
+use Rattle.std.specs.Prelude.{◌≡◌, Bool, ℕ, ◌&&◌, List, [], ◌∷◌, ◌++◌, codes, map, String}
+use Rattle.std.specs.Prelude.{string_bytes, Option, Some, None, option_map, if◌then◌else◌}
 use Rattle.std.specs.Io.KnownBytes.{Appends}
 use Rattle.std.specs.List.{list_all}
 use Rattle.std.specs.Result.{result_ok}
@@ -41,7 +42,8 @@ abbrev pub word_of_base : BaseName → List ℕ
 word_of_base bases.Uri = codes "uri"
 word_of_base bases.Iri = codes "iri"
 
--- `parse KIND TEXT`, `normalize KIND TEXT`, `resolve uri|iri BASE REF`, and `links BASE REF...` with its first reference and the others
+-- `parse KIND TEXT`, `normalize KIND TEXT`, `resolve uri|iri BASE REF`, and `links BASE REF...`
+-- with its first reference and the others
 pub data Command : Type 0 where
   Parse : KindName → List ℕ → Command
   Normalize : KindName → List ℕ → Command
@@ -69,8 +71,11 @@ are_of_kind kind texts = list_all (is_of_kind kind) texts
 
 -- what is printed for it, or that it is refused
 abbrev pub output_of : Command → Option (List ℕ)
-output_of (Parse name text) = if is_of_kind (kind_of name) text then Some (component_lines (components text)) else None
-output_of (Normalize name text) = if is_of_kind (kind_of name) text then Some (normal_form_of (kind_of name) text ++ codes "\n") else None
+output_of (Parse name text) =
+    if is_of_kind (kind_of name) text then Some (component_lines (components text)) else None
+output_of (Normalize name text) =
+    if is_of_kind (kind_of name) text then Some (normal_form_of (kind_of name) text ++ codes "\n")
+    else None
 output_of (Resolve name base reference) =
     if is_of_kind (kind_of_base name) base && is_of_kind (kind_of_references name) reference
     then option_map (λ target. target ++ codes "\n") (target_text base reference) else None
@@ -87,7 +92,9 @@ IsCommand words = (command : Command) × (words ≡ words_of command)
 
 -- the words of `links`
 abbrev pub AreLinks : List (List ℕ) → Type 0
-AreLinks words = (base : List ℕ) × (reference : List ℕ) × (others : List (List ℕ)) × (words ≡ words_of (Links base reference others))
+AreLinks words =
+    (base : List ℕ) × (reference : List ℕ) × (others : List (List ℕ))
+    × (words ≡ words_of (Links base reference others))
 
 -- known bytes grow by what is printed for it
 abbrev pub Prints : Option (List ℕ) → Option (List ℕ) → Command → Type 0

@@ -5,14 +5,16 @@ use Rattle.uri_commands.specs.Commands.{Command, output_of, words_of}
 use Rattle.uri_commands.specs.Fronts.{AppendsFront}
 
 -- the words are a command that has an answer: the output got it, and the error output nothing
-abbrev pub IsAnswered : List (List ℕ) → Option (List ℕ) → Option (List ℕ) → Option (List ℕ) → Option (List ℕ) → Type 0
+abbrev pub IsAnswered : List (List ℕ) → Option (List ℕ) → Option (List ℕ) → Option (List ℕ)
+    → Option (List ℕ) → Type 0
 IsAnswered words out out_new err err_new = (command : Command) × (lines : List ℕ)
     × (words ≡ words_of command) × (output_of command ≡ Some lines)
     × Appends out out_new lines × Keeps err err_new
 
 -- where they are a command that has none, the status says so, and the output got nothing
 abbrev pub IsRefused : List (List ℕ) → Option (List ℕ) → Option (List ℕ) → ℕ → Type 0
-IsRefused words out out_new status = (command : Command) → words ≡ words_of command → output_of command ≡ None
+IsRefused words out out_new status =
+    (command : Command) → words ≡ words_of command → output_of command ≡ None
     → (status ≡ 1) × Keeps out out_new
 
 -- a front of the line, and the whole line where the writer took it

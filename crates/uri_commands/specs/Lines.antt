@@ -14,5 +14,6 @@ optional_line name (Some text) = line name text
 -- the lines of the components that are present, in the order in which they stand in a text
 abbrev pub component_lines : Components → List ℕ
 component_lines p =
-    optional_line (codes "scheme") p.scheme ++ optional_line (codes "authority") p.authority ++ line (codes "path") p.path
+    optional_line (codes "scheme") p.scheme ++ optional_line (codes "authority") p.authority
+    ++ line (codes "path") p.path
     ++ optional_line (codes "query") p.query ++ optional_line (codes "fragment") p.fragment

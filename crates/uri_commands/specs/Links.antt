@@ -23,6 +23,8 @@ outcome_line registered (Refused error) = codes "refused " ++ resolve_error_text
 abbrev pub outcome_lines : List (List ℕ) → List Outcome → List ℕ
 outcome_lines registered outcomes = flat_map (outcome_line registered) outcomes
 
--- the lines of the references, of which the register begins empty, under the default ports of schemes
+-- the lines of the references, of which the register begins empty, under the default ports of
+-- schemes
 unfoldable pub link_lines : List ℕ → List (List ℕ) → List ℕ
-link_lines base references = let noted = outcomes_of default_port base [] references in outcome_lines noted.1 noted.0
+link_lines base references =
+    let noted = outcomes_of default_port base [] references in outcome_lines noted.1 noted.0

@@ -3,7 +3,8 @@ use Rattle.std.specs.Prelude.{ℕ, List, ◌++◌, codes, decimal}
 use Rattle.fluent_uri.specs.Errors.{index_of, kind_of as fault_of}
 use Rattle.fluent_uri.specs.declared.ParseError.{ParseError}
 use Rattle.fluent_uri.specs.declared.ParseErrorKind.{ParseErrorKind}
-use Rattle.fluent_uri.specs.declared.ParseErrorKind.TheVariants.{InvalidPctEncodedOctet, UnexpectedChar, InvalidIpv6Addr}
+use Rattle.fluent_uri.specs.declared.ParseErrorKind.TheVariants.{InvalidPctEncodedOctet}
+use Rattle.fluent_uri.specs.declared.ParseErrorKind.TheVariants.{UnexpectedChar, InvalidIpv6Addr}
 use Rattle.fluent_uri.specs.declared.resolve.ResolveError.{ResolveError}
 use Rattle.fluent_uri.specs.declared.resolve.ResolveError.TheVariants as resolve_errors
 

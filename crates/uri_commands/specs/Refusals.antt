@@ -4,10 +4,12 @@ use Rattle.fluent_uri.specs.Components.{components}
 use Rattle.fluent_uri.specs.Errors.{IsErrorIn}
 use Rattle.fluent_uri.specs.Grammar.{Kind, IsOfKind, uri, uri_ref}
 use Rattle.fluent_uri.specs.Resolving.{IsRefusalFor}
-use Rattle.uri_commands.specs.Commands.{Command, Parse, Normalize, Resolve, Links, are_of_kind, kind_of, kind_of_base, kind_of_references, output_of}
+use Rattle.uri_commands.specs.Commands.{Command, Parse, Normalize, Resolve, Links, are_of_kind}
+use Rattle.uri_commands.specs.Commands.{kind_of, kind_of_base, kind_of_references, output_of}
 use Rattle.uri_commands.specs.Messages.{error_text, resolve_error_text}
 use Rattle.uri_commands.specs.declared.refusal.Refusal.{Refusal}
-use Rattle.uri_commands.specs.declared.refusal.Refusal.TheVariants.{Text, Base, Reference, Target, OutOfMemory, OutputFailed}
+use Rattle.uri_commands.specs.declared.refusal.Refusal.TheVariants.{Text, Base, Reference, Target}
+use Rattle.uri_commands.specs.declared.refusal.Refusal.TheVariants.{OutOfMemory, OutputFailed}
 use Rattle.fluent_uri.specs.declared.ParseError.{ParseError}
 
 abbrev pub message : Refusal → List ℕ
@@ -32,9 +34,11 @@ IsErrorOf kind text e = ¬ IsOfKind kind text × IsErrorIn text e
 -- the first of the texts that is not of the kind, and what the parser says of it
 abbrev pub IsErrorOfFirst : Kind → List (List ℕ) → ParseError → Type 0
 IsErrorOfFirst kind texts e = (n : ℕ) × (text : List ℕ)
-    × (slice_get texts n ≡ Some text) × (are_of_kind kind (take n texts) ≡ true) × IsErrorOf kind text e
+    × (slice_get texts n ≡ Some text) × (are_of_kind kind (take n texts) ≡ true)
+    × IsErrorOf kind text e
 
--- Why a command has no answer. A base is read before its references, all of them before any is resolved or noted.
+-- Why a command has no answer. A base is read before its references, all of them before any is
+-- resolved or noted.
 abbrev pub IsRefusalOf : Command → Refusal → Type 0
 IsRefusalOf (Parse name text) (Text e) = IsErrorOf (kind_of name) text e
 IsRefusalOf (Normalize name text) (Text e) = IsErrorOf (kind_of name) text e
@@ -46,8 +50,10 @@ IsRefusalOf (Resolve name base reference) (Target e) =
     IsOfKind (kind_of_base name) base × IsOfKind (kind_of_references name) reference
     × IsRefusalFor (components base) (components reference) e
 IsRefusalOf (Links base reference others) (Base e) = IsErrorOf uri base e
-IsRefusalOf (Links base reference others) (Reference e) = IsOfKind uri base × IsErrorOfFirst uri_ref (reference ∷ others) e
-IsRefusalOf (Links base reference others) OutOfMemory = IsOfKind uri base × (are_of_kind uri_ref (reference ∷ others) ≡ true)
+IsRefusalOf (Links base reference others) (Reference e) =
+    IsOfKind uri base × IsErrorOfFirst uri_ref (reference ∷ others) e
+IsRefusalOf (Links base reference others) OutOfMemory =
+    IsOfKind uri base × (are_of_kind uri_ref (reference ∷ others) ≡ true)
 -- it has one, which the output did not take
 IsRefusalOf command OutputFailed = (lines : List ℕ) × (output_of command ≡ Some lines)
 IsRefusalOf command why = ⊥

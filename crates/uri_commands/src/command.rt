@@ -1,6 +1,7 @@
 //! What the words of a command line ask for.
 ghost use Rattle.std.specs.Prelude.{◌≡◌, ◌≢◌, MatchOption};
-ghost use Rattle.uri_commands.specs.Commands.{AreLinks, IsCommand, word_of_base, word_of_kind, words_of, texts};
+ghost use Rattle.uri_commands.specs.Commands.{AreLinks, IsCommand, word_of_base, word_of_kind};
+ghost use Rattle.uri_commands.specs.Commands.{words_of, texts};
 ghost use Rattle.uri_commands.specs.Asked.{asked};
 
 /// A kind, by its name on the command line.
@@ -73,7 +74,8 @@ fn links_from_words(words: &[String]) -> Option<Command<'_>>
 }
 
 fn kind_named(word: &str) -> Option<KindName>
-    ensures { MatchOption result ((k : _) → word.now ≢ word_of_kind k) (λ k. word.now ≡ word_of_kind k) }
+    ensures { MatchOption result ((k : _) → word.now ≢ word_of_kind k)
+        (λ k. word.now ≡ word_of_kind k) }
 {
     match word {
         "uri" => Some(KindName::Uri),
@@ -85,7 +87,8 @@ fn kind_named(word: &str) -> Option<KindName>
 }
 
 fn base_named(word: &str) -> Option<BaseName>
-    ensures { MatchOption result ((k : _) → word.now ≢ word_of_base k) (λ k. word.now ≡ word_of_base k) }
+    ensures { MatchOption result ((k : _) → word.now ≢ word_of_base k)
+        (λ k. word.now ≡ word_of_base k) }
 {
     match word {
         "uri" => Some(BaseName::Uri),

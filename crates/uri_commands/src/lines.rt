@@ -111,7 +111,8 @@ impl Texts<'_> {
 }
 
 fn write_line<O: Write>(out: &mut O, name: &str, text: &str) -> io::Result<()>
-    ensures { OnOk result (Appends (O.contents out.old) (O.contents out.new) (line name.now text.now)) }
+    ensures { OnOk result (Appends (O.contents out.old) (O.contents out.new)
+        (line name.now text.now)) }
 {
     writeln!(out, "{name}={text}")
 }

@@ -1,5 +1,6 @@
 //! What references come to, which are noted one after the other against a base: `links BASE REF...`.
-ghost use Rattle.std.specs.Prelude.{◌≡◌, ◌≢◌, ◌<◌, ◌∷◌, ◌++◌, ℕ, List, IfOk, IfErr, OnOk, All, length, map, true, codes};
+ghost use Rattle.std.specs.Prelude.{◌≡◌, ◌≢◌, ◌<◌, ◌∷◌, ◌++◌, ℕ, List, IfOk, IfErr, OnOk, All};
+ghost use Rattle.std.specs.Prelude.{length, map, true, codes};
 ghost use Rattle.std.specs.Io.KnownBytes.{Appends};
 ghost use Rattle.fluent_uri.specs.Grammar.{IsOfKind, uri, uri_ref};
 ghost use Rattle.fluent_uri.specs.UriRefs.{uri_ref_text};

@@ -18,7 +18,8 @@ use std::alloc::Global;
 pub fn normal_form(alloc: Global, kind: KindName, text: &str) -> Result<String, Refusal>
     ensures of_kind { IfOk result (λ _. IsOfKind (kind_of kind) text.now) }
     ensures refused { IfErr result (IsRefusalOf (Normalize kind text.now)) }
-    ensures normal { IfOk result (λ normal. string_bytes normal ≡ normal_form_of (kind_of kind) text.now) }
+    ensures normal { IfOk result (λ normal. string_bytes normal
+        ≡ normal_form_of (kind_of kind) text.now) }
 {
     Ok(match kind {
         KindName::Uri => Uri::<&str>::parse(text)?.normalize(alloc)?.into_string(),

@@ -1,7 +1,10 @@
 //! The program, over any two writers.
-ghost use Rattle.std.specs.Prelude.{◌≡◌, ◌↔◌, ◌≤◌, ◌++◌, IsOk, IfOk, IfErr, OnOk, None, Some, List, codes, ℕ};
+ghost use Rattle.std.specs.Prelude.{◌≡◌, ◌↔◌, ◌≤◌, ◌++◌, IsOk, IfOk, IfErr, OnOk, None, Some, List};
+ghost use Rattle.std.specs.Prelude.{codes, ℕ};
 ghost use Rattle.std.specs.Io.KnownBytes.{Appends, Keeps};
-ghost use Rattle.uri_commands.specs.Commands.{Command as Asked, Parse, Normalize, Resolve, Links, IsCommand, Prints, kind_of, words_of, output_of, texts};
+ghost use Rattle.uri_commands.specs.Commands.{Command as Asked, Parse, Normalize, Resolve, Links};
+ghost use Rattle.uri_commands.specs.Commands.{IsCommand, Prints, kind_of, words_of, output_of};
+ghost use Rattle.uri_commands.specs.Commands.{texts};
 ghost use Rattle.uri_commands.specs.Asked.{asked};
 ghost use Rattle.uri_commands.specs.Ends.{IsAnswered, IsRefused, Takes};
 ghost use Rattle.uri_commands.specs.Fronts.{AppendsFront};
@@ -53,8 +56,8 @@ pub fn run<O: Write, E: Write>(alloc: Global, words: &[String], out: &mut O, err
     execute(alloc, words, out, err).status
 }
 
-/// Does what the words ask for, as `run` does, and answers beside the exit status whether `err` took
-/// the whole line that it was told.
+/// Does what the words ask for, as `run` does, and answers beside the exit status whether `err`
+/// took the whole line that it was told.
 pub fn execute<O: Write, E: Write>(
     alloc: Global,
     words: &[String],
@@ -63,7 +66,8 @@ pub fn execute<O: Write, E: Write>(
 ) -> Ended
     ensures answered { result.status ≡ 0 → IsAnswered (texts words.now) (O.contents out.old)
         (O.contents out.new) (E.contents err.old) (E.contents err.new) }
-    ensures refused { IsRefused (texts words.now) (O.contents out.old) (O.contents out.new) result.status }
+    ensures refused { IsRefused (texts words.now) (O.contents out.old)
+        (O.contents out.new) result.status }
     ensures usage { (result.status ≡ 2) ↔ ¬ IsCommand (texts words.now) }
     ensures usage_keeps { result.status ≡ 2 → Keeps (O.contents out.old) (O.contents out.new) }
     ensures status { result.status ≤ 2 }

@@ -7,7 +7,8 @@ ghost use Rattle.fluent_uri.specs.IriRefs.{iri_ref_text};
 ghost use Rattle.fluent_uri.specs.Iris.{iri_text};
 ghost use Rattle.fluent_uri.specs.UriRefs.{uri_ref_text};
 ghost use Rattle.fluent_uri.specs.Uris.{uri_text};
-ghost use Rattle.uri_commands.specs.Commands.{Resolve, kind_of_base, kind_of_references, target_text};
+ghost use Rattle.uri_commands.specs.Commands.{Resolve, kind_of_base, kind_of_references};
+ghost use Rattle.uri_commands.specs.Commands.{target_text};
 ghost use Rattle.uri_commands.specs.Refusals.{IsRefusalOf};
 
 use crate::command::BaseName;
@@ -27,7 +28,8 @@ pub fn target(alloc: Global, kind: BaseName, base: &str, reference: &str) -> Res
     ensures base { IfOk result (λ _. IsOfKind (kind_of_base kind) base.now) }
     ensures reference { IfOk result (λ _. IsOfKind (kind_of_references kind) reference.now) }
     ensures refused { IfErr result (IsRefusalOf (Resolve kind base.now reference.now)) }
-    ensures target { IfOk result (λ target. target_text base.now reference.now ≡ Some (string_bytes target)) }
+    ensures target { IfOk result (λ target. target_text base.now reference.now
+        ≡ Some (string_bytes target)) }
 {
     Ok(match kind {
         BaseName::Uri => {
@@ -48,7 +50,8 @@ fn uri_target(
     base: Uri<&str>,
     reference: UriRef<&str>,
 ) -> Result<Uri<String>, ResolveError>
-    ensures target { IfOk result (λ target. target_text (uri_text base.entry) (uri_ref_text reference.entry) ≡ Some (uri_text target)) }
+    ensures target { IfOk result (λ target. target_text (uri_text base.entry)
+        (uri_ref_text reference.entry) ≡ Some (uri_text target)) }
     ensures refusal { IfErr result (IsRefusalFor
         (components (uri_text base.entry)) (components (uri_ref_text reference.entry))) }
 {
@@ -60,7 +63,8 @@ fn iri_target(
     base: Iri<&str>,
     reference: IriRef<&str>,
 ) -> Result<Iri<String>, ResolveError>
-    ensures target { IfOk result (λ target. target_text (iri_text base.entry) (iri_ref_text reference.entry) ≡ Some (iri_text target)) }
+    ensures target { IfOk result (λ target. target_text (iri_text base.entry)
+        (iri_ref_text reference.entry) ≡ Some (iri_text target)) }
     ensures refusal { IfErr result (IsRefusalFor
         (components (iri_text base.entry)) (components (iri_ref_text reference.entry))) }
 {

@@ -3,7 +3,8 @@ use Rattle.std.specs.Prelude.{Bool, false, ◌==◌, ◌&&◌, List, bytes_eq}
 use Rattle.std.specs.Cmp.Lexicographic.{pointwise}
 use Rattle.std.specs.Option.{option_eq}
 use Rattle.fluent_uri.specs.Tokens.{Token, Char, Octet}
-use Rattle.fluent_uri.specs.Meaning.{HostMeaning, Address, FutureAddress, Name, AuthorityMeaning, Meaning}
+use Rattle.fluent_uri.specs.Meaning.{HostMeaning, Address, FutureAddress, Name, AuthorityMeaning}
+use Rattle.fluent_uri.specs.Meaning.{Meaning}
 
 abbrev pub same_token : Token → Token → Bool
 same_token (Char c) (Char d) = c == d
@@ -20,7 +21,9 @@ same_host (Name a) (Name b) = same_tokens a b
 same_host _ _ = false
 
 abbrev pub same_authority : AuthorityMeaning → AuthorityMeaning → Bool
-same_authority a b = option_eq same_tokens a.userinfo b.userinfo && (same_host a.host b.host && option_eq bytes_eq a.port b.port)
+same_authority a b =
+    option_eq same_tokens a.userinfo b.userinfo &&
+    (same_host a.host b.host && option_eq bytes_eq a.port b.port)
 
 unfoldable pub same_meaning : Meaning → Meaning → Bool
 same_meaning m n =

@@ -11,16 +11,22 @@ use Rattle.uri_links.specs.declared.links.Outcome.TheVariants.{New, Known, Refus
 
 -- the text at this place has the meaning
 abbrev pub Means : PortFunction → List (List ℕ) → ℕ → Meaning → Type 0
-Means ports texts place meaning = (text : List ℕ) × ((slice_get texts place ≡ Some text) × (meaning_of uri ports text ≡ meaning))
+Means ports texts place meaning =
+    (text : List ℕ) × ((slice_get texts place ≡ Some text) × (meaning_of uri ports text ≡ meaning))
 
--- a target is known by the place of a text that has its meaning, and new where no text has it; what has no target is refused
+-- a target is known by the place of a text that has its meaning, and new where no text has it; what
+-- has no target is refused
 abbrev pub IsOutcome : PortFunction → List ℕ → List (List ℕ) → List ℕ → Outcome → Type 0
 IsOutcome ports base texts reference (New id) =
-    (target : List ℕ) × ((resolution_of (components base) (components reference) ≡ Ok target) × (id ≡ length texts) × ((place : ℕ) → ¬ (Means ports texts place (meaning_of uri ports target))))
+    (target : List ℕ) × ((resolution_of (components base) (components reference) ≡ Ok target)
+    × (id ≡ length texts)
+    × ((place : ℕ) → ¬ (Means ports texts place (meaning_of uri ports target))))
 IsOutcome ports base texts reference (Known id) =
-    (target : List ℕ) × ((resolution_of (components base) (components reference) ≡ Ok target) × Means ports texts id (meaning_of uri ports target))
+    (target : List ℕ) × ((resolution_of (components base) (components reference) ≡ Ok target)
+    × Means ports texts id (meaning_of uri ports target))
 IsOutcome ports base texts reference (Refused error) =
-    (refusal : Refusal) × ((resolution_of (components base) (components reference) ≡ Err refusal) × (error ≡ error_of refusal))
+    (refusal : Refusal) × ((resolution_of (components base) (components reference) ≡ Err refusal)
+    × (error ≡ error_of refusal))
 
 -- an outcome's id, where it has one, is that of a text
 abbrev pub HasText : List (List ℕ) → Outcome → Type 0

@@ -1,7 +1,9 @@
 //! A register of links. A link is what a reference means against a base: the meaning of its target
 //! (RFC 3986, sections 5.2 and 6.2.2). So references that are spelt in many ways are one link
 //! exactly if their targets mean the same under the register's default ports.
-ghost use Rattle.std.specs.Prelude.{◌≡◌, ◌≢◌, ◌↔◌, ◌≤◌, ◌∷◌, ◌++◌, ℕ, [], None, true, is_ok, length, map, option_map, slice_get, take, IfOk, IfErr, OnErr, OnOk, IsNone, List, All, bytes_eq, position};
+ghost use Rattle.std.specs.Prelude.{◌≡◌, ◌≢◌, ◌↔◌, ◌≤◌, ◌∷◌, ◌++◌, ℕ, [], None, true, is_ok};
+ghost use Rattle.std.specs.Prelude.{length, map, option_map, slice_get, take, IfOk, IfErr, OnErr};
+ghost use Rattle.std.specs.Prelude.{OnOk, IsNone, List, All, bytes_eq, position};
 ghost use Rattle.std.specs.BTreeMap.{get_by_text};
 ghost use Rattle.std.specs.List.{IsDistinct-prop};
 ghost use Rattle.fluent_uri.specs.Components.{components};

@@ -60,7 +60,8 @@ authority_meaning kind default authority =
 
 -- section 6.2.2.3: under a scheme a path that begins with `/` is without its dot segments
 abbrev pub plain_path : Option (List ℕ) → List ℕ → List ℕ
-plain_path scheme path = if is_some scheme && starts slash path then remove_dot_segments path else path
+plain_path scheme path =
+    if is_some scheme && starts slash path then remove_dot_segments path else path
 
 abbrev pub components_meaning : Kind → PortFunction → Components → Meaning
 components_meaning kind ports p =

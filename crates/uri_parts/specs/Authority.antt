@@ -41,11 +41,13 @@ behind_userinfo text =
 
 abbrev pub host_before : List ℕ → List ℕ
 host_before rest =
-    if starts left_bracket rest then before_any (codes "]") rest ++ codes "]" else before_any (codes ":") rest
+    if starts left_bracket rest then before_any (codes "]") rest ++ codes "]"
+    else before_any (codes ":") rest
 
 abbrev pub behind_host : List ℕ → List ℕ
 behind_host rest =
-    if starts left_bracket rest then drop 1 (from_any (codes "]") rest) else from_any (codes ":") rest
+    if starts left_bracket rest then drop 1 (from_any (codes "]") rest)
+    else from_any (codes ":") rest
 
 abbrev pub authority_parts : List ℕ → AuthorityParts
 authority_parts text =

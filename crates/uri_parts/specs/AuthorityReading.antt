@@ -1,4 +1,5 @@
--- What the parser reads of an authority, as functions of the text that is left: RFC 3986, section 3.2.
+-- What the parser reads of an authority, as functions of the text that is left: RFC 3986, section
+-- 3.2.
 use Rattle.std.specs.Prelude.{ℕ, ◌+◌, Bool, true, ◌&&◌, ◌||◌, List, [], ◌∷◌, drop, codes, is_some}
 use Rattle.std.specs.Prelude.{if◌then◌else◌}
 use Rattle.uri_pct.specs.Sets.{digit_set, is_one_of}

@@ -2,5 +2,6 @@ use Rattle.std.specs.Prelude.{ℕ, List}
 use Rattle.uri_parts.specs.declared.core_text.Core.{Core}
 
 -- the text that a core holds; its type names, of its kind, the encoders and what holds of them
-abbrev pub core_text : {K T U N P Q F : _} {k u n p q f : _} {t : _} → Core K T U N P Q F k u n p q f t → List ℕ
+abbrev pub core_text : {K T U N P Q F : _} {k u n p q f : _} {t : _}
+    → Core K T U N P Q F k u n p q f t → List ℕ
 core_text {t = t} core = t.text core.text

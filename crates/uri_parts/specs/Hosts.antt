@@ -57,7 +57,8 @@ ipv6_value text = whole_value (read_ipv6 text)
 -- `.` and one or more characters
 abbrev pub is_future_address : List ℕ → Bool
 is_future_address text =
-    starts full_stop text && (nat_lt 0 (length (drop 1 text)) && is_valid_for ipv_future_set (drop 1 text))
+    starts full_stop text && (nat_lt 0 (length (drop 1 text))
+    && is_valid_for ipv_future_set (drop 1 text))
 
 unfoldable pub is_ipv_future : List ℕ → Bool
 is_ipv_future [] = false

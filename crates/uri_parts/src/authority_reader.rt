@@ -9,7 +9,8 @@ ghost use Rattle.uri_pct.specs.Fronts.{front};
 ghost use Rattle.uri_pct.specs.Tables.{set_of};
 ghost use Rattle.uri_parts.specs.AuthorityReading.{port_length, name_length, finds_name};
 ghost use Rattle.uri_parts.specs.AuthorityReading.{host_end, host_length, finds_host};
-ghost use Rattle.uri_parts.specs.AuthorityReading.{more_user, user_length, passes_user, finds_other};
+ghost use Rattle.uri_parts.specs.AuthorityReading.{more_user, user_length, passes_user};
+ghost use Rattle.uri_parts.specs.AuthorityReading.{finds_other};
 ghost use Rattle.uri_parts.specs.AuthorityReading.{other_authority, finds_authority, found_length};
 ghost use Rattle.uri_parts.specs.AuthorityReading.{found_authority};
 ghost use Rattle.uri_parts.specs.Components.{starts};
@@ -31,7 +32,8 @@ use uri_pct::table::DIGIT;
 fn pass_port(reader: &mut Reader<'_>)
     ensures text { text_of reader.new ≡ text_of reader.old }
     ensures place { place_of reader.new ≡ place_of reader.old + port_length (rest_of reader.old) }
-    ensures rest { rest_of reader.new ≡ drop (port_length (rest_of reader.old)) (rest_of reader.old) }
+    ensures rest { rest_of reader.new ≡ drop (port_length (rest_of reader.old))
+        (rest_of reader.old) }
 {
     if reader.skip(b':') {
         reader.read(&DIGIT);
@@ -91,9 +93,9 @@ fn last_colon(text: &str, start: usize, end: usize) -> Option<usize>
     None
 }
 
-/// The refusal of what was read as userinfo up to `end`, where no `@` is next. Up to `start` it is a
-/// name and a port, and behind that stands the last of several `:`, or the port's first byte that is
-/// no digit.
+/// The refusal of what was read as userinfo up to `end`, where no `@` is next. Up to `start` it is
+/// a name and a port, and behind that stands the last of several `:`, or the port's first byte that
+/// is no digit.
 #[inline(always)]
 fn name_fault(start: Reader<'_>, end: Reader<'_>, grammar: &Grammar) -> ParseError
     requires { text_of end ≡ text_of start }

@@ -203,8 +203,8 @@ pub(crate) fn is_literal(text: &str) -> bool
     Ipv6Addr::read(text).is_some() || is_ipv_future(text)
 }
 
-/// Where the address that stands at `start`, behind a `[`, and the `]` behind it end; or why there is
-/// none.
+/// Where the address that stands at `start`, behind a `[`, and the `]` behind it end; or why there
+/// is none.
 pub(crate) fn literal_end(text: &str, start: usize) -> Result<usize, ParseError>
     requires { IsCharBoundary text.now start }
     ensures accepts { is_ok result ≡ reads_literal (drop start text.now) }

@@ -10,10 +10,12 @@ pub record IsRun (test : ℕ → Bool) (bytes : List ℕ) (start end : ℕ) : Ty
   pub pass : (k : ℕ) → start ≤ k → k < end → test (slice_index bytes k) ≡ true
   pub stop : end < length bytes → test (slice_index bytes end) ≡ false
 
--- each of n bytes from start on passes the test or is a part of an octet, and octets that begin there end there
+-- each of n bytes from start on passes the test or is a part of an octet, and octets that begin
+-- there end there
 pub record AreSpelt (test : ℕ → Bool) (bytes : List ℕ) (start n : ℕ) : Type 0 where
   pub octet : ℕ → Bool
-  pub pass : (k : ℕ) → k < n → octet k ≡ false → ((j : ℕ) → j < k → k ≤ j + 2 → octet j ≡ false) → test (slice_index bytes (start + k)) ≡ true
+  pub pass : (k : ℕ) → k < n → octet k ≡ false → ((j : ℕ) → j < k → k ≤ j + 2 → octet j ≡ false)
+      → test (slice_index bytes (start + k)) ≡ true
   pub percent : (k : ℕ) → octet k ≡ true → slice_index bytes (start + k) ≡ percent_sign
   pub digits : (k : ℕ) → octet k ≡ true → has_digits bytes (start + k) ≡ true
   pub whole : (k : ℕ) → k < n → octet k ≡ true → k + 3 ≤ n

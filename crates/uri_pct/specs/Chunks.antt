@@ -1,4 +1,5 @@
--- What decoding yields, in order: the longest parts of a text without an octet, and the octets (RFC 3986, section 2.1).
+-- What decoding yields, in order: the longest parts of a text without an octet, and the octets (RFC
+-- 3986, section 2.1).
 use Rattle.std.specs.Prelude.{ℕ, true, not, ◌==◌, List, [], ◌∷◌, ◌++◌}
 use Rattle.std.specs.Char.{encode_utf8}
 use Rattle.uri_pct.specs.Sets.{TableSet}
@@ -32,4 +33,9 @@ chunk_bytes (Byte value) = value ∷ []
 
 -- the largest set of a table: what some table allows, this one allows
 abbrev pub widest_set : TableSet
-widest_set = record { ascii = λ c. not (c == percent_sign); pct_encoded = true; ucschar = true; iprivate = true }
+widest_set = record {
+  ascii = λ c. not (c == percent_sign);
+  pct_encoded = true;
+  ucschar = true;
+  iprivate = true;
+}

@@ -1,5 +1,6 @@
 -- How far a text is spelt by what a set allows, read byte by byte.
-use Rattle.std.specs.Prelude.{◌≡◌, ◌<◌, length, false, ℕ, zero, suc, ◌+◌, Bool, not, ◌&&◌, ◌||◌, ◌==◌, nat_lt, List, [], ◌∷◌, drop, slice_index, if◌then◌else◌}
+use Rattle.std.specs.Prelude.{◌≡◌, ◌<◌, length, false, ℕ, zero, suc, ◌+◌, Bool, not, ◌&&◌, ◌||◌}
+use Rattle.std.specs.Prelude.{◌==◌, nat_lt, List, [], ◌∷◌, drop, slice_index, if◌then◌else◌}
 use Rattle.std.specs.Char.{is_ascii_hexdigit}
 use Rattle.std.specs.Str.{chars, continuation_len}
 use Rattle.uri_pct.specs.Sets.{TableSet, allows_past_ascii}
@@ -15,9 +16,11 @@ first_char text = slice_index (chars text) 0
 
 -- the text begins with a character that the set allows
 unfoldable pub allows_first : TableSet → ℕ → List ℕ → Bool
-allows_first set b rest = if nat_lt b 128 then set.ascii b else allows_past_ascii set (first_char (b ∷ rest))
+allows_first set b rest =
+    if nat_lt b 128 then set.ascii b else allows_past_ascii set (first_char (b ∷ rest))
 
--- the length of the longest front that the set allows, where so many bytes of a character or an octet are still to pass
+-- the length of the longest front that the set allows, where so many bytes of a character or an
+-- octet are still to pass
 unfoldable pub front_from : TableSet → ℕ → List ℕ → ℕ
 front_from set skip [] = 0
 front_from set zero (b ∷ rest) =
@@ -36,7 +39,8 @@ after set text = drop (front set text) text
 
 -- two hexadecimal digits stand behind the place
 unfoldable pub has_digits : List ℕ → ℕ → Bool
-has_digits text i = is_ascii_hexdigit (slice_index text (i + 1)) && is_ascii_hexdigit (slice_index text (i + 2))
+has_digits text i =
+    is_ascii_hexdigit (slice_index text (i + 1)) && is_ascii_hexdigit (slice_index text (i + 2))
 
 -- a `%` that two hexadecimal digits do not follow stands there
 pub record IsStrayPercent (text : List ℕ) (i : ℕ) : Type 0 where
@@ -46,4 +50,6 @@ pub record IsStrayPercent (text : List ℕ) (i : ℕ) : Type 0 where
 
 -- the set allows octets, or characters past ASCII, and the byte begins one
 unfoldable pub may_go_on : TableSet → ℕ → Bool
-may_go_on set b = if b == percent_sign then set.pct_encoded else (not (nat_lt b 128) && (set.ucschar || set.iprivate))
+may_go_on set b =
+    if b == percent_sign then set.pct_encoded else
+    (not (nat_lt b 128) && (set.ucschar || set.iprivate))

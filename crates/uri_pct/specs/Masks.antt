@@ -4,7 +4,8 @@ use Rattle.std.specs.Int.{bit_at}
 
 -- bit n of `low` is character n, and bit n of `high` is character 64 + n
 unfoldable pub has_bit : ℕ → ℕ → ℕ → Bool
-has_bit low high c = if nat_lt c 64 then bit_at low c == 1 else (nat_lt c 128 && bit_at high (c - 64) == 1)
+has_bit low high c =
+    if nat_lt c 64 then bit_at low c == 1 else (nat_lt c 128 && bit_at high (c - 64) == 1)
 
 -- an ASCII character other than `%`
 abbrev pub is_plain_ascii : ℕ → Bool

@@ -1,4 +1,5 @@
--- A text as it is decoded: what stands for itself, and the UTF-8 pieces of each maximal run of octets.
+-- A text as it is decoded: what stands for itself, and the UTF-8 pieces of each maximal run of
+-- octets.
 use Rattle.std.specs.Prelude.{ℕ, List, [], ◌∷◌, ◌++◌, map}
 use Rattle.std.specs.List.{flat_map}
 use Rattle.uri_pct.specs.Chunks.{Chunk, Text, Byte, chunks}
@@ -13,7 +14,8 @@ pub data Part : Type 0 where
 unfoldable pub parts_from : List ℕ → List Chunk → List Part
 parts_from run [] = map Read (utf8_pieces run)
 parts_from run (Byte value ∷ chunks) = parts_from (run ++ value ∷ []) chunks
-parts_from run (Text text ∷ chunks) = map Read (utf8_pieces run) ++ Plain text ∷ parts_from [] chunks
+parts_from run (Text text ∷ chunks) =
+    map Read (utf8_pieces run) ++ Plain text ∷ parts_from [] chunks
 
 abbrev pub parts : List ℕ → List Part
 parts text = parts_from [] (chunks text)

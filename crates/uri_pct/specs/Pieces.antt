@@ -1,5 +1,6 @@
 -- The characters and the ill-formed parts of bytes: Unicode, section 3.9, table 3-7.
-use Rattle.std.specs.Prelude.{◌≡◌, ℕ, zero, suc, Bool, true, false, ◌==◌, List, [], ◌∷◌, length, take, Option, Some, None, option_map, slice_index, if◌then◌else◌}
+use Rattle.std.specs.Prelude.{◌≡◌, ℕ, zero, suc, Bool, true, false, ◌==◌, List, [], ◌∷◌, length}
+use Rattle.std.specs.Prelude.{take, Option, Some, None, option_map, slice_index, if◌then◌else◌}
 use Rattle.std.specs.Char.{encode_utf8, IsScalar}
 use Rattle.std.specs.Int.{is_in_range}
 use Rattle.std.specs.List.{find, flat_map}
@@ -53,7 +54,8 @@ begins_within (b ∷ rest) = is_within continuation b
 
 -- what follows a first byte, where a character begins with it
 unfoldable pub following : ℕ → Option (List ByteRange)
-following b = option_map (λ (row : Row). row.1) (find (λ (row : Row). is_within row.0 b) well_formed_rows)
+following b =
+    option_map (λ (row : Row). row.1) (find (λ (row : Row). is_within row.0 b) well_formed_rows)
 
 -- how many bytes at the front of the text lie in the ranges, one after the other
 abbrev pub fitting : List ByteRange → List ℕ → ℕ
@@ -66,7 +68,8 @@ abbrev pub taken : Option (List ByteRange) → List ℕ → ℕ
 taken None rest = 0
 taken (Some ranges) rest = fitting ranges rest
 
--- the first piece: where no character stands, it is the longest front that begins one, or else one byte
+-- the first piece: where no character stands, it is the longest front that begins one, or else one
+-- byte
 abbrev pub first_piece : Option (List ByteRange) → ℕ → List ℕ → Piece
 first_piece None b rest = IllFormed (b ∷ [])
 first_piece (Some ranges) b rest =
@@ -76,7 +79,8 @@ first_piece (Some ranges) b rest =
 -- the pieces, where so many bytes of a piece are still to pass
 unfoldable pub pieces_from : ℕ → List ℕ → List Piece
 pieces_from skip [] = []
-pieces_from zero (b ∷ rest) = first_piece (following b) b rest ∷ pieces_from (taken (following b) rest) rest
+pieces_from zero (b ∷ rest) =
+    first_piece (following b) b rest ∷ pieces_from (taken (following b) rest) rest
 pieces_from (suc k) (b ∷ rest) = pieces_from k rest
 
 abbrev pub utf8_pieces : List ℕ → List Piece

@@ -1,5 +1,7 @@
--- Which octets of a text stand for their characters: RFC 3986, section 6.2.2.2, and RFC 3987, section 5.3.2.3.
-use Rattle.std.specs.Prelude.{◌≡◌, ℕ, Bool, false, not, ◌&&◌, ◌||◌, ◌==◌, nat_lt, List, [], ◌∷◌, ◌++◌, map, if◌then◌else◌}
+-- Which octets of a text stand for their characters: RFC 3986, section 6.2.2.2, and RFC 3987,
+-- section 5.3.2.3.
+use Rattle.std.specs.Prelude.{◌≡◌, ℕ, Bool, false, not, ◌&&◌, ◌||◌, ◌==◌, nat_lt, List, [], ◌∷◌}
+use Rattle.std.specs.Prelude.{◌++◌, map, if◌then◌else◌}
 use Rattle.std.specs.Int.{is_in_range}
 use Rattle.std.specs.List.{flat_map}
 use Rattle.std.specs.Char.{encode_utf8, to_ascii_lowercase}
@@ -9,8 +11,8 @@ use Rattle.uri_pct.specs.Tokens.{Token, Char, Octet, tokens}
 use Rattle.uri_pct.specs.Pieces.{Piece, WellFormed, IllFormed, char_of, utf8_pieces}
 use Rattle.uri_pct.specs.Delimiters.{percent_sign}
 
--- a character that stands for its octets: one that is unreserved, and in an IRI one of `ucschar`, in its query also one
--- of `iprivate`
+-- a character that stands for its octets: one that is unreserved, and in an IRI one of `ucschar`,
+-- in its query also one of `iprivate`
 unfoldable pub is_readable : TableSet → ℕ → Bool
 is_readable set c = is_unreserved c || allows_past_ascii set c
 
@@ -25,7 +27,8 @@ read_alone (Octet value) = if is_unreserved value then Char value else Octet val
 
 -- RFC 3987, section 5.3.2.3: a part of a run of octets, as an IRI has it
 abbrev pub read_piece : TableSet → Piece → List Token
-read_piece set (WellFormed bytes) = if is_readable set (char_of bytes) then Char (char_of bytes) ∷ [] else map Octet bytes
+read_piece set (WellFormed bytes) =
+    if is_readable set (char_of bytes) then Char (char_of bytes) ∷ [] else map Octet bytes
 read_piece set (IllFormed bytes) = map Octet bytes
 
 -- a run of octets, as UTF-8
@@ -42,17 +45,20 @@ read_from set run (Char c ∷ ts) = read_run set run ++ Char c ∷ read_from set
 abbrev pub read_tokens : TableSet → List Token → List Token
 read_tokens set ts = read_from set [] ts
 
--- RFC 3987, section 4.1: the formatting characters of bidirectional text, LRM, RLM, LRE, RLE, PDF, LRO and RLO
+-- RFC 3987, section 4.1: the formatting characters of bidirectional text, LRM, RLM, LRE, RLE, PDF,
+-- LRO and RLO
 unfoldable pub is_bidi_formatting : ℕ → Bool
 is_bidi_formatting c = c == 0x200E || c == 0x200F || is_in_range 0x202A 0x202E c
 
--- such a character, which an IRI must not contain; a set without octets has no other way to spell it
+-- such a character, which an IRI must not contain; a set without octets has no other way to spell
+-- it
 unfoldable pub is_never_literal : TableSet → ℕ → Bool
 is_never_literal set c = set.ucschar && set.pct_encoded && is_bidi_formatting c
 
 -- it is the octets of its UTF-8
 abbrev pub formatting_as_octets : TableSet → Token → List Token
-formatting_as_octets set (Char c) = if is_never_literal set c then map Octet (encode_utf8 c) else Char c ∷ []
+formatting_as_octets set (Char c) =
+    if is_never_literal set c then map Octet (encode_utf8 c) else Char c ∷ []
 formatting_as_octets set (Octet value) = Octet value ∷ []
 
 -- it stands there as it is
@@ -63,8 +69,8 @@ is_literal_formatting (Octet value) = false
 abbrev pub encode_formatting : TableSet → List Token → List Token
 encode_formatting set ts = flat_map (formatting_as_octets set) ts
 
--- each maximal run of octets is read as UTF-8, and formatting characters are octets, whether they stood there as
--- characters or as octets
+-- each maximal run of octets is read as UTF-8, and formatting characters are octets, whether they
+-- stood there as characters or as octets
 abbrev pub read : TableSet → List ℕ → List Token
 read set text = encode_formatting set (read_tokens set (tokens text))
 

@@ -1,5 +1,6 @@
 -- Sets of characters: RFC 3986, appendix A, and RFC 3987, section 2.2. A character is its code.
-use Rattle.std.specs.Prelude.{◌≡◌, ℕ, Bool, true, false, not, ◌&&◌, ◌||◌, ◌==◌, nat_lt, List, codes, if◌then◌else◌}
+use Rattle.std.specs.Prelude.{◌≡◌, ℕ, Bool, true, false, not, ◌&&◌, ◌||◌, ◌==◌, nat_lt, List, codes}
+use Rattle.std.specs.Prelude.{if◌then◌else◌}
 use Rattle.std.specs.Int.{is_in_range}
 use Rattle.std.specs.List.{list_any}
 use Rattle.std.specs.Char.{is_ascii_alphabetic, is_ascii_digit, is_ascii_hexdigit}
@@ -52,16 +53,20 @@ is_query_char c = is_pchar c || is_one_of (codes "/?") c
 -- RFC 3987, section 2.2: the characters past ASCII that stand in every part of an IRI
 unfoldable pub is_ucschar : ℕ → Bool
 is_ucschar c =
-    is_in_range 0xA0 0xD7FF c || is_in_range 0xF900 0xFDCF c || is_in_range 0xFDF0 0xFFEF c
-    || is_in_range 0x10000 0x1FFFD c || is_in_range 0x20000 0x2FFFD c || is_in_range 0x30000 0x3FFFD c
-    || is_in_range 0x40000 0x4FFFD c || is_in_range 0x50000 0x5FFFD c || is_in_range 0x60000 0x6FFFD c
-    || is_in_range 0x70000 0x7FFFD c || is_in_range 0x80000 0x8FFFD c || is_in_range 0x90000 0x9FFFD c
-    || is_in_range 0xA0000 0xAFFFD c || is_in_range 0xB0000 0xBFFFD c || is_in_range 0xC0000 0xCFFFD c
-    || is_in_range 0xD0000 0xDFFFD c || is_in_range 0xE1000 0xEFFFD c
+    is_in_range 0xA0 0xD7FF c || is_in_range 0xF900 0xFDCF c
+    || is_in_range 0xFDF0 0xFFEF c || is_in_range 0x10000 0x1FFFD c
+    || is_in_range 0x20000 0x2FFFD c || is_in_range 0x30000 0x3FFFD c
+    || is_in_range 0x40000 0x4FFFD c || is_in_range 0x50000 0x5FFFD c
+    || is_in_range 0x60000 0x6FFFD c || is_in_range 0x70000 0x7FFFD c
+    || is_in_range 0x80000 0x8FFFD c || is_in_range 0x90000 0x9FFFD c
+    || is_in_range 0xA0000 0xAFFFD c || is_in_range 0xB0000 0xBFFFD c
+    || is_in_range 0xC0000 0xCFFFD c || is_in_range 0xD0000 0xDFFFD c
+    || is_in_range 0xE1000 0xEFFFD c
 
 -- RFC 3987, section 2.2: those that stand in a query alone
 unfoldable pub is_iprivate : ℕ → Bool
-is_iprivate c = is_in_range 0xE000 0xF8FF c || is_in_range 0xF0000 0xFFFFD c || is_in_range 0x100000 0x10FFFD c
+is_iprivate c =
+    is_in_range 0xE000 0xF8FF c || is_in_range 0xF0000 0xFFFFD c || is_in_range 0x100000 0x10FFFD c
 
 -- what a table stands for: ASCII characters other than `%`, and three flags
 pub record TableSet : Type 0 where
@@ -165,7 +170,8 @@ fragment_set = encoded is_query_char
 abbrev pub data_set : TableSet
 data_set = encoded is_unreserved
 
--- RFC 3987, section 2.2: the same with the characters of `ucschar`; in a query those of `iprivate` too
+-- RFC 3987, section 2.2: the same with the characters of `ucschar`; in a query those of `iprivate`
+-- too
 abbrev pub international : TableSet → TableSet
 international set = record set { ucschar = true }
 

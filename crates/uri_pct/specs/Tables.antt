@@ -5,7 +5,12 @@ use Rattle.uri_pct.specs.declared.table.Table.{Table}
 
 -- what the table stands for
 abbrev pub set_of : Table → TableSet
-set_of t = record { ascii = has_bit t.low t.high; pct_encoded = t.pct_encoded; ucschar = t.ucschar; iprivate = t.iprivate }
+set_of t = record {
+  ascii = has_bit t.low t.high;
+  pct_encoded = t.pct_encoded;
+  ucschar = t.ucschar;
+  iprivate = t.iprivate;
+}
 
 -- no character and no flag
 abbrev pub empty_set : TableSet

@@ -1,4 +1,5 @@
--- What the parts of a text leave in the bytes and in the lossy text that take them, one part after the other.
+-- What the parts of a text leave in the bytes and in the lossy text that take them, one part after
+-- the other.
 use Rattle.std.proofs.Common.{◌≡◌, ℕ, Bool, true, false, List, [], ◌++◌, ◌&&◌, refl, sym, ap, ◌∙◌, append_assoc, string_bytes}
 use Rattle.std.specs.List.{list_all, flat_map}
 use Rattle.std.proofs.lemmas.List.{append-nil}

@@ -1,5 +1,6 @@
 -- A text as a list of characters and percent-encoded octets: RFC 3986, section 2.1.
-use Rattle.std.specs.Prelude.{◌≡◌, ℕ, ◌+◌, ◌*◌, ◌/◌, ◌%◌, Bool, true, ◌&&◌, ◌==◌, List, [], ◌∷◌, if◌then◌else◌}
+use Rattle.std.specs.Prelude.{◌≡◌, ℕ, ◌+◌, ◌*◌, ◌/◌, ◌%◌, Bool, true, ◌&&◌, ◌==◌, List, [], ◌∷◌}
+use Rattle.std.specs.Prelude.{if◌then◌else◌}
 use Rattle.std.specs.List.{list_all, flat_map}
 use Rattle.std.specs.Char.{encode_utf8, digit_value, is_ascii_hexdigit}
 use Rattle.std.specs.Fmt.{digit_glyph}
@@ -14,9 +15,11 @@ pub data Token : Type 0 where
 
 -- `%` and two hexadecimal digits
 unfoldable pub is_pct_encoded : ℕ → ℕ → ℕ → Bool
-is_pct_encoded percent high low = percent == percent_sign && (is_ascii_hexdigit high && is_ascii_hexdigit low)
+is_pct_encoded percent high low =
+    percent == percent_sign && (is_ascii_hexdigit high && is_ascii_hexdigit low)
 
--- the tokens that the characters spell: a `%` that two digits do not follow is a character, which no set allows
+-- the tokens that the characters spell: a `%` that two digits do not follow is a character, which
+-- no set allows
 unfoldable pub tokens_of : List ℕ → List Token
 tokens_of [] = []
 tokens_of (c ∷ []) = Char c ∷ []
@@ -52,7 +55,8 @@ token_bytes ts = flat_map bytes_of_token ts
 -- RFC 3986, section 6.2.2.1: the tokens as text, octets with upper-case digits
 abbrev pub text_of_token : Token → List ℕ
 text_of_token (Char c) = encode_utf8 c
-text_of_token (Octet value) = percent_sign ∷ digit_glyph true (value / 16) ∷ digit_glyph true (value % 16) ∷ []
+text_of_token (Octet value) =
+    percent_sign ∷ digit_glyph true (value / 16) ∷ digit_glyph true (value % 16) ∷ []
 
 abbrev pub print : List Token → List ℕ
 print ts = flat_map text_of_token ts

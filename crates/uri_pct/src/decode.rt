@@ -94,7 +94,8 @@ impl<'a> Decode<'a> {
     pub fn to_bytes(self, alloc: Global) -> Result<CowSlice<'a, u8>, AllocError>
         ensures bytes { IfOk result (λ b. cow_items b ≡ decoded self.entry) }
         ensures left { IfOk result (λ b. cow_items b ≡ bytes_left self.entry) }
-        ensures borrows { IsTrue (is_unencoded (undecoded self.entry)) → IsOkAnd result AreBorrowedItems }
+        ensures borrows { IsTrue (is_unencoded (undecoded self.entry))
+            → IsOkAnd result AreBorrowedItems }
     {
         if self.is_unencoded() {
             return Ok(CowSlice::Borrowed(self.rest.as_bytes()));

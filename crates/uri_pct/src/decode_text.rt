@@ -1,5 +1,6 @@
 //! Decoding to text.
-ghost use Rattle.std.specs.Prelude.{◌≡◌, ◌++◌, ◌&&◌, IsTrue, IfOk, IfErr, IsOk, IsOkAnd, string_bytes, IsUtf8};
+ghost use Rattle.std.specs.Prelude.{◌≡◌, ◌++◌, ◌&&◌, IsTrue, IfOk, IfErr, IsOk, IsOkAnd};
+ghost use Rattle.std.specs.Prelude.{string_bytes, IsUtf8};
 ghost use Rattle.std.specs.List.{flat_map, list_all};
 ghost use Rattle.uri_pct.specs.Cows.{cow_text, IsBorrowedText, IsRefusalOf};
 ghost use Rattle.uri_pct.specs.Parts.{pieces_of};
@@ -90,7 +91,8 @@ impl<'a> Decode<'a> {
         ensures refused { IfErr result (IsRefusalOf (decoded self.entry)) }
         ensures left { IfOk result (λ text. cow_text text ≡ bytes_left self.entry) }
         ensures left_refused { IfErr result (IsRefusalOf (bytes_left self.entry)) }
-        ensures borrows { IsTrue (is_unencoded (undecoded self.entry)) → IsOkAnd result IsBorrowedText }
+        ensures borrows { IsTrue (is_unencoded (undecoded self.entry))
+            → IsOkAnd result IsBorrowedText }
     {
         if self.is_unencoded() {
             return Ok(CowStr::Borrowed(self.as_str()));
@@ -122,7 +124,8 @@ impl<'a> Decode<'a> {
     pub fn to_string_lossy(self, alloc: Global) -> Result<CowStr<'a>, AllocError>
         ensures text { IfOk result (λ text. cow_text text ≡ lossy_text (decoded self.entry)) }
         ensures left { IfOk result (λ text. cow_text text ≡ lossy_text (bytes_left self.entry)) }
-        ensures borrows { IsTrue (is_unencoded (undecoded self.entry)) → IsOkAnd result IsBorrowedText }
+        ensures borrows { IsTrue (is_unencoded (undecoded self.entry))
+            → IsOkAnd result IsBorrowedText }
     {
         if self.is_unencoded() {
             return Ok(CowStr::Borrowed(self.as_str()));

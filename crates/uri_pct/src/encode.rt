@@ -17,7 +17,8 @@ use std::alloc::AllocError;
 pub fn push_octets(bytes: &[u8], out: &mut String) -> Result<(), AllocError>
     ensures ok { OnOk result
         (string_bytes out.new ≡ string_bytes out.old ++ print (map Octet bytes.now)) }
-    ensures keeps { take (length (string_bytes out.old)) (string_bytes out.new) ≡ string_bytes out.old }
+    ensures keeps { take (length (string_bytes out.old)) (string_bytes out.new)
+        ≡ string_bytes out.old }
 {
     for &byte in bytes {
         out.push_str(pct_encoded(byte))?;
@@ -68,8 +69,10 @@ fn refused_end(table: &Table, text: &str, start: usize) -> usize
 #[doc(hidden)]
 pub fn push_text(table: &Table, text: &str, out: &mut String) -> Result<(), AllocError>
     ensures ok { OnOk result
-        (string_bytes out.new ≡ string_bytes out.old ++ print (encode_text (set_of table.now) text.now)) }
-    ensures keeps { take (length (string_bytes out.old)) (string_bytes out.new) ≡ string_bytes out.old }
+        (string_bytes out.new ≡ string_bytes out.old
+        ++ print (encode_text (set_of table.now) text.now)) }
+    ensures keeps { take (length (string_bytes out.old)) (string_bytes out.new)
+        ≡ string_bytes out.old }
 {
     let mut done = 0;
     while done < text.len() {
@@ -89,8 +92,10 @@ pub fn push_text(table: &Table, text: &str, out: &mut String) -> Result<(), Allo
 #[doc(hidden)]
 pub fn push_bytes(table: &Table, bytes: &[u8], out: &mut String) -> Result<(), AllocError>
     ensures ok { OnOk result
-        (string_bytes out.new ≡ string_bytes out.old ++ print (encode_bytes (set_of table.now) bytes.now)) }
-    ensures keeps { take (length (string_bytes out.old)) (string_bytes out.new) ≡ string_bytes out.old }
+        (string_bytes out.new ≡ string_bytes out.old
+        ++ print (encode_bytes (set_of table.now) bytes.now)) }
+    ensures keeps { take (length (string_bytes out.old)) (string_bytes out.new)
+        ≡ string_bytes out.old }
 {
     for chunk in bytes.utf8_chunks() {
         push_text(table, chunk.valid(), out)?;
@@ -103,7 +108,8 @@ pub fn push_bytes(table: &Table, bytes: &[u8], out: &mut String) -> Result<(), A
 #[doc(hidden)]
 pub fn append_text(table: &Table, text: &str, out: &mut String) -> Result<(), AllocError>
     ensures ok { OnOk result
-        (string_bytes out.new ≡ string_bytes out.old ++ print (encode_text (set_of table.now) text.now)) }
+        (string_bytes out.new ≡ string_bytes out.old
+        ++ print (encode_text (set_of table.now) text.now)) }
     ensures err { OnErr result (string_bytes out.new ≡ string_bytes out.old) }
 {
     let len = out.as_str().len();
@@ -118,7 +124,8 @@ pub fn append_text(table: &Table, text: &str, out: &mut String) -> Result<(), Al
 #[doc(hidden)]
 pub fn append_bytes(table: &Table, bytes: &[u8], out: &mut String) -> Result<(), AllocError>
     ensures ok { OnOk result
-        (string_bytes out.new ≡ string_bytes out.old ++ print (encode_bytes (set_of table.now) bytes.now)) }
+        (string_bytes out.new ≡ string_bytes out.old
+        ++ print (encode_bytes (set_of table.now) bytes.now)) }
     ensures err { OnErr result (string_bytes out.new ≡ string_bytes out.old) }
 {
     let len = out.as_str().len();

@@ -1,5 +1,6 @@
 //! Owned texts that are percent-encoded over an encoder's set (RFC 3986, section 2.1).
-ghost use Rattle.std.specs.Prelude.{◌≡◌, ◌==◌, ◌<◌, ◌≤◌, ◌+◌, ◌++◌, ◌∷◌, [], OnOk, OnErr, IfOk, IsTrue, true, encode_utf8, length, string_bytes};
+ghost use Rattle.std.specs.Prelude.{◌≡◌, ◌==◌, ◌<◌, ◌≤◌, ◌+◌, ◌++◌, ◌∷◌, [], OnOk, OnErr, IfOk};
+ghost use Rattle.std.specs.Prelude.{IsTrue, true, encode_utf8, length, string_bytes};
 ghost use Rattle.std.specs.String.{string_capacity};
 ghost use Rattle.uri_pct.specs.EStrs.{text_of};
 ghost use Rattle.uri_pct.specs.Encoding.{encode_text, encode_bytes};
@@ -169,8 +170,10 @@ impl<E: Encoder> EString<E> {
     pub fn encode_str<SubE: Encoder>(&mut self, text: &str) -> Result<(), AllocError>
         requires subset { IsSubset SubE.set E.set }
         requires octets { IsTrue (SubE.set).pct_encoded }
-        ensures text { OnOk result (owned_text self.new ≡ owned_text self.old ++ print (encode_text SubE.set text.now)) }
-        ensures tokens { OnOk result (tokens (owned_text self.new) ≡ tokens (owned_text self.old) ++ encode_text SubE.set text.now) }
+        ensures text { OnOk result (owned_text self.new ≡ owned_text self.old
+            ++ print (encode_text SubE.set text.now)) }
+        ensures tokens { OnOk result (tokens (owned_text self.new) ≡ tokens (owned_text self.old)
+            ++ encode_text SubE.set text.now) }
         ensures kept { OnErr result (owned_text self.new ≡ owned_text self.old) }
     {
         append_text(&SubE::table(), text, &mut self.text)?;
@@ -194,8 +197,10 @@ impl<E: Encoder> EString<E> {
     pub fn encode_bytes<SubE: Encoder>(&mut self, bytes: &[u8]) -> Result<(), AllocError>
         requires subset { IsSubset SubE.set E.set }
         requires octets { IsTrue (SubE.set).pct_encoded }
-        ensures text { OnOk result (owned_text self.new ≡ owned_text self.old ++ print (encode_bytes SubE.set bytes.now)) }
-        ensures tokens { OnOk result (tokens (owned_text self.new) ≡ tokens (owned_text self.old) ++ encode_bytes SubE.set bytes.now) }
+        ensures text { OnOk result (owned_text self.new ≡ owned_text self.old
+            ++ print (encode_bytes SubE.set bytes.now)) }
+        ensures tokens { OnOk result (tokens (owned_text self.new) ≡ tokens (owned_text self.old)
+            ++ encode_bytes SubE.set bytes.now) }
         ensures kept { OnErr result (owned_text self.new ≡ owned_text self.old) }
     {
         append_bytes(&SubE::table(), bytes, &mut self.text)?;
@@ -214,9 +219,11 @@ impl<E: Encoder> EString<E> {
     pub fn push(&mut self, ch: char) -> Result<(), AllocError>
         requires { IsTrue (allows E.set ch) }
         ensures text { OnOk result (owned_text self.new ≡ owned_text self.old ++ encode_utf8 ch) }
-        ensures tokens { OnOk result (tokens (owned_text self.new) ≡ tokens (owned_text self.old) ++ Char ch ∷ []) }
+        ensures tokens { OnOk result (tokens (owned_text self.new) ≡ tokens (owned_text self.old)
+            ++ Char ch ∷ []) }
         ensures kept { OnErr result (owned_text self.new ≡ owned_text self.old) }
-        ensures full { OnErr result (owned_capacity self.old < length (owned_text self.old) + length (encode_utf8 ch)) }
+        ensures full { OnErr result (owned_capacity self.old < length (owned_text self.old) + length
+            (encode_utf8 ch)) }
     {
         self.text.push(ch)?;
         Ok(())
@@ -232,10 +239,13 @@ impl<E: Encoder> EString<E> {
     ///
     /// For a query, `push_estr(EStr::new_or_panic("a=%20"))` appends `a=%20`.
     pub fn push_estr(&mut self, text: EStr<'_, E>) -> Result<(), AllocError>
-        ensures text { OnOk result (owned_text self.new ≡ owned_text self.old ++ text_of text.entry) }
-        ensures tokens { OnOk result (tokens (owned_text self.new) ≡ tokens (owned_text self.old) ++ tokens (text_of text.entry)) }
+        ensures text { OnOk result (owned_text self.new ≡ owned_text self.old
+            ++ text_of text.entry) }
+        ensures tokens { OnOk result (tokens (owned_text self.new) ≡ tokens (owned_text self.old)
+            ++ tokens (text_of text.entry)) }
         ensures kept { OnErr result (owned_text self.new ≡ owned_text self.old) }
-        ensures full { OnErr result (owned_capacity self.old < length (owned_text self.old) + length (text_of text.entry)) }
+        ensures full { OnErr result (owned_capacity self.old < length (owned_text self.old) + length
+            (text_of text.entry)) }
     {
         self.text.push_str(text.as_str())?;
         Ok(())

@@ -1,7 +1,8 @@
 //! Laws of the definitions: each is the contract of a function that does nothing.
 #![tactic(auto, using(crate::proofs::Theorems::reading_laws))]
 
-ghost use Rattle.std.specs.Prelude.{◌≡◌, ◌↔◌, ◌<◌, ◌/◌, ◌%◌, ◌&&◌, ℕ, Bool, true, false, List, ◌∷◌, ◌++◌, map, All};
+ghost use Rattle.std.specs.Prelude.{◌≡◌, ◌↔◌, ◌<◌, ◌/◌, ◌%◌, ◌&&◌, ℕ, Bool, true, false, List, ◌∷◌};
+ghost use Rattle.std.specs.Prelude.{◌++◌, map, All};
 ghost use Rattle.std.specs.Char.{IsScalar, encode_utf8};
 ghost use Rattle.std.specs.Fmt.{digit_glyph};
 ghost use Rattle.std.specs.List.{list_all, list_any};
@@ -9,17 +10,22 @@ ghost use Rattle.std.specs.Str.{IsUtf8};
 ghost use Rattle.std.specs.Str.Lossy.{utf8_lossy};
 ghost use Rattle.uri_pct.specs.Encoding.{encode_text, encode_bytes};
 ghost use Rattle.uri_pct.specs.Sets.{TableSet, LacksPercent, IsSubset, unreserved_set};
-ghost use Rattle.uri_pct.specs.Tokens.{Token, Char, Octet, tokens, token_bytes, print, allows_token, IsValidFor};
-ghost use Rattle.uri_pct.specs.Pieces.{WellFormed, IsOfCharacter, is_well_formed, begins_within, bytes_of_pieces, utf8_pieces, lossy_text};
-ghost use Rattle.uri_pct.specs.Reading.{LacksPastAscii, is_literal_formatting, is_printable, is_readable, lower_token};
+ghost use Rattle.uri_pct.specs.Tokens.{Token, Char, Octet, tokens, token_bytes, print};
+ghost use Rattle.uri_pct.specs.Tokens.{allows_token, IsValidFor};
+ghost use Rattle.uri_pct.specs.Pieces.{WellFormed, IsOfCharacter, is_well_formed, begins_within};
+ghost use Rattle.uri_pct.specs.Pieces.{bytes_of_pieces, utf8_pieces, lossy_text};
+ghost use Rattle.uri_pct.specs.Reading.{LacksPastAscii, is_literal_formatting, is_printable};
+ghost use Rattle.uri_pct.specs.Reading.{is_readable, lower_token};
 ghost use Rattle.uri_pct.specs.Reading.{read_alone, read_tokens, read};
 
 /// What is printed is read back as the tokens that were printed, and the tokens of a text that is
 /// valid for a set may be printed (RFC 3986, sections 2.1 and 6.2.2.1).
 pub fn what_is_printed_is_read_back()
     ensures tokens { (ts : List Token) → list_all is_printable ts ≡ true → tokens (print ts) ≡ ts }
-    ensures valid { (set : TableSet) (ts : List Token) → list_all is_printable ts ≡ true → list_all (allows_token set) ts ≡ true → IsValidFor set (print ts) }
-    ensures printable { (set : TableSet) (text : List ℕ) → LacksPercent set → IsValidFor set text → list_all is_printable (tokens text) ≡ true }
+    ensures valid { (set : TableSet) (ts : List Token) → list_all is_printable ts ≡ true
+        → list_all (allows_token set) ts ≡ true → IsValidFor set (print ts) }
+    ensures printable { (set : TableSet) (text : List ℕ) → LacksPercent set → IsValidFor set text
+        → list_all is_printable (tokens text) ≡ true }
 {}
 
 /// An octet is read as its value, whether its digits are in upper or in lower case (RFC 3986,
@@ -35,42 +41,62 @@ pub fn octets_are_read_in_either_case()
 /// given, also behind others, and a text is encoded as its bytes are (RFC 3986, section 2.1).
 #[tactic(auto, using(crate::proofs::Theorems::encoding_laws))]
 pub fn what_is_encoded_decodes_to_what_was_given()
-    ensures text { (set : TableSet) (text : List ℕ) → IsUtf8 text → token_bytes (encode_text set text) ≡ text }
-    ensures bytes { (set : TableSet) (bytes : List ℕ) → token_bytes (encode_bytes set bytes) ≡ bytes }
-    ensures behind { (before behind : List Token) → token_bytes (before ++ behind) ≡ token_bytes before ++ token_bytes behind }
-    ensures tokens { (set : TableSet) (text : List ℕ) → LacksPercent set → IsUtf8 text → tokens (print (encode_text set text)) ≡ encode_text set text }
-    ensures same { (set : TableSet) (text : List ℕ) → IsUtf8 text → encode_bytes set text ≡ encode_text set text }
+    ensures text { (set : TableSet) (text : List ℕ) → IsUtf8 text
+        → token_bytes (encode_text set text) ≡ text }
+    ensures bytes { (set : TableSet) (bytes : List ℕ) → token_bytes (encode_bytes set bytes)
+        ≡ bytes }
+    ensures behind { (before behind : List Token) → token_bytes (before ++ behind)
+        ≡ token_bytes before ++ token_bytes behind }
+    ensures tokens { (set : TableSet) (text : List ℕ) → LacksPercent set → IsUtf8 text
+        → tokens (print (encode_text set text)) ≡ encode_text set text }
+    ensures same { (set : TableSet) (text : List ℕ) → IsUtf8 text → encode_bytes set text
+        ≡ encode_text set text }
 {}
 
-/// The pieces of bytes are together these bytes, those that are well-formed are characters, and they
-/// are cut wherever a character stands and before every byte but 80 to BF (Unicode, section 3.9).
+/// The pieces of bytes are together these bytes, those that are well-formed are characters, and
+/// they are cut wherever a character stands and before every byte but 80 to BF (Unicode, section
+/// 3.9).
 pub fn pieces_are_together_the_bytes()
     ensures bytes { (bytes : List ℕ) → bytes_of_pieces (utf8_pieces bytes) ≡ bytes }
     ensures characters { (bytes : List ℕ) → All IsOfCharacter (utf8_pieces bytes) }
-    ensures around_char { (before : List ℕ) (c : ℕ) (behind : List ℕ) → IsScalar c → utf8_pieces (before ++ (encode_utf8 c ++ behind)) ≡ utf8_pieces before ++ WellFormed (encode_utf8 c) ∷ utf8_pieces behind }
-    ensures between { (before behind : List ℕ) → begins_within behind ≡ false → utf8_pieces (before ++ behind) ≡ utf8_pieces before ++ utf8_pieces behind }
+    ensures around_char { (before : List ℕ) (c : ℕ) (behind : List ℕ) → IsScalar c
+        → utf8_pieces (before ++ (encode_utf8 c ++ behind)) ≡ utf8_pieces before
+        ++ WellFormed (encode_utf8 c) ∷ utf8_pieces behind }
+    ensures between { (before behind : List ℕ) → begins_within behind ≡ false
+        → utf8_pieces (before ++ behind) ≡ utf8_pieces before ++ utf8_pieces behind }
 {}
 
 /// Bytes are UTF-8 exactly where no piece is ill-formed, and the lossy text is that of std's
 /// `String::from_utf8_lossy`.
 pub fn lossy_texts_are_those_of_std()
-    ensures whole { (bytes : List ℕ) → (list_all is_well_formed (utf8_pieces bytes) ≡ true) ↔ IsUtf8 bytes }
+    ensures whole { (bytes : List ℕ) → (list_all is_well_formed (utf8_pieces bytes) ≡ true)
+        ↔ IsUtf8 bytes }
     ensures text { (bytes : List ℕ) → lossy_text bytes ≡ utf8_lossy bytes }
 {}
 
 /// Reading changes no bytes, what is read of a text that is valid for a set is valid for it, a
-/// character that stands for itself parts what is read before it from what is read behind it, and the
-/// octets of a readable character are read as it is, wherever they stand. Of formatting characters of
-/// bidirectional text, which mean what their octets mean, none is read as itself where a set holds
-/// `ucschar` and octets (RFC 3987, section 4.1).
+/// character that stands for itself parts what is read before it from what is read behind it, and
+/// the octets of a readable character are read as it is, wherever they stand. Of formatting
+/// characters of bidirectional text, which mean what their octets mean, none is read as itself
+/// where a set holds `ucschar` and octets (RFC 3987, section 4.1).
 #[doc(hidden)]
 pub fn reading_changes_no_bytes()
-    ensures bytes { (set : TableSet) (text : List ℕ) → token_bytes (read set text) ≡ token_bytes (tokens text) }
-    ensures allowed { (set : TableSet) (text : List ℕ) → IsSubset unreserved_set set → IsValidFor set text → list_all (allows_token set) (read set text) ≡ true }
-    ensures valid { (set : TableSet) (text : List ℕ) → LacksPercent set → IsSubset unreserved_set set → IsValidFor set text → IsValidFor set (print (read set text)) }
-    ensures printable { (set : TableSet) (ts : List Token) → list_all is_printable ts ≡ true → list_all is_printable (read_tokens set ts) ≡ true }
-    ensures around_char { (set : TableSet) (before : List Token) (c : ℕ) (behind : List Token) → read_tokens set (before ++ Char c ∷ behind) ≡ read_tokens set before ++ Char c ∷ read_tokens set behind }
-    ensures encoded { (set : TableSet) (before : List Token) (c : ℕ) (behind : List Token) → IsScalar c → is_readable set c ≡ true → read_tokens set (before ++ (map Octet (encode_utf8 c) ++ behind)) ≡ read_tokens set (before ++ Char c ∷ behind) }
+    ensures bytes { (set : TableSet) (text : List ℕ) → token_bytes (read set text)
+        ≡ token_bytes (tokens text) }
+    ensures allowed { (set : TableSet) (text : List ℕ) → IsSubset unreserved_set set
+        → IsValidFor set text → list_all (allows_token set) (read set text) ≡ true }
+    ensures valid { (set : TableSet) (text : List ℕ) → LacksPercent set
+        → IsSubset unreserved_set set → IsValidFor set text
+        → IsValidFor set (print (read set text)) }
+    ensures printable { (set : TableSet) (ts : List Token) → list_all is_printable ts ≡ true
+        → list_all is_printable (read_tokens set ts) ≡ true }
+    ensures around_char { (set : TableSet) (before : List Token) (c : ℕ) (behind : List Token)
+        → read_tokens set (before ++ Char c ∷ behind) ≡ read_tokens set before ++ Char c
+        ∷ read_tokens set behind }
+    ensures encoded { (set : TableSet) (before : List Token) (c : ℕ) (behind : List Token)
+        → IsScalar c → is_readable set c ≡ true → read_tokens set
+        (before ++ (map Octet (encode_utf8 c) ++ behind))
+        ≡ read_tokens set (before ++ Char c ∷ behind) }
     ensures spelt { (set : TableSet) (before : List Token) (c : ℕ) (behind : List Token)
         → IsScalar c → is_readable set c ≡ true
         → list_all is_printable (before ++ Char c ∷ behind) ≡ true
@@ -81,26 +107,36 @@ pub fn reading_changes_no_bytes()
         → list_any is_literal_formatting (read set text) ≡ false }
 {}
 
-/// In a URI each octet is read by itself (RFC 3986, section 6.2.2.2), which is the reading of an IRI
-/// (RFC 3987, section 5.3.2.3) at a set with no character past ASCII.
+/// In a URI each octet is read by itself (RFC 3986, section 6.2.2.2), which is the reading of an
+/// IRI (RFC 3987, section 5.3.2.3) at a set with no character past ASCII.
 #[doc(hidden)]
 pub fn uris_are_read_octet_by_octet()
-    ensures { (set : TableSet) (text : List ℕ) → LacksPastAscii set → read set text ≡ map read_alone (tokens text) }
+    ensures { (set : TableSet) (text : List ℕ) → LacksPastAscii set → read set text
+        ≡ map read_alone (tokens text) }
 {}
 
 /// Reading twice is reading once.
 #[doc(hidden)]
 pub fn reading_twice_is_reading_once()
-    ensures tokens { (set : TableSet) (ts : List Token) → read_tokens set (read_tokens set ts) ≡ read_tokens set ts }
-    ensures text { (set : TableSet) (text : List ℕ) → list_all is_printable (tokens text) ≡ true → read set (print (read set text)) ≡ read set text }
+    ensures tokens { (set : TableSet) (ts : List Token) → read_tokens set (read_tokens set ts)
+        ≡ read_tokens set ts }
+    ensures text { (set : TableSet) (text : List ℕ) → list_all is_printable (tokens text) ≡ true
+        → read set (print (read set text)) ≡ read set text }
 {}
 
-/// The reading with its letters lowered is read as itself, and a set that allows the reading allows it.
+/// The reading with its letters lowered is read as itself, and a set that allows the reading allows
+/// it.
 #[doc(hidden)]
 pub fn lowering_may_come_before_reading()
-    ensures tokens { (set : TableSet) (ts : List Token) → read_tokens set (map lower_token (read_tokens set ts)) ≡ map lower_token (read_tokens set ts) }
-    ensures text { (set : TableSet) (text : List ℕ) → list_all is_printable (tokens text) ≡ true → read set (print (map lower_token (read set text))) ≡ map lower_token (read set text) }
+    ensures tokens { (set : TableSet) (ts : List Token)
+        → read_tokens set (map lower_token (read_tokens set ts))
+        ≡ map lower_token (read_tokens set ts) }
+    ensures text { (set : TableSet) (text : List ℕ) → list_all is_printable (tokens text) ≡ true
+        → read set (print (map lower_token (read set text))) ≡ map lower_token (read set text) }
     ensures twice { (ts : List Token) → map lower_token (map lower_token ts) ≡ map lower_token ts }
-    ensures printable { (ts : List Token) → list_all is_printable ts ≡ true → list_all is_printable (map lower_token ts) ≡ true }
-    ensures allowed { (set : TableSet) (ts : List Token) → IsSubset unreserved_set set → list_all (allows_token set) ts ≡ true → list_all (allows_token set) (map lower_token ts) ≡ true }
+    ensures printable { (ts : List Token) → list_all is_printable ts ≡ true
+        → list_all is_printable (map lower_token ts) ≡ true }
+    ensures allowed { (set : TableSet) (ts : List Token) → IsSubset unreserved_set set
+        → list_all (allows_token set) ts ≡ true → list_all (allows_token set) (map lower_token ts)
+        ≡ true }
 {}

@@ -1,5 +1,6 @@
 //! How far a table reads a text.
-ghost use Rattle.std.specs.Prelude.{◌≡◌, ◌<◌, ◌≤◌, ◌+◌, IsTrue, false, true, length, drop, slice_index};
+ghost use Rattle.std.specs.Prelude.{◌≡◌, ◌<◌, ◌≤◌, ◌+◌, IsTrue, false, true, length, drop};
+ghost use Rattle.std.specs.Prelude.{slice_index};
 ghost use Rattle.std.specs.Str.{IsCharBoundary};
 ghost use Rattle.uri_pct.specs.Fronts.{front, has_digits, may_go_on};
 ghost use Rattle.uri_pct.specs.Tokens.{is_valid_for};
@@ -29,10 +30,12 @@ impl Table {
     #[doc(hidden)]
     pub fn pass_ascii(&self, text: &str, start: usize) -> usize
         requires { IsCharBoundary text.now start }
-        ensures total { result + front (set_of self.now) (drop result text.now) ≡ start + front (set_of self.now) (drop start text.now) }
+        ensures total { result + front (set_of self.now) (drop result text.now)
+            ≡ start + front (set_of self.now) (drop start text.now) }
         ensures from { start ≤ result }
         ensures boundary { IsCharBoundary text.now result }
-        ensures stop { result < length text.now → (set_of self.now).ascii (slice_index text.now result) ≡ false }
+        ensures stop { result < length text.now → (set_of self.now).ascii
+            (slice_index text.now result) ≡ false }
     {
         let (low, high) = self.masks();
         let bytes = text.as_bytes();

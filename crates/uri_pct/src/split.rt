@@ -1,5 +1,6 @@
 //! Texts cut at delimiters (RFC 3986, section 2.2).
-ghost use Rattle.std.specs.Prelude.{◌≡◌, ◌==◌, IsTrue, IfSome, MatchOption, true, drop, is_some, length, ◌<◌, ◌^◌};
+ghost use Rattle.std.specs.Prelude.{◌≡◌, ◌==◌, IsTrue, IfSome, MatchOption, true, drop, is_some};
+ghost use Rattle.std.specs.Prelude.{length, ◌<◌, ◌^◌};
 ghost use Rattle.std.specs.List.{slice_split, join_with_byte, AllPass};
 ghost use Rattle.uri_pct.specs.Sets.{is_reserved};
 ghost use Rattle.uri_pct.specs.Texts.{lacks, is_absolute, IsFirstCut, IsLastCut};
@@ -93,7 +94,8 @@ impl<'a, E: Encoder> EStr<'a, E> {
     ghost use Rattle.uri_pct.specs.Splits.{pieces_left};
 
     /// What stands before the first `delimiter` and what stands behind it, or `None` exactly if
-    /// there is none. The delimiter is reserved (RFC 3986, section 2.2): `RESERVED.allows` tests it.
+    /// there is none. The delimiter is reserved (RFC 3986, section 2.2): `RESERVED.allows` tests
+    /// it.
     ///
     /// # Examples
     ///
@@ -108,7 +110,8 @@ impl<'a, E: Encoder> EStr<'a, E> {
     }
 
     /// What stands before the last `delimiter` and what stands behind it, or `None` exactly if
-    /// there is none. The delimiter is reserved (RFC 3986, section 2.2): `RESERVED.allows` tests it.
+    /// there is none. The delimiter is reserved (RFC 3986, section 2.2): `RESERVED.allows` tests
+    /// it.
     ///
     /// # Examples
     ///
@@ -132,7 +135,8 @@ impl<'a, E: Encoder> EStr<'a, E> {
     /// `a&&b` at `&` is `a`, the empty piece and `b`.
     pub fn split(self, delimiter: char) -> Split<'a, E>
         requires { IsTrue (is_reserved delimiter) }
-        ensures pieces { pieces_left result ≡ slice_split (λ b. b == delimiter) (text_of self.entry) }
+        ensures pieces { pieces_left result ≡ slice_split (λ b. b == delimiter)
+            (text_of self.entry) }
         ensures joined { join_with_byte delimiter (pieces_left result) ≡ text_of self.entry }
         ensures apart { AllPass (lacks delimiter) (pieces_left result) }
         ensures fits { length (pieces_left result) < 2 ^ 64 }

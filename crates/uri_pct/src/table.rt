@@ -4,7 +4,8 @@ ghost use Rattle.std.specs.Int.{bit_at, is_in_range};
 ghost use Rattle.std.specs.List.{list_all};
 ghost use Rattle.uri_pct.specs.Masks.{has_bit, is_plain_ascii};
 ghost use Rattle.uri_pct.specs.Reading.{is_readable};
-ghost use Rattle.uri_pct.specs.Sets.{allows, allows_past_ascii, is_ucschar, is_iprivate, is_one_of, plain, union, difference, IsSubset};
+ghost use Rattle.uri_pct.specs.Sets.{allows, allows_past_ascii, is_ucschar, is_iprivate, is_one_of};
+ghost use Rattle.uri_pct.specs.Sets.{plain, union, difference, IsSubset};
 
 mod constants;
 
@@ -15,8 +16,8 @@ pub use self::constants::{
 };
 use crate::lanes::{holds, words};
 
-/// A set of ASCII characters other than `%`, and three flags: whether percent-encoded octets,
-/// the characters of `ucschar` and those of `iprivate` (RFC 3987, section 2.2) may stand beside them.
+/// A set of ASCII characters other than `%`, and three flags: whether percent-encoded octets, the
+/// characters of `ucschar` and those of `iprivate` (RFC 3987, section 2.2) may stand beside them.
 ///
 /// # Examples
 ///
@@ -144,7 +145,8 @@ impl Table {
         self
     }
 
-    /// Whether `other` allows every character that `self` allows, and has each flag that `self` has.
+    /// Whether `other` allows every character that `self` allows, and has each flag that `self`
+    /// has.
     ///
     /// # Examples
     ///

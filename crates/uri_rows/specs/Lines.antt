@@ -3,4 +3,5 @@ use Rattle.std.specs.Prelude.{ℕ, List, ◌++◌, codes, decimal}
 
 -- the last line: how many rows there are, and how many of them differ
 abbrev pub summary : ℕ → ℕ → List ℕ
-summary rows failed = codes "rows " ++ decimal rows ++ codes " failed " ++ decimal failed ++ codes "\n"
+summary rows failed =
+    codes "rows " ++ decimal rows ++ codes " failed " ++ decimal failed ++ codes "\n"

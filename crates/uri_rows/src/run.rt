@@ -13,7 +13,8 @@ use std::io::{self, Write};
 /// 0: no row differs, and `out` got the last line alone. 1: a row differs, or `out` failed, which
 /// ends the run.
 pub fn run<O: Write>(alloc: Global, rows: &[Row], out: &mut O) -> u8
-    ensures passed { result ≡ 0 → Appends (O.contents out.old) (O.contents out.new) (summary (length rows.now) 0) }
+    ensures passed { result ≡ 0 → Appends (O.contents out.old) (O.contents out.new)
+        (summary (length rows.now) 0) }
     ensures status { result ≤ 1 }
 {
     match report(alloc, rows, out) {
@@ -24,7 +25,8 @@ pub fn run<O: Write>(alloc: Global, rows: &[Row], out: &mut O) -> u8
 
 /// Writes the lines, and answers how many rows differ.
 fn report<O: Write>(alloc: Global, rows: &[Row], out: &mut O) -> io::Result<usize>
-    ensures { result ≡ Ok 0 → Appends (O.contents out.old) (O.contents out.new) (summary (length rows.now) 0) }
+    ensures { result ≡ Ok 0 → Appends (O.contents out.old) (O.contents out.new)
+        (summary (length rows.now) 0) }
 {
     let failed = report_failures(alloc, rows, out)?;
     writeln!(out, "rows {} failed {failed}", rows.len())?;

@@ -28,7 +28,8 @@ pub const DIGIT: Table = Table {
     iprivate: false,
 };
 
-/// `HEXDIG = DIGIT / "A" / "B" / "C" / "D" / "E" / "F"`, the letters in either case (RFC 3986, appendix A).
+/// `HEXDIG = DIGIT / "A" / "B" / "C" / "D" / "E" / "F"`, the letters in either case (RFC 3986,
+/// appendix A).
 ///
 /// # Examples
 ///
@@ -54,7 +55,8 @@ pub const SCHEME: Table = Table {
     iprivate: false,
 };
 
-/// What `userinfo = *( unreserved / pct-encoded / sub-delims / ":" )` consists of (RFC 3986, section 3.2.1).
+/// What `userinfo = *( unreserved / pct-encoded / sub-delims / ":" )` consists of (RFC 3986,
+/// section 3.2.1).
 ///
 /// # Examples
 ///
@@ -67,7 +69,8 @@ pub const USERINFO: Table = Table {
     iprivate: false,
 };
 
-/// The characters behind the dot of `IPvFuture = "v" 1*HEXDIG "." 1*( unreserved / sub-delims / ":" )` (RFC 3986, section 3.2.2).
+/// The characters behind the dot of `IPvFuture = "v" 1*HEXDIG "." 1*( unreserved / sub-delims / ":"
+/// )` (RFC 3986, section 3.2.2).
 ///
 /// # Examples
 ///
@@ -80,7 +83,8 @@ pub const IPV_FUTURE: Table = Table {
     iprivate: false,
 };
 
-/// What `reg-name = *( unreserved / pct-encoded / sub-delims )` consists of (RFC 3986, section 3.2.2).
+/// What `reg-name = *( unreserved / pct-encoded / sub-delims )` consists of (RFC 3986, section
+/// 3.2.2).
 ///
 /// # Examples
 ///
@@ -106,7 +110,8 @@ pub const PATH: Table = Table {
     iprivate: false,
 };
 
-/// What `segment-nz-nc = 1*( unreserved / pct-encoded / sub-delims / "@" )` consists of (RFC 3986, section 3.3).
+/// What `segment-nz-nc = 1*( unreserved / pct-encoded / sub-delims / "@" )` consists of (RFC 3986,
+/// section 3.3).
 ///
 /// # Examples
 ///
@@ -197,7 +202,8 @@ pub const GEN_DELIMS: Table = Table {
     iprivate: false,
 };
 
-/// `sub-delims = "!" / "$" / "&" / "'" / "(" / ")" / "*" / "+" / "," / ";" / "="` (RFC 3986, section 2.2).
+/// `sub-delims = "!" / "$" / "&" / "'" / "(" / ")" / "*" / "+" / "," / ";" / "="` (RFC 3986,
+/// section 2.2).
 ///
 /// # Examples
 ///
@@ -210,7 +216,8 @@ pub const SUB_DELIMS: Table = Table {
     iprivate: false,
 };
 
-/// What `iuserinfo = *( iunreserved / pct-encoded / sub-delims / ":" )` consists of (RFC 3987, section 2.2).
+/// What `iuserinfo = *( iunreserved / pct-encoded / sub-delims / ":" )` consists of (RFC 3987,
+/// section 2.2).
 ///
 /// # Examples
 ///
@@ -223,7 +230,8 @@ pub const IUSERINFO: Table = Table {
     iprivate: false,
 };
 
-/// What `ireg-name = *( iunreserved / pct-encoded / sub-delims )` consists of (RFC 3987, section 2.2).
+/// What `ireg-name = *( iunreserved / pct-encoded / sub-delims )` consists of (RFC 3987, section
+/// 2.2).
 ///
 /// # Examples
 ///
@@ -249,7 +257,8 @@ pub const IPATH: Table = Table {
     iprivate: false,
 };
 
-/// What `isegment-nz-nc = 1*( iunreserved / pct-encoded / sub-delims / "@" )` consists of (RFC 3987, section 2.2).
+/// What `isegment-nz-nc = 1*( iunreserved / pct-encoded / sub-delims / "@" )` consists of (RFC
+/// 3987, section 2.2).
 ///
 /// # Examples
 ///
