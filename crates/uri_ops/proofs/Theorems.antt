@@ -9,9 +9,9 @@ use Rattle.uri_ops.proofs.Paths.DotLaws.{removed_of_plain, underflows_of_plain, 
 use Rattle.uri_ops.proofs.Paths.DotLaws.{directory_ends, removed_directory, underflows_directory}
 use Rattle.uri_ops.proofs.Paths.DotLaws.{removed_in_pieces, underflows_in_pieces}
 use Rattle.uri_ops.proofs.Paths.DotLaws.{removed_before_merging, underflows_merged}
-use Rattle.uri_ops.proofs.Normal.NormalTexts.{meaning_of-under, normal_is_text}
-use Rattle.uri_ops.proofs.Normal.NormalTexts.{meaning_of-normal_text, normal_text-normal_text}
-use Rattle.uri_ops.proofs.Normal.NormalTexts.{same_normal_text}
+use Rattle.uri_ops.proofs.Meanings.PortMeanings.{meaning_of-under}
+use Rattle.uri_ops.proofs.Normal.NormalTexts.{normal_is_text, meaning_of-normal_text}
+use Rattle.uri_ops.proofs.Normal.NormalTexts.{normal_text-normal_text, same_normal_text}
 use Rattle.uri_ops.proofs.Targeting.Targets.{target_is_split, target_components}
 -- The target of a reference against a base of a kind is a text of that kind: RFC 3986, section 5.2.
 pub use Rattle.uri_ops.proofs.Targeting.TargetTexts.{target_is_text}

@@ -14,7 +14,6 @@ use Rattle.uri_ops.specs.Meaning.{components_meaning, meaning_of}
 use Rattle.uri_ops.specs.Normal.{normal_text}
 use Rattle.uri_ops.proofs.Meanings.AllowedParts.{is_part, part_utf8}
 use Rattle.uri_ops.proofs.Meanings.PlainTexts.{utf8_ascii}
-use Rattle.uri_ops.proofs.Meanings.PortMeanings.{meaning_of-under}
 use Rattle.uri_ops.proofs.Meanings.TextParts.{AreParts, components_utf8, meet_parts, parts_meet}
 use Rattle.uri_ops.proofs.Normal.NormalComponents.{normal_of, normal_parts, normal_split, normal_meaning}
 use Rattle.uri_ops.proofs.Meanings.AuthorityMeanings.{keeps_authorities}

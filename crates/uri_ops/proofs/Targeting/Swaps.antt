@@ -21,7 +21,7 @@ use Rattle.uri_ops.proofs.Normal.NormalTexts.{parts_of, normal_is_text, meaning_
 use Rattle.uri_ops.proofs.Targeting.JoinedMeanings.{of_parts, with_scheme, target_meaning, joined_normal, refused_normal}
 use Rattle.uri_ops.proofs.Targeting.RefusalOrder.{outcome, outcome_map, same_outcome}
 use Rattle.uri_ops.proofs.Tests.{some_map}
-use Rattle.uri_parts.proofs.TextKinds.KindSets.{with_scheme}
+use Rattle.uri_parts.proofs.TextKinds.KindSets.{with_scheme as scheme_where_needed}
 
 joined_scheme : (base r : Components) → is_some base.scheme ≡ true → is_some (joined base r).scheme ≡ true
 joined_scheme base r some =
@@ -31,7 +31,7 @@ joined_scheme base r some =
     (λ _. cond_both (starts 47 r.path) _ _ (λ (t : Components). is_some t.scheme ≡ true) (λ _. some) (λ _. some))))
 
 pub has_needed_scheme : (kind : Kind) (b : List ℕ) → kind.needs_scheme ≡ true → IsTextOf kind b → is_some (components b).scheme ≡ true
-has_needed_scheme kind b needs w = with_scheme kind.needs_scheme _ _ needs (parts_of kind b w).needs
+has_needed_scheme kind b needs w = scheme_where_needed kind.needs_scheme _ _ needs (parts_of kind b w).needs
 
 none_some : (o : Option (List ℕ)) → is_none o ≡ true → is_some o ≡ false
 none_some None e = refl
