@@ -138,6 +138,10 @@ impl<T: AsStr> Iri<T> {
     }
 
     /// Whether there is an authority.
+    ///
+    /// # Examples
+    ///
+    /// `http://例え.jp` has one, and `http:a` has none.
     pub fn has_authority(&self) -> bool
         ensures { result ≡ is_some (components (iri_text self.now)).authority }
     {
@@ -145,6 +149,10 @@ impl<T: AsStr> Iri<T> {
     }
 
     /// Whether there is a query.
+    ///
+    /// # Examples
+    ///
+    /// `http:a?` has one, which is empty, and `http:a` has none.
     pub fn has_query(&self) -> bool
         ensures { result ≡ is_some (components (iri_text self.now)).query }
     {
@@ -152,6 +160,10 @@ impl<T: AsStr> Iri<T> {
     }
 
     /// Whether there is a fragment.
+    ///
+    /// # Examples
+    ///
+    /// `http:a#` has one, which is empty, and `http:a` has none.
     pub fn has_fragment(&self) -> bool
         ensures { result ≡ is_some (components (iri_text self.now)).fragment }
     {

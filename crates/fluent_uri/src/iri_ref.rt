@@ -138,6 +138,10 @@ impl<T: AsStr> IriRef<T> {
     }
 
     /// Whether there is a scheme.
+    ///
+    /// # Examples
+    ///
+    /// `http://例え.jp` has one, and `a` has none.
     pub fn has_scheme(&self) -> bool
         ensures { result ≡ is_some (components (iri_ref_text self.now)).scheme }
     {
@@ -145,6 +149,10 @@ impl<T: AsStr> IriRef<T> {
     }
 
     /// Whether there is an authority.
+    ///
+    /// # Examples
+    ///
+    /// `http://例え.jp` has one, and `http:a` has none.
     pub fn has_authority(&self) -> bool
         ensures { result ≡ is_some (components (iri_ref_text self.now)).authority }
     {
@@ -152,6 +160,10 @@ impl<T: AsStr> IriRef<T> {
     }
 
     /// Whether there is a query.
+    ///
+    /// # Examples
+    ///
+    /// `http:a?` has one, which is empty, and `http:a` has none.
     pub fn has_query(&self) -> bool
         ensures { result ≡ is_some (components (iri_ref_text self.now)).query }
     {
@@ -159,6 +171,10 @@ impl<T: AsStr> IriRef<T> {
     }
 
     /// Whether there is a fragment.
+    ///
+    /// # Examples
+    ///
+    /// `http:a#` has one, which is empty, and `http:a` has none.
     pub fn has_fragment(&self) -> bool
         ensures { result ≡ is_some (components (iri_ref_text self.now)).fragment }
     {

@@ -139,6 +139,10 @@ impl<T: AsStr> UriRef<T> {
     }
 
     /// Whether there is a scheme.
+    ///
+    /// # Examples
+    ///
+    /// `http://example.com` has one, and `a` has none.
     pub fn has_scheme(&self) -> bool
         ensures { result ≡ is_some (components (uri_ref_text self.now)).scheme }
     {
@@ -146,6 +150,10 @@ impl<T: AsStr> UriRef<T> {
     }
 
     /// Whether there is an authority.
+    ///
+    /// # Examples
+    ///
+    /// `http://example.com` has one, and `http:a` has none.
     pub fn has_authority(&self) -> bool
         ensures { result ≡ is_some (components (uri_ref_text self.now)).authority }
     {
@@ -153,6 +161,10 @@ impl<T: AsStr> UriRef<T> {
     }
 
     /// Whether there is a query.
+    ///
+    /// # Examples
+    ///
+    /// `http:a?` has one, which is empty, and `http:a` has none.
     pub fn has_query(&self) -> bool
         ensures { result ≡ is_some (components (uri_ref_text self.now)).query }
     {
@@ -160,6 +172,10 @@ impl<T: AsStr> UriRef<T> {
     }
 
     /// Whether there is a fragment.
+    ///
+    /// # Examples
+    ///
+    /// `http:a#` has one, which is empty, and `http:a` has none.
     pub fn has_fragment(&self) -> bool
         ensures { result ≡ is_some (components (uri_ref_text self.now)).fragment }
     {

@@ -29,6 +29,10 @@ impl<'a> Iri<&'a str> {
     ///
     /// Exactly if the text is no IRI (RFC 3987, section 2.2). The error names what is
     /// wrong, and where, as a byte offset on a character boundary.
+    ///
+    /// # Examples
+    ///
+    /// `http://é.example` is one, and `é`, which has no scheme, is refused.
     pub fn parse(text: &'a str) -> Result<Iri<&'a str>, ParseError>
         ensures accepts { IsOk result ↔ IsOfKind iri text.now }
         ensures text { IfOk result (λ value. iri_text value ≡ text.now) }
@@ -41,6 +45,10 @@ impl<'a> Iri<&'a str> {
     }
 
     /// The text as it stands.
+    ///
+    /// # Examples
+    ///
+    /// Of what was parsed from `http://例え.jp/a?b#c` it is `http://例え.jp/a?b#c`.
     pub fn as_str(self) -> &'a str
         ensures text { result.now ≡ iri_text self.entry }
         ensures of_kind { IsOfKind iri result.now }
@@ -49,6 +57,10 @@ impl<'a> Iri<&'a str> {
     }
 
     /// The scheme without its `:` (RFC 3986, section 3.1).
+    ///
+    /// # Examples
+    ///
+    /// Of `http://例え.jp/a?b#c` it is `http`.
     pub fn scheme(self) -> Scheme<'a>
         ensures { Some (scheme_text result) ≡ (components (iri_text self.entry)).scheme }
     {
@@ -56,6 +68,10 @@ impl<'a> Iri<&'a str> {
     }
 
     /// The authority without its `//`, if there is one (RFC 3987, section 2.2).
+    ///
+    /// # Examples
+    ///
+    /// Of `http://例え.jp/a?b#c` it is `例え.jp`, and of `http:a` there is none.
     pub fn authority(self) -> Option<IAuthority<'a>>
         ensures { option_map authority_text result ≡ (components (iri_text self.entry)).authority }
     {
@@ -63,6 +79,10 @@ impl<'a> Iri<&'a str> {
     }
 
     /// The path, which may be empty (RFC 3987, section 2.2).
+    ///
+    /// # Examples
+    ///
+    /// Of `http://例え.jp/a?b#c` it is `/a`, and of `http://例え.jp` it is empty.
     pub fn path(self) -> EStr<'a, IPath>
         ensures { text_of result ≡ (components (iri_text self.entry)).path }
     {
@@ -70,6 +90,10 @@ impl<'a> Iri<&'a str> {
     }
 
     /// The query without its `?`, if there is one (RFC 3987, section 2.2).
+    ///
+    /// # Examples
+    ///
+    /// Of `http://例え.jp/a?b#c` it is `b`, and of `http:a` there is none.
     pub fn query(self) -> Option<EStr<'a, IQuery>>
         ensures { option_map text_of result ≡ (components (iri_text self.entry)).query }
     {
@@ -77,6 +101,10 @@ impl<'a> Iri<&'a str> {
     }
 
     /// The fragment without its `#`, if there is one (RFC 3987, section 2.2).
+    ///
+    /// # Examples
+    ///
+    /// Of `http://例え.jp/a?b#c` it is `c`, and of `http:a` there is none.
     pub fn fragment(self) -> Option<EStr<'a, IFragment>>
         ensures { option_map text_of result ≡ (components (iri_text self.entry)).fragment }
     {
@@ -125,6 +153,10 @@ impl<'a> Iri<&'a str> {
     /// # Errors
     ///
     /// Only if memory is refused.
+    ///
+    /// # Examples
+    ///
+    /// Of `http://例え.jp/a?b#c` it is `http://例え.jp/a?b#c`, over a `String`.
     pub fn to_owned(self, alloc: Global) -> Result<Iri<String>, AllocError>
         ensures { IfOk result (λ owned. iri_text owned ≡ iri_text self.entry) }
     {
@@ -138,6 +170,10 @@ impl<'a> Iri<&'a str> {
     /// # Errors
     ///
     /// Only if memory is refused.
+    ///
+    /// # Examples
+    ///
+    /// `HTTP://example.com/%c3%a9` is normalised to `http://example.com/é`.
     pub fn normalize(self, alloc: Global) -> Result<Iri<String>, AllocError>
         ensures { IfOk result (λ normal.
             IsNormalForm iri default_port (iri_text self.entry) (iri_text normal)) }

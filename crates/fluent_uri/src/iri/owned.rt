@@ -29,6 +29,10 @@ use uri_pct::pct_enc::EStr;
 
 impl Iri<String> {
     /// A builder of an IRI, which holds nothing yet and takes its memory from the allocator.
+    ///
+    /// # Examples
+    ///
+    /// With the scheme `http` and the path `a` it builds `http:a`.
     pub fn builder(alloc: Global) -> Builder<Iri<String>, NonRefStart>
         ensures { builder_parts iri (⟦<NonRefStart as State>⟧.held (state_of result)) ≡ no_parts }
     {
@@ -41,6 +45,10 @@ impl Iri<String> {
     ///
     /// Exactly if the text is no IRI (RFC 3987, section 2.2). The error names what is
     /// wrong, and where, as a byte offset on a character boundary; the text comes back beside it.
+    ///
+    /// # Examples
+    ///
+    /// `http://é.example` is one, and `é`, which has no scheme, is refused.
     pub fn parse(text: String) -> Result<Iri<String>, (ParseError, String)>
         ensures accepts { IsOk result ↔ IsOfKind iri (string_bytes text) }
         ensures text { IfOk result (λ value. iri_text value ≡ string_bytes text) }
@@ -54,6 +62,10 @@ impl Iri<String> {
     }
 
     /// The same IRI over the text, which is borrowed.
+    ///
+    /// # Examples
+    ///
+    /// Of `http://例え.jp/a?b#c` over a `String` it is `http://例え.jp/a?b#c` over a `&str`.
     pub fn borrow(&self) -> Iri<&str>
         ensures { iri_text result ≡ iri_text self.now }
     {
@@ -117,6 +129,10 @@ impl Iri<String> {
     }
 
     /// The text as it stands, with its memory.
+    ///
+    /// # Examples
+    ///
+    /// Of what was parsed from `http://例え.jp/a?b#c` it is that `String`.
     pub fn into_string(self) -> String
         ensures { string_bytes result ≡ iri_text self }
     {
@@ -128,6 +144,10 @@ impl Iri<String> {
     /// # Errors
     ///
     /// Only if memory is refused.
+    ///
+    /// # Examples
+    ///
+    /// `HTTP://example.com/%c3%a9` is normalised to `http://example.com/é`.
     pub fn normalize(&self, alloc: Global) -> Result<Iri<String>, AllocError>
         ensures { IfOk result (λ normal.
             IsNormalForm iri default_port (iri_text self.now) (iri_text normal)) }
@@ -136,6 +156,10 @@ impl Iri<String> {
     }
 
     /// The text as it stands.
+    ///
+    /// # Examples
+    ///
+    /// Of what was parsed from `http://例え.jp/a?b#c` it is `http://例え.jp/a?b#c`.
     pub fn as_str(&self) -> &str
         ensures text { result.now ≡ iri_text self.now }
         ensures of_kind { IsOfKind iri result.now }
@@ -144,6 +168,10 @@ impl Iri<String> {
     }
 
     /// The scheme without its `:` (RFC 3986, section 3.1).
+    ///
+    /// # Examples
+    ///
+    /// Of `http://例え.jp/a?b#c` it is `http`.
     pub fn scheme(&self) -> Scheme<'_>
         ensures { Some (scheme_text result) ≡ (components (iri_text self.now)).scheme }
     {
@@ -151,6 +179,10 @@ impl Iri<String> {
     }
 
     /// The authority without its `//`, if there is one (RFC 3987, section 2.2).
+    ///
+    /// # Examples
+    ///
+    /// Of `http://例え.jp/a?b#c` it is `例え.jp`, and of `http:a` there is none.
     pub fn authority(&self) -> Option<IAuthority<'_>>
         ensures { option_map authority_text result ≡ (components (iri_text self.now)).authority }
     {
@@ -158,6 +190,10 @@ impl Iri<String> {
     }
 
     /// The path, which may be empty (RFC 3987, section 2.2).
+    ///
+    /// # Examples
+    ///
+    /// Of `http://例え.jp/a?b#c` it is `/a`, and of `http://例え.jp` it is empty.
     pub fn path(&self) -> EStr<'_, IPath>
         ensures { text_of result ≡ (components (iri_text self.now)).path }
     {
@@ -165,6 +201,10 @@ impl Iri<String> {
     }
 
     /// The query without its `?`, if there is one (RFC 3987, section 2.2).
+    ///
+    /// # Examples
+    ///
+    /// Of `http://例え.jp/a?b#c` it is `b`, and of `http:a` there is none.
     pub fn query(&self) -> Option<EStr<'_, IQuery>>
         ensures { option_map text_of result ≡ (components (iri_text self.now)).query }
     {
@@ -172,6 +212,10 @@ impl Iri<String> {
     }
 
     /// The fragment without its `#`, if there is one (RFC 3987, section 2.2).
+    ///
+    /// # Examples
+    ///
+    /// Of `http://例え.jp/a?b#c` it is `c`, and of `http:a` there is none.
     pub fn fragment(&self) -> Option<EStr<'_, IFragment>>
         ensures { option_map text_of result ≡ (components (iri_text self.now)).fragment }
     {

@@ -36,6 +36,10 @@ impl<'a> IriRef<&'a str> {
     ///
     /// Exactly if the text is no IRI reference (RFC 3987, section 2.2). The error names what is
     /// wrong, and where, as a byte offset on a character boundary.
+    ///
+    /// # Examples
+    ///
+    /// `../é` is one, and `a b` is refused.
     pub fn parse(text: &'a str) -> Result<IriRef<&'a str>, ParseError>
         ensures accepts { IsOk result ↔ IsOfKind iri_ref text.now }
         ensures text { IfOk result (λ value. iri_ref_text value ≡ text.now) }
@@ -48,6 +52,10 @@ impl<'a> IriRef<&'a str> {
     }
 
     /// The text as it stands.
+    ///
+    /// # Examples
+    ///
+    /// Of what was parsed from `http://例え.jp/a?b#c` it is `http://例え.jp/a?b#c`.
     pub fn as_str(self) -> &'a str
         ensures text { result.now ≡ iri_ref_text self.entry }
         ensures of_kind { IsOfKind iri_ref result.now }
@@ -56,6 +64,10 @@ impl<'a> IriRef<&'a str> {
     }
 
     /// The scheme without its `:`, if there is one (RFC 3986, section 3.1).
+    ///
+    /// # Examples
+    ///
+    /// Of `http://例え.jp/a?b#c` it is `http`, and of `a` there is none.
     pub fn scheme(self) -> Option<Scheme<'a>>
         ensures { option_map scheme_text result ≡ (components (iri_ref_text self.entry)).scheme }
     {
@@ -63,6 +75,10 @@ impl<'a> IriRef<&'a str> {
     }
 
     /// The authority without its `//`, if there is one (RFC 3987, section 2.2).
+    ///
+    /// # Examples
+    ///
+    /// Of `http://例え.jp/a?b#c` it is `例え.jp`, and of `http:a` there is none.
     pub fn authority(self) -> Option<IAuthority<'a>>
         ensures { option_map authority_text result
             ≡ (components (iri_ref_text self.entry)).authority }
@@ -71,6 +87,10 @@ impl<'a> IriRef<&'a str> {
     }
 
     /// The path, which may be empty (RFC 3987, section 2.2).
+    ///
+    /// # Examples
+    ///
+    /// Of `http://例え.jp/a?b#c` it is `/a`, and of `http://例え.jp` it is empty.
     pub fn path(self) -> EStr<'a, IPath>
         ensures { text_of result ≡ (components (iri_ref_text self.entry)).path }
     {
@@ -78,6 +98,10 @@ impl<'a> IriRef<&'a str> {
     }
 
     /// The query without its `?`, if there is one (RFC 3987, section 2.2).
+    ///
+    /// # Examples
+    ///
+    /// Of `http://例え.jp/a?b#c` it is `b`, and of `http:a` there is none.
     pub fn query(self) -> Option<EStr<'a, IQuery>>
         ensures { option_map text_of result ≡ (components (iri_ref_text self.entry)).query }
     {
@@ -85,6 +109,10 @@ impl<'a> IriRef<&'a str> {
     }
 
     /// The fragment without its `#`, if there is one (RFC 3987, section 2.2).
+    ///
+    /// # Examples
+    ///
+    /// Of `http://例え.jp/a?b#c` it is `c`, and of `http:a` there is none.
     pub fn fragment(self) -> Option<EStr<'a, IFragment>>
         ensures { option_map text_of result ≡ (components (iri_ref_text self.entry)).fragment }
     {
@@ -133,6 +161,10 @@ impl<'a> IriRef<&'a str> {
     /// # Errors
     ///
     /// Only if memory is refused.
+    ///
+    /// # Examples
+    ///
+    /// Of `http://例え.jp/a?b#c` it is `http://例え.jp/a?b#c`, over a `String`.
     pub fn to_owned(self, alloc: Global) -> Result<IriRef<String>, AllocError>
         ensures { IfOk result (λ owned. iri_ref_text owned ≡ iri_ref_text self.entry) }
     {
@@ -146,6 +178,10 @@ impl<'a> IriRef<&'a str> {
     /// # Errors
     ///
     /// Only if memory is refused.
+    ///
+    /// # Examples
+    ///
+    /// `HTTP://example.com/%c3%a9` is normalised to `http://example.com/é`.
     pub fn normalize(self, alloc: Global) -> Result<IriRef<String>, AllocError>
         ensures { IfOk result (λ normal.
             IsNormalForm iri_ref default_port (iri_ref_text self.entry) (iri_ref_text normal)) }
@@ -162,6 +198,10 @@ impl<'a> IriRef<&'a str> {
     /// if the base has no authority and its path doesn't begin with `/`, and this reference has no
     /// scheme, is not empty and doesn't begin with `#`, both before memory is asked for;
     /// `OutOfMemory` if memory is refused. Never `PathUnderflow`.
+    ///
+    /// # Examples
+    ///
+    /// Of `../g` against `http://a/b/c/d;p?q` it is `http://a/b/g`.
     pub fn resolve_against<B: AsStr>(
         self,
         alloc: Global,

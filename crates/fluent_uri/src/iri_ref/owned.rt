@@ -38,6 +38,10 @@ use uri_pct::pct_enc::EStr;
 impl IriRef<String> {
     /// A builder of an IRI reference, which holds nothing yet and takes its memory from the
     /// allocator.
+    ///
+    /// # Examples
+    ///
+    /// With the path `a` alone it builds `a`.
     pub fn builder(alloc: Global) -> Builder<IriRef<String>, Start>
         ensures { builder_parts iri_ref (⟦<Start as State>⟧.held (state_of result)) ≡ no_parts }
     {
@@ -50,6 +54,10 @@ impl IriRef<String> {
     ///
     /// Exactly if the text is no IRI reference (RFC 3987, section 2.2). The error names what is
     /// wrong, and where, as a byte offset on a character boundary; the text comes back beside it.
+    ///
+    /// # Examples
+    ///
+    /// `../é` is one, and `a b` is refused.
     pub fn parse(text: String) -> Result<IriRef<String>, (ParseError, String)>
         ensures accepts { IsOk result ↔ IsOfKind iri_ref (string_bytes text) }
         ensures text { IfOk result (λ value. iri_ref_text value ≡ string_bytes text) }
@@ -63,6 +71,10 @@ impl IriRef<String> {
     }
 
     /// The same IRI reference over the text, which is borrowed.
+    ///
+    /// # Examples
+    ///
+    /// Of `http://例え.jp/a?b#c` over a `String` it is `http://例え.jp/a?b#c` over a `&str`.
     pub fn borrow(&self) -> IriRef<&str>
         ensures { iri_ref_text result ≡ iri_ref_text self.now }
     {
@@ -126,6 +138,10 @@ impl IriRef<String> {
     }
 
     /// The text as it stands, with its memory.
+    ///
+    /// # Examples
+    ///
+    /// Of what was parsed from `http://例え.jp/a?b#c` it is that `String`.
     pub fn into_string(self) -> String
         ensures { string_bytes result ≡ iri_ref_text self }
     {
@@ -137,6 +153,10 @@ impl IriRef<String> {
     /// # Errors
     ///
     /// Only if memory is refused.
+    ///
+    /// # Examples
+    ///
+    /// `HTTP://example.com/%c3%a9` is normalised to `http://example.com/é`.
     pub fn normalize(&self, alloc: Global) -> Result<IriRef<String>, AllocError>
         ensures { IfOk result (λ normal.
             IsNormalForm iri_ref default_port (iri_ref_text self.now) (iri_ref_text normal)) }
@@ -153,6 +173,10 @@ impl IriRef<String> {
     /// if the base has no authority and its path doesn't begin with `/`, and this reference has no
     /// scheme, is not empty and doesn't begin with `#`, both before memory is asked for;
     /// `OutOfMemory` if memory is refused. Never `PathUnderflow`.
+    ///
+    /// # Examples
+    ///
+    /// Of `../g` against `http://a/b/c/d;p?q` it is `http://a/b/g`.
     pub fn resolve_against<B: AsStr>(
         &self,
         alloc: Global,
@@ -176,6 +200,10 @@ impl IriRef<String> {
     }
 
     /// The text as it stands.
+    ///
+    /// # Examples
+    ///
+    /// Of what was parsed from `http://例え.jp/a?b#c` it is `http://例え.jp/a?b#c`.
     pub fn as_str(&self) -> &str
         ensures text { result.now ≡ iri_ref_text self.now }
         ensures of_kind { IsOfKind iri_ref result.now }
@@ -184,6 +212,10 @@ impl IriRef<String> {
     }
 
     /// The scheme without its `:`, if there is one (RFC 3986, section 3.1).
+    ///
+    /// # Examples
+    ///
+    /// Of `http://例え.jp/a?b#c` it is `http`, and of `a` there is none.
     pub fn scheme(&self) -> Option<Scheme<'_>>
         ensures { option_map scheme_text result ≡ (components (iri_ref_text self.now)).scheme }
     {
@@ -191,6 +223,10 @@ impl IriRef<String> {
     }
 
     /// The authority without its `//`, if there is one (RFC 3987, section 2.2).
+    ///
+    /// # Examples
+    ///
+    /// Of `http://例え.jp/a?b#c` it is `例え.jp`, and of `http:a` there is none.
     pub fn authority(&self) -> Option<IAuthority<'_>>
         ensures { option_map authority_text result
             ≡ (components (iri_ref_text self.now)).authority }
@@ -199,6 +235,10 @@ impl IriRef<String> {
     }
 
     /// The path, which may be empty (RFC 3987, section 2.2).
+    ///
+    /// # Examples
+    ///
+    /// Of `http://例え.jp/a?b#c` it is `/a`, and of `http://例え.jp` it is empty.
     pub fn path(&self) -> EStr<'_, IPath>
         ensures { text_of result ≡ (components (iri_ref_text self.now)).path }
     {
@@ -206,6 +246,10 @@ impl IriRef<String> {
     }
 
     /// The query without its `?`, if there is one (RFC 3987, section 2.2).
+    ///
+    /// # Examples
+    ///
+    /// Of `http://例え.jp/a?b#c` it is `b`, and of `http:a` there is none.
     pub fn query(&self) -> Option<EStr<'_, IQuery>>
         ensures { option_map text_of result ≡ (components (iri_ref_text self.now)).query }
     {
@@ -213,6 +257,10 @@ impl IriRef<String> {
     }
 
     /// The fragment without its `#`, if there is one (RFC 3987, section 2.2).
+    ///
+    /// # Examples
+    ///
+    /// Of `http://例え.jp/a?b#c` it is `c`, and of `http:a` there is none.
     pub fn fragment(&self) -> Option<EStr<'_, IFragment>>
         ensures { option_map text_of result ≡ (components (iri_ref_text self.now)).fragment }
     {

@@ -28,6 +28,10 @@ impl<'a> Uri<&'a str> {
     ///
     /// Exactly if the text is no URI (RFC 3986, section 3). The error names what is
     /// wrong, and where, as a byte offset on a character boundary.
+    ///
+    /// # Examples
+    ///
+    /// `a/b`, which has no scheme, and `http://é.example` are refused.
     pub fn parse(text: &'a str) -> Result<Uri<&'a str>, ParseError>
         ensures accepts { IsOk result ↔ IsOfKind uri text.now }
         ensures text { IfOk result (λ value. uri_text value ≡ text.now) }
@@ -40,6 +44,10 @@ impl<'a> Uri<&'a str> {
     }
 
     /// The text as it stands.
+    ///
+    /// # Examples
+    ///
+    /// Of what was parsed from `http://example.com/a?b#c` it is `http://example.com/a?b#c`.
     pub fn as_str(self) -> &'a str
         ensures text { result.now ≡ uri_text self.entry }
         ensures of_kind { IsOfKind uri result.now }
@@ -48,6 +56,10 @@ impl<'a> Uri<&'a str> {
     }
 
     /// The scheme without its `:` (RFC 3986, section 3.1).
+    ///
+    /// # Examples
+    ///
+    /// Of `http://example.com/a?b#c` it is `http`.
     pub fn scheme(self) -> Scheme<'a>
         ensures { Some (scheme_text result) ≡ (components (uri_text self.entry)).scheme }
     {
@@ -55,6 +67,10 @@ impl<'a> Uri<&'a str> {
     }
 
     /// The authority without its `//`, if there is one (RFC 3986, section 3.2).
+    ///
+    /// # Examples
+    ///
+    /// Of `http://example.com/a?b#c` it is `example.com`, and of `http:a` there is none.
     pub fn authority(self) -> Option<Authority<'a>>
         ensures { option_map authority_text result ≡ (components (uri_text self.entry)).authority }
     {
@@ -62,6 +78,10 @@ impl<'a> Uri<&'a str> {
     }
 
     /// The path, which may be empty (RFC 3986, section 3.3).
+    ///
+    /// # Examples
+    ///
+    /// Of `http://example.com/a?b#c` it is `/a`, and of `http://example.com` it is empty.
     pub fn path(self) -> EStr<'a, Path>
         ensures { text_of result ≡ (components (uri_text self.entry)).path }
     {
@@ -69,6 +89,10 @@ impl<'a> Uri<&'a str> {
     }
 
     /// The query without its `?`, if there is one (RFC 3986, section 3.4).
+    ///
+    /// # Examples
+    ///
+    /// Of `http://example.com/a?b#c` it is `b`, and of `http:a` there is none.
     pub fn query(self) -> Option<EStr<'a, Query>>
         ensures { option_map text_of result ≡ (components (uri_text self.entry)).query }
     {
@@ -76,6 +100,10 @@ impl<'a> Uri<&'a str> {
     }
 
     /// The fragment without its `#`, if there is one (RFC 3986, section 3.5).
+    ///
+    /// # Examples
+    ///
+    /// Of `http://example.com/a?b#c` it is `c`, and of `http:a` there is none.
     pub fn fragment(self) -> Option<EStr<'a, Fragment>>
         ensures { option_map text_of result ≡ (components (uri_text self.entry)).fragment }
     {
@@ -124,6 +152,10 @@ impl<'a> Uri<&'a str> {
     /// # Errors
     ///
     /// Only if memory is refused.
+    ///
+    /// # Examples
+    ///
+    /// Of `http://example.com/a?b#c` it is `http://example.com/a?b#c`, over a `String`.
     pub fn to_owned(self, alloc: Global) -> Result<Uri<String>, AllocError>
         ensures { IfOk result (λ owned. uri_text owned ≡ uri_text self.entry) }
     {
@@ -137,6 +169,10 @@ impl<'a> Uri<&'a str> {
     /// # Errors
     ///
     /// Only if memory is refused.
+    ///
+    /// # Examples
+    ///
+    /// `HTTP://Example.com:80/%7efoo` is normalised to `http://example.com/~foo`.
     pub fn normalize(self, alloc: Global) -> Result<Uri<String>, AllocError>
         ensures { IfOk result (λ normal.
             IsNormalForm uri default_port (uri_text self.entry) (uri_text normal)) }

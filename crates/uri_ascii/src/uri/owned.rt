@@ -28,6 +28,10 @@ use uri_pct::pct_enc::EStr;
 
 impl Uri<String> {
     /// A builder of a URI, which holds nothing yet and takes its memory from the allocator.
+    ///
+    /// # Examples
+    ///
+    /// With the scheme `http` and the path `a` it builds `http:a`.
     pub fn builder(alloc: Global) -> Builder<Uri<String>, NonRefStart>
         ensures { builder_parts uri (⟦<NonRefStart as State>⟧.held (state_of result)) ≡ no_parts }
     {
@@ -40,6 +44,10 @@ impl Uri<String> {
     ///
     /// Exactly if the text is no URI (RFC 3986, section 3). The error names what is
     /// wrong, and where, as a byte offset on a character boundary; the text comes back beside it.
+    ///
+    /// # Examples
+    ///
+    /// `a/b`, which has no scheme, and `http://é.example` are refused.
     pub fn parse(text: String) -> Result<Uri<String>, (ParseError, String)>
         ensures accepts { IsOk result ↔ IsOfKind uri (string_bytes text) }
         ensures text { IfOk result (λ value. uri_text value ≡ string_bytes text) }
@@ -53,6 +61,11 @@ impl Uri<String> {
     }
 
     /// The same URI over the text, which is borrowed.
+    ///
+    /// # Examples
+    ///
+    /// Of `http://example.com/a?b#c` over a `String` it is `http://example.com/a?b#c` over a
+    /// `&str`.
     pub fn borrow(&self) -> Uri<&str>
         ensures { uri_text result ≡ uri_text self.now }
     {
@@ -116,6 +129,10 @@ impl Uri<String> {
     }
 
     /// The text as it stands, with its memory.
+    ///
+    /// # Examples
+    ///
+    /// Of what was parsed from `http://example.com/a?b#c` it is that `String`.
     pub fn into_string(self) -> String
         ensures { string_bytes result ≡ uri_text self }
     {
@@ -127,6 +144,10 @@ impl Uri<String> {
     /// # Errors
     ///
     /// Only if memory is refused.
+    ///
+    /// # Examples
+    ///
+    /// `HTTP://Example.com:80/%7efoo` is normalised to `http://example.com/~foo`.
     pub fn normalize(&self, alloc: Global) -> Result<Uri<String>, AllocError>
         ensures { IfOk result (λ normal.
             IsNormalForm uri default_port (uri_text self.now) (uri_text normal)) }
@@ -135,6 +156,10 @@ impl Uri<String> {
     }
 
     /// The text as it stands.
+    ///
+    /// # Examples
+    ///
+    /// Of what was parsed from `http://example.com/a?b#c` it is `http://example.com/a?b#c`.
     pub fn as_str(&self) -> &str
         ensures text { result.now ≡ uri_text self.now }
         ensures of_kind { IsOfKind uri result.now }
@@ -143,6 +168,10 @@ impl Uri<String> {
     }
 
     /// The scheme without its `:` (RFC 3986, section 3.1).
+    ///
+    /// # Examples
+    ///
+    /// Of `http://example.com/a?b#c` it is `http`.
     pub fn scheme(&self) -> Scheme<'_>
         ensures { Some (scheme_text result) ≡ (components (uri_text self.now)).scheme }
     {
@@ -150,6 +179,10 @@ impl Uri<String> {
     }
 
     /// The authority without its `//`, if there is one (RFC 3986, section 3.2).
+    ///
+    /// # Examples
+    ///
+    /// Of `http://example.com/a?b#c` it is `example.com`, and of `http:a` there is none.
     pub fn authority(&self) -> Option<Authority<'_>>
         ensures { option_map authority_text result ≡ (components (uri_text self.now)).authority }
     {
@@ -157,6 +190,10 @@ impl Uri<String> {
     }
 
     /// The path, which may be empty (RFC 3986, section 3.3).
+    ///
+    /// # Examples
+    ///
+    /// Of `http://example.com/a?b#c` it is `/a`, and of `http://example.com` it is empty.
     pub fn path(&self) -> EStr<'_, Path>
         ensures { text_of result ≡ (components (uri_text self.now)).path }
     {
@@ -164,6 +201,10 @@ impl Uri<String> {
     }
 
     /// The query without its `?`, if there is one (RFC 3986, section 3.4).
+    ///
+    /// # Examples
+    ///
+    /// Of `http://example.com/a?b#c` it is `b`, and of `http:a` there is none.
     pub fn query(&self) -> Option<EStr<'_, Query>>
         ensures { option_map text_of result ≡ (components (uri_text self.now)).query }
     {
@@ -171,6 +212,10 @@ impl Uri<String> {
     }
 
     /// The fragment without its `#`, if there is one (RFC 3986, section 3.5).
+    ///
+    /// # Examples
+    ///
+    /// Of `http://example.com/a?b#c` it is `c`, and of `http:a` there is none.
     pub fn fragment(&self) -> Option<EStr<'_, Fragment>>
         ensures { option_map text_of result ≡ (components (uri_text self.now)).fragment }
     {

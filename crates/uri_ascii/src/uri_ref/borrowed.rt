@@ -35,6 +35,10 @@ impl<'a> UriRef<&'a str> {
     ///
     /// Exactly if the text is no URI reference (RFC 3986, section 4.1). The error names what is
     /// wrong, and where, as a byte offset on a character boundary.
+    ///
+    /// # Examples
+    ///
+    /// `../a` is one, and `é` is refused.
     pub fn parse(text: &'a str) -> Result<UriRef<&'a str>, ParseError>
         ensures accepts { IsOk result ↔ IsOfKind uri_ref text.now }
         ensures text { IfOk result (λ value. uri_ref_text value ≡ text.now) }
@@ -47,6 +51,10 @@ impl<'a> UriRef<&'a str> {
     }
 
     /// The text as it stands.
+    ///
+    /// # Examples
+    ///
+    /// Of what was parsed from `http://example.com/a?b#c` it is `http://example.com/a?b#c`.
     pub fn as_str(self) -> &'a str
         ensures text { result.now ≡ uri_ref_text self.entry }
         ensures of_kind { IsOfKind uri_ref result.now }
@@ -55,6 +63,10 @@ impl<'a> UriRef<&'a str> {
     }
 
     /// The scheme without its `:`, if there is one (RFC 3986, section 3.1).
+    ///
+    /// # Examples
+    ///
+    /// Of `http://example.com/a?b#c` it is `http`, and of `a` there is none.
     pub fn scheme(self) -> Option<Scheme<'a>>
         ensures { option_map scheme_text result ≡ (components (uri_ref_text self.entry)).scheme }
     {
@@ -62,6 +74,10 @@ impl<'a> UriRef<&'a str> {
     }
 
     /// The authority without its `//`, if there is one (RFC 3986, section 3.2).
+    ///
+    /// # Examples
+    ///
+    /// Of `http://example.com/a?b#c` it is `example.com`, and of `http:a` there is none.
     pub fn authority(self) -> Option<Authority<'a>>
         ensures { option_map authority_text result
             ≡ (components (uri_ref_text self.entry)).authority }
@@ -70,6 +86,10 @@ impl<'a> UriRef<&'a str> {
     }
 
     /// The path, which may be empty (RFC 3986, section 3.3).
+    ///
+    /// # Examples
+    ///
+    /// Of `http://example.com/a?b#c` it is `/a`, and of `http://example.com` it is empty.
     pub fn path(self) -> EStr<'a, Path>
         ensures { text_of result ≡ (components (uri_ref_text self.entry)).path }
     {
@@ -77,6 +97,10 @@ impl<'a> UriRef<&'a str> {
     }
 
     /// The query without its `?`, if there is one (RFC 3986, section 3.4).
+    ///
+    /// # Examples
+    ///
+    /// Of `http://example.com/a?b#c` it is `b`, and of `http:a` there is none.
     pub fn query(self) -> Option<EStr<'a, Query>>
         ensures { option_map text_of result ≡ (components (uri_ref_text self.entry)).query }
     {
@@ -84,6 +108,10 @@ impl<'a> UriRef<&'a str> {
     }
 
     /// The fragment without its `#`, if there is one (RFC 3986, section 3.5).
+    ///
+    /// # Examples
+    ///
+    /// Of `http://example.com/a?b#c` it is `c`, and of `http:a` there is none.
     pub fn fragment(self) -> Option<EStr<'a, Fragment>>
         ensures { option_map text_of result ≡ (components (uri_ref_text self.entry)).fragment }
     {
@@ -132,6 +160,10 @@ impl<'a> UriRef<&'a str> {
     /// # Errors
     ///
     /// Only if memory is refused.
+    ///
+    /// # Examples
+    ///
+    /// Of `http://example.com/a?b#c` it is `http://example.com/a?b#c`, over a `String`.
     pub fn to_owned(self, alloc: Global) -> Result<UriRef<String>, AllocError>
         ensures { IfOk result (λ owned. uri_ref_text owned ≡ uri_ref_text self.entry) }
     {
@@ -145,6 +177,10 @@ impl<'a> UriRef<&'a str> {
     /// # Errors
     ///
     /// Only if memory is refused.
+    ///
+    /// # Examples
+    ///
+    /// `HTTP://Example.com:80/%7efoo` is normalised to `http://example.com/~foo`.
     pub fn normalize(self, alloc: Global) -> Result<UriRef<String>, AllocError>
         ensures { IfOk result (λ normal.
             IsNormalForm uri_ref default_port (uri_ref_text self.entry) (uri_ref_text normal)) }
@@ -161,6 +197,10 @@ impl<'a> UriRef<&'a str> {
     /// if the base has no authority and its path doesn't begin with `/`, and this reference has no
     /// scheme, is not empty and doesn't begin with `#`, both before memory is asked for;
     /// `OutOfMemory` if memory is refused. Never `PathUnderflow`.
+    ///
+    /// # Examples
+    ///
+    /// Of `../g` against `http://a/b/c/d;p?q` it is `http://a/b/g`.
     pub fn resolve_against<B: AsStr>(
         self,
         alloc: Global,

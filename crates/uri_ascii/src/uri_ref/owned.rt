@@ -37,6 +37,10 @@ use uri_pct::pct_enc::EStr;
 impl UriRef<String> {
     /// A builder of a URI reference, which holds nothing yet and takes its memory from the
     /// allocator.
+    ///
+    /// # Examples
+    ///
+    /// With the path `a` alone it builds `a`.
     pub fn builder(alloc: Global) -> Builder<UriRef<String>, Start>
         ensures { builder_parts uri_ref (⟦<Start as State>⟧.held (state_of result)) ≡ no_parts }
     {
@@ -49,6 +53,10 @@ impl UriRef<String> {
     ///
     /// Exactly if the text is no URI reference (RFC 3986, section 4.1). The error names what is
     /// wrong, and where, as a byte offset on a character boundary; the text comes back beside it.
+    ///
+    /// # Examples
+    ///
+    /// `../a` is one, and `é` is refused.
     pub fn parse(text: String) -> Result<UriRef<String>, (ParseError, String)>
         ensures accepts { IsOk result ↔ IsOfKind uri_ref (string_bytes text) }
         ensures text { IfOk result (λ value. uri_ref_text value ≡ string_bytes text) }
@@ -62,6 +70,11 @@ impl UriRef<String> {
     }
 
     /// The same URI reference over the text, which is borrowed.
+    ///
+    /// # Examples
+    ///
+    /// Of `http://example.com/a?b#c` over a `String` it is `http://example.com/a?b#c` over a
+    /// `&str`.
     pub fn borrow(&self) -> UriRef<&str>
         ensures { uri_ref_text result ≡ uri_ref_text self.now }
     {
@@ -125,6 +138,10 @@ impl UriRef<String> {
     }
 
     /// The text as it stands, with its memory.
+    ///
+    /// # Examples
+    ///
+    /// Of what was parsed from `http://example.com/a?b#c` it is that `String`.
     pub fn into_string(self) -> String
         ensures { string_bytes result ≡ uri_ref_text self }
     {
@@ -136,6 +153,10 @@ impl UriRef<String> {
     /// # Errors
     ///
     /// Only if memory is refused.
+    ///
+    /// # Examples
+    ///
+    /// `HTTP://Example.com:80/%7efoo` is normalised to `http://example.com/~foo`.
     pub fn normalize(&self, alloc: Global) -> Result<UriRef<String>, AllocError>
         ensures { IfOk result (λ normal.
             IsNormalForm uri_ref default_port (uri_ref_text self.now) (uri_ref_text normal)) }
@@ -152,6 +173,10 @@ impl UriRef<String> {
     /// if the base has no authority and its path doesn't begin with `/`, and this reference has no
     /// scheme, is not empty and doesn't begin with `#`, both before memory is asked for;
     /// `OutOfMemory` if memory is refused. Never `PathUnderflow`.
+    ///
+    /// # Examples
+    ///
+    /// Of `../g` against `http://a/b/c/d;p?q` it is `http://a/b/g`.
     pub fn resolve_against<B: AsStr>(
         &self,
         alloc: Global,
@@ -175,6 +200,10 @@ impl UriRef<String> {
     }
 
     /// The text as it stands.
+    ///
+    /// # Examples
+    ///
+    /// Of what was parsed from `http://example.com/a?b#c` it is `http://example.com/a?b#c`.
     pub fn as_str(&self) -> &str
         ensures text { result.now ≡ uri_ref_text self.now }
         ensures of_kind { IsOfKind uri_ref result.now }
@@ -183,6 +212,10 @@ impl UriRef<String> {
     }
 
     /// The scheme without its `:`, if there is one (RFC 3986, section 3.1).
+    ///
+    /// # Examples
+    ///
+    /// Of `http://example.com/a?b#c` it is `http`, and of `a` there is none.
     pub fn scheme(&self) -> Option<Scheme<'_>>
         ensures { option_map scheme_text result ≡ (components (uri_ref_text self.now)).scheme }
     {
@@ -190,6 +223,10 @@ impl UriRef<String> {
     }
 
     /// The authority without its `//`, if there is one (RFC 3986, section 3.2).
+    ///
+    /// # Examples
+    ///
+    /// Of `http://example.com/a?b#c` it is `example.com`, and of `http:a` there is none.
     pub fn authority(&self) -> Option<Authority<'_>>
         ensures { option_map authority_text result
             ≡ (components (uri_ref_text self.now)).authority }
@@ -198,6 +235,10 @@ impl UriRef<String> {
     }
 
     /// The path, which may be empty (RFC 3986, section 3.3).
+    ///
+    /// # Examples
+    ///
+    /// Of `http://example.com/a?b#c` it is `/a`, and of `http://example.com` it is empty.
     pub fn path(&self) -> EStr<'_, Path>
         ensures { text_of result ≡ (components (uri_ref_text self.now)).path }
     {
@@ -205,6 +246,10 @@ impl UriRef<String> {
     }
 
     /// The query without its `?`, if there is one (RFC 3986, section 3.4).
+    ///
+    /// # Examples
+    ///
+    /// Of `http://example.com/a?b#c` it is `b`, and of `http:a` there is none.
     pub fn query(&self) -> Option<EStr<'_, Query>>
         ensures { option_map text_of result ≡ (components (uri_ref_text self.now)).query }
     {
@@ -212,6 +257,10 @@ impl UriRef<String> {
     }
 
     /// The fragment without its `#`, if there is one (RFC 3986, section 3.5).
+    ///
+    /// # Examples
+    ///
+    /// Of `http://example.com/a?b#c` it is `c`, and of `http:a` there is none.
     pub fn fragment(&self) -> Option<EStr<'_, Fragment>>
         ensures { option_map text_of result ≡ (components (uri_ref_text self.now)).fragment }
     {
