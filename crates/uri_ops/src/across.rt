@@ -14,6 +14,10 @@ ghost use Rattle.uri_ops.specs.Texts.{IsTextOf};
 
 /// A text of a kind is of each kind with wider sets that needs no scheme where the one does not, as
 /// each URI is an IRI and a URI reference.
+///
+/// # Examples
+///
+/// `http://a` is a URI, and so a URI reference and an IRI.
 pub fn texts_of_wider_kinds()
     ensures wider { (kind wide : Kind) (text : List ℕ) → HasComponentSets wide → IsWithin kind wide
         → IsTextOf kind text → IsTextOf wide text }
@@ -23,6 +27,10 @@ pub fn texts_of_wider_kinds()
 
 /// A text of a kind of IRIs with its characters past ASCII as octets is of the kind of URIs that
 /// goes with it (RFC 3987, section 3.1), and read as an IRI it means what the text means.
+///
+/// # Examples
+///
+/// `http://a/é` and `http://a/%C3%A9` mean the same as IRIs.
 pub fn encoded_texts_mean_the_same()
     ensures uri { ascii_kind iri ≡ uri }
     ensures uri_ref { ascii_kind iri_ref ≡ uri_ref }
@@ -37,6 +45,10 @@ pub fn encoded_texts_mean_the_same()
 
 /// What a base and a reference resolve to, with the characters past ASCII of both as octets, is the
 /// same refusal, or the target with its characters past ASCII as octets, and underflows alike.
+///
+/// # Examples
+///
+/// `é` against `http://a` is `http://a/é`, and `%C3%A9` against it `http://a/%C3%A9`.
 pub fn encoded_texts_resolve_alike()
     ensures resolution { (base reference : List ℕ) → IsUtf8 base → IsUtf8 reference
         → resolution_of_texts (encoded_text base) (encoded_text reference)

@@ -9,6 +9,10 @@ ghost use Rattle.uri_ops.specs.Texts.{IsTextOf};
 
 /// The sets of the four kinds have what the laws below ask of a kind's (RFC 3986, sections 2.2, 2.3
 /// and 3, and RFC 3987, section 2.2).
+///
+/// # Examples
+///
+/// No set of a component of `uri` has `?`, but those of its query and its fragment.
 #[tactic(auto, using(crate::proofs::Theorems::four_sets))]
 pub fn four_kinds_have_component_sets()
     ensures uri { HasComponentSets uri }
@@ -18,6 +22,11 @@ pub fn four_kinds_have_component_sets()
 {}
 
 /// The meaning under a port function is a function of the bare meaning (RFC 3986, section 6.2.3).
+///
+/// # Examples
+///
+/// `http://a:80` and `http://a` mean the same where 80 is the default port of `http`, and not where
+/// it has none.
 #[tactic(auto, using(crate::proofs::Theorems::canonical))]
 pub fn meaning_under_ports()
     ensures { (kind : Kind) (ports : PortFunction) (text : List ℕ)
@@ -27,6 +36,10 @@ pub fn meaning_under_ports()
 /// The normal text of a text's meaning is a text of the kind and has that meaning, so texts have
 /// equal normal texts exactly if they have equal meanings, and the normal text of a normal text is
 /// itself (RFC 3986, section 6.2.2).
+///
+/// # Examples
+///
+/// `HTTP://a` and `http://a` mean the same, and both have the normal text `http://a`.
 #[tactic(auto, using(crate::proofs::Theorems::canonical))]
 pub fn normal_texts_are_canonical()
     ensures text { (kind : Kind) (ports : PortFunction) (text : List ℕ) → HasComponentSets kind

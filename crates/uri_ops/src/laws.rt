@@ -15,6 +15,10 @@ ghost use Rattle.uri_ops.specs.Dots.{lacks_dot_segments, run_whole, IsAbsolute, 
 ghost use Rattle.uri_ops.specs.Target.{is_fragment_only, target_of};
 
 /// The loop that removes dot segments ends with nothing left to read (RFC 3986, section 5.2.4).
+///
+/// # Examples
+///
+/// Of `/a/./b` nothing is left to read after `/a`, `/.` and `/b`.
 #[tactic(auto, using(crate::proofs::Theorems::dot_runs))]
 pub fn nothing_is_left_to_read()
     ensures { (path : List ℕ) → (run_whole path).input ≡ [] }
@@ -22,6 +26,10 @@ pub fn nothing_is_left_to_read()
 
 /// What is left has no dot segment, begins with `/` and is no longer than the path (RFC 3986,
 /// section 5.2.4).
+///
+/// # Examples
+///
+/// `/a/./b/../c` leaves `/a/c`.
 #[tactic(auto, using(crate::proofs::Theorems::removed_laws))]
 pub fn no_dot_segment_is_left()
     ensures plain { (path : List ℕ) → IsAbsolute path
@@ -32,6 +40,10 @@ pub fn no_dot_segment_is_left()
 {}
 
 /// A path without dot segments is left as it is, and does not underflow.
+///
+/// # Examples
+///
+/// `/a/b` leaves `/a/b`.
 #[tactic(auto, using(crate::proofs::Theorems::plain_laws))]
 pub fn paths_without_dot_segments_are_left_as_they_are()
     ensures removed { (path : List ℕ) → IsAbsolute path → lacks_dot_segments path ≡ true
@@ -41,6 +53,10 @@ pub fn paths_without_dot_segments_are_left_as_they_are()
 {}
 
 /// To remove dot segments twice is to remove them once.
+///
+/// # Examples
+///
+/// `/a/../b` leaves `/b`, which leaves `/b`.
 #[tactic(auto, using(crate::proofs::Paths::DotLaws::removed_twice))]
 pub fn removing_twice_is_removing_once()
     ensures { (path : List ℕ) → IsAbsolute path
@@ -49,6 +65,11 @@ pub fn removing_twice_is_removing_once()
 
 /// A directory begins with and ends in `/`, and its dot segments may be removed before it is taken
 /// or after.
+///
+/// # Examples
+///
+/// The directory of `/a/./b` is `/a/./`, which leaves `/a/`; `/a/./b` leaves `/a/b`, whose
+/// directory is `/a/`.
 #[tactic(auto, using(crate::proofs::Theorems::directory_laws))]
 pub fn directories_are_taken_before_or_after_removing()
     ensures absolute { (path : List ℕ) → IsRooted path → IsAbsolute (directory path) }
@@ -62,6 +83,10 @@ pub fn directories_are_taken_before_or_after_removing()
 /// Of a path in two pieces, the first of which ends in `/`, the first piece's dot segments may be
 /// removed before the path's. The path underflows where the first piece does, or what is left of it
 /// with the second.
+///
+/// # Examples
+///
+/// `/a/./` and `b` come to `/a/b`, as `/a/` and `b` do.
 #[tactic(auto, using(crate::proofs::Theorems::piece_laws))]
 pub fn front_pieces_may_be_removed_first()
     ensures removed { (front back : List ℕ) → IsAbsolute front → EndsInSlash front
@@ -74,6 +99,10 @@ pub fn front_pieces_may_be_removed_first()
 
 /// The same of a path that is merged with a base's (RFC 3986, section 5.2.3): the base's dot
 /// segments may be removed first.
+///
+/// # Examples
+///
+/// `/a/./b` and `c` come to `/a/c`, as `/a/b` and `c` do.
 #[tactic(auto, using(crate::proofs::Theorems::merging_laws))]
 pub fn bases_may_be_removed_before_merging()
     ensures removed { (base reference : List ℕ) → IsRooted base
@@ -85,6 +114,10 @@ pub fn bases_may_be_removed_before_merging()
 {}
 
 /// Dot segments may be removed before a path is read or after, and reading changes no underflow.
+///
+/// # Examples
+///
+/// `/%2E/%41` leaves `/%41`, which is read as `/A`; it is read as `/./A`, which leaves `/A`.
 pub fn removing_and_reading_swap()
     ensures removed { (set : TableSet) (path : List ℕ) → LacksPercent set
         → IsSubset unreserved_set set → IsAbsolute path → IsUtf8 path → IsValidFor set path
@@ -120,6 +153,10 @@ pub fn opaque_bases_take_fragments_alone()
 /// The texts of the four kinds are those that the RFCs' words spell: a split into components, each
 /// with its rule, of which the authority has a cut (RFC 3986, sections 3, 3.2 and 4.2, and
 /// appendix B; RFC 3987, section 2.2).
+///
+/// # Examples
+///
+/// `foo:a` is a URI: the scheme `foo`, no authority, and the path `a`.
 #[tactic(auto, using(crate::proofs::Theorems::grammar_laws))]
 pub fn kinds_are_their_grammar()
     ensures uri { (text : List ℕ) → IsUtf8 text → (IsOfKind uri text ↔ IsInGrammar uri text) }
@@ -132,6 +169,10 @@ pub fn kinds_are_their_grammar()
 
 /// An authority has one cut into userinfo, host and port, and a host is of one kind (RFC 3986,
 /// sections 3.2 and 3.2.2; RFC 3987, section 2.2).
+///
+/// # Examples
+///
+/// `u@a:80` is cut into `u`, `a` and `80` alone.
 #[tactic(auto, using(crate::proofs::Theorems::cut_laws))]
 pub fn authorities_have_one_cut()
     ensures uri { (text : List ℕ) (p : AuthorityParts) → IsUtf8 text

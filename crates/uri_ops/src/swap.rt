@@ -11,6 +11,10 @@ ghost use Rattle.uri_ops.specs.Texts.{IsTextOf};
 
 /// The target of a reference against a base of a kind is a text of that kind (RFC 3986, section
 /// 5.2).
+///
+/// # Examples
+///
+/// `../g` against the URI `http://a/b/c` is `http://a/g`, a URI.
 pub fn targets_are_texts()
     ensures { (kind : Kind) (base reference target : List ℕ) → HasComponentSets kind
         → kind.needs_scheme ≡ true → IsTextOf kind base → IsTextOf (reference_kind kind) reference
@@ -19,6 +23,10 @@ pub fn targets_are_texts()
 
 /// The meanings of a base and a reference decide the meaning of the target, or which refusal there
 /// is: those of other texts with the same meanings, and of the normal texts, come to the same.
+///
+/// # Examples
+///
+/// `%67` against `HTTP://a/b` means what `g` against `http://a/b` means: `http://a/g`.
 pub fn resolving_and_normalising_swap()
     ensures alike { (kind : Kind) (ports : PortFunction) (b c r s : List ℕ) → HasComponentSets kind
         → kind.needs_scheme ≡ true → IsTextOf kind b → IsTextOf kind c

@@ -17,21 +17,37 @@ use crate::net::{IpAddr, Ipv4Addr, Ipv6Addr};
 use std::cmp::Ordering;
 
 /// The components of a text are a split of it by RFC 3986, appendix B.
+///
+/// # Examples
+///
+/// `a:b` is split into the scheme `a` and the path `b`.
 pub fn components_are_a_split()
     ensures { (text : List ℕ) → IsSplitOf text (components text) }
 {}
 
 /// A text has no other split.
+///
+/// # Examples
+///
+/// `a:b` is not split into the path `a:b` alone.
 pub fn components_are_the_only_split()
     ensures { (text : List ℕ) (p : Components) → IsSplitOf text p → components text ≡ p }
 {}
 
 /// The components of a text are together the text, by RFC 3986, section 5.3.
+///
+/// # Examples
+///
+/// The scheme `a` and the path `b` are together `a:b`.
 pub fn components_recompose()
     ensures { (text : List ℕ) → recompose (components text) ≡ text }
 {}
 
 /// The grammar reads the text of an IPv4 address back as the same four octets.
+///
+/// # Examples
+///
+/// `127.0.0.1` is read as 127, 0, 0 and 1.
 pub fn ipv4_text_is_read_back(address: &Ipv4Addr)
     ensures { IsIpv4Text (ipv4_text (ipv4_octets address.now)) (ipv4_octets address.now) }
 {
@@ -39,6 +55,10 @@ pub fn ipv4_text_is_read_back(address: &Ipv4Addr)
 }
 
 /// The grammar reads the text of an IPv6 address back as the same eight segments.
+///
+/// # Examples
+///
+/// `::1` is read as seven times 0, and 1.
 pub fn ipv6_text_is_read_back(address: &Ipv6Addr)
     ensures { IsIpv6Text (ipv6_text (ipv6_segments address.now)) (ipv6_segments address.now) }
 {
@@ -60,6 +80,10 @@ pub fn ipv6_constants_are_their_addresses()
 {}
 
 /// IPv4 addresses are compared by their octets, first to last.
+///
+/// # Examples
+///
+/// `9.255.255.255` is less than `10.0.0.0`.
 pub fn ipv4_addresses_compare_by_octets(a: &Ipv4Addr, b: &Ipv4Addr) -> Ordering
     ensures { result ≡ slice_cmp nat_cmp (ipv4_octets a.now) (ipv4_octets b.now) }
 {
@@ -67,6 +91,10 @@ pub fn ipv4_addresses_compare_by_octets(a: &Ipv4Addr, b: &Ipv4Addr) -> Ordering
 }
 
 /// IPv6 addresses are compared by their segments, first to last.
+///
+/// # Examples
+///
+/// `0:ffff::` is less than `1::`.
 pub fn ipv6_addresses_compare_by_segments(a: &Ipv6Addr, b: &Ipv6Addr) -> Ordering
     ensures { result ≡ slice_cmp nat_cmp (ipv6_segments a.now) (ipv6_segments b.now) }
 {
@@ -74,6 +102,10 @@ pub fn ipv6_addresses_compare_by_segments(a: &Ipv6Addr, b: &Ipv6Addr) -> Orderin
 }
 
 /// An IPv4 address is less than an IPv6 address.
+///
+/// # Examples
+///
+/// `255.255.255.255` is less than `::`.
 pub fn ipv4_is_less_than_ipv6(a: Ipv4Addr, b: Ipv6Addr) -> Ordering
     ensures { result ≡ Less }
 {
@@ -81,6 +113,10 @@ pub fn ipv4_is_less_than_ipv6(a: Ipv4Addr, b: Ipv6Addr) -> Ordering
 }
 
 /// IPv4 addresses are compared by their octets as IP addresses, too.
+///
+/// # Examples
+///
+/// As IP addresses, too, `9.255.255.255` is less than `10.0.0.0`.
 pub fn ipv4_addresses_compare_alike(a: Ipv4Addr, b: Ipv4Addr) -> Ordering
     ensures { result ≡ slice_cmp nat_cmp (ipv4_octets a) (ipv4_octets b) }
 {
@@ -88,6 +124,10 @@ pub fn ipv4_addresses_compare_alike(a: Ipv4Addr, b: Ipv4Addr) -> Ordering
 }
 
 /// IPv6 addresses are compared by their segments as IP addresses, too.
+///
+/// # Examples
+///
+/// As IP addresses, too, `0:ffff::` is less than `1::`.
 pub fn ipv6_addresses_compare_alike(a: Ipv6Addr, b: Ipv6Addr) -> Ordering
     ensures { result ≡ slice_cmp nat_cmp (ipv6_segments a) (ipv6_segments b) }
 {

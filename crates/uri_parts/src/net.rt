@@ -21,9 +21,17 @@ impl Ipv4Addr {
     ghost use Rattle.uri_parts.specs.Addresses.{ipv4_octets};
 
     /// The loopback address, `127.0.0.1` (RFC 1122, section 3.2.1.3).
+    ///
+    /// # Examples
+    ///
+    /// It is `Ipv4Addr::new(127, 0, 0, 1)`.
     pub const LOCALHOST: Self = Ipv4Addr(net::Ipv4Addr::LOCALHOST);
 
     /// The address of no host in particular, `0.0.0.0` (RFC 1122, section 3.2.1.3).
+    ///
+    /// # Examples
+    ///
+    /// It is `Ipv4Addr::new(0, 0, 0, 0)`.
     pub const UNSPECIFIED: Self = Ipv4Addr(net::Ipv4Addr::UNSPECIFIED);
 
     /// The address with these four octets, which prints as `a.b.c.d`.
@@ -123,9 +131,17 @@ impl Ipv6Addr {
     ghost use Rattle.uri_parts.specs.Addresses.{ipv6_segments};
 
     /// The loopback address, `::1` (RFC 4291, section 2.5.3).
+    ///
+    /// # Examples
+    ///
+    /// It is `Ipv6Addr::new(0, 0, 0, 0, 0, 0, 0, 1)`.
     pub const LOCALHOST: Self = Ipv6Addr(net::Ipv6Addr::LOCALHOST);
 
     /// The address of no host at all, `::` (RFC 4291, section 2.5.2).
+    ///
+    /// # Examples
+    ///
+    /// It is `Ipv6Addr::new(0, 0, 0, 0, 0, 0, 0, 0)`.
     pub const UNSPECIFIED: Self = Ipv6Addr(net::Ipv6Addr::UNSPECIFIED);
 
     /// The address with these eight segments.

@@ -20,6 +20,10 @@ ghost use Rattle.uri_pct.specs.Reading.{read_alone, read_tokens, read};
 
 /// What is printed is read back as the tokens that were printed, and the tokens of a text that is
 /// valid for a set may be printed (RFC 3986, sections 2.1 and 6.2.2.1).
+///
+/// # Examples
+///
+/// The tokens `a` and the octet 41 (hexadecimal) are printed as `a%41`, and read back as the two.
 pub fn what_is_printed_is_read_back()
     ensures tokens { (ts : List Token) → list_all is_printable ts ≡ true → tokens (print ts) ≡ ts }
     ensures valid { (set : TableSet) (ts : List Token) → list_all is_printable ts ≡ true
@@ -30,6 +34,10 @@ pub fn what_is_printed_is_read_back()
 
 /// An octet is read as its value, whether its digits are in upper or in lower case (RFC 3986,
 /// section 2.1).
+///
+/// # Examples
+///
+/// `%3a` and `%3A` are the octet 3A.
 #[tactic(auto, using(crate::proofs::Decodings::OctetDigits::tokens_of_octet))]
 pub fn octets_are_read_in_either_case()
     ensures { (upper : Bool) (value : ℕ) (rest : List ℕ) → value < 256
@@ -39,6 +47,10 @@ pub fn octets_are_read_in_either_case()
 
 /// What is encoded is read back as the same tokens, these decode to the text or the bytes that were
 /// given, also behind others, and a text is encoded as its bytes are (RFC 3986, section 2.1).
+///
+/// # Examples
+///
+/// `a b` is encoded as `a%20b`, whose bytes are those of `a b`.
 #[tactic(auto, using(crate::proofs::Theorems::encoding_laws))]
 pub fn what_is_encoded_decodes_to_what_was_given()
     ensures text { (set : TableSet) (text : List ℕ) → IsUtf8 text
@@ -56,6 +68,10 @@ pub fn what_is_encoded_decodes_to_what_was_given()
 /// The pieces of bytes are together these bytes, those that are well-formed are characters, and
 /// they are cut wherever a character stands and before every byte but 80 to BF (Unicode, section
 /// 3.9).
+///
+/// # Examples
+///
+/// The bytes 61 and E9 are the character `a` and an ill-formed piece.
 pub fn pieces_are_together_the_bytes()
     ensures bytes { (bytes : List ℕ) → bytes_of_pieces (utf8_pieces bytes) ≡ bytes }
     ensures characters { (bytes : List ℕ) → All IsOfCharacter (utf8_pieces bytes) }
@@ -68,6 +84,10 @@ pub fn pieces_are_together_the_bytes()
 
 /// Bytes are UTF-8 exactly where no piece is ill-formed, and the lossy text is that of std's
 /// `String::from_utf8_lossy`.
+///
+/// # Examples
+///
+/// Of the bytes 61 and E9 it is `a` and U+FFFD.
 pub fn lossy_texts_are_those_of_std()
     ensures whole { (bytes : List ℕ) → (list_all is_well_formed (utf8_pieces bytes) ≡ true)
         ↔ IsUtf8 bytes }

@@ -13,6 +13,10 @@ ghost use Rattle.uri_ops.specs.Builders.{is_fresh_reference, is_in_authority};
 use crate::build::draft::Draft;
 
 /// A state of a builder: which step was the last.
+///
+/// # Examples
+///
+/// A builder behind `scheme` is a `Builder<R, SchemeEnd>`.
 pub trait State: Drop {
     ghost use Rattle.std.specs.Prelude.{Bool, true};
     ghost use Rattle.uri_ops.specs.declared.build.draft.Draft.{Draft};
@@ -25,6 +29,10 @@ pub trait State: Drop {
 }
 
 /// A state from which the step to `T` may be taken.
+///
+/// # Examples
+///
+/// `SchemeEnd` is a `To<PathEnd>`: `path` may be called behind `scheme`.
 pub trait To<T: State>: State {
     ghost use Rattle.std.specs.Prelude.{true};
 
@@ -35,6 +43,10 @@ pub trait To<T: State>: State {
 }
 
 /// A state from which the steps up to `T` may be left out.
+///
+/// # Examples
+///
+/// `Start` is an `AdvanceTo<SchemeEnd>`: of a reference the scheme may be left out by `advance`.
 pub trait AdvanceTo<T: State>: State {
     #[doc(hidden)]
     fn pass(self) -> T
@@ -42,6 +54,10 @@ pub trait AdvanceTo<T: State>: State {
 }
 
 /// The start of a reference.
+///
+/// # Examples
+///
+/// `UriRef::<String>::builder(alloc)` is in it.
 #[derive(Drop)]
 pub struct Start {
     #[doc(hidden)]
@@ -58,6 +74,10 @@ impl State for Start {
 }
 
 /// The start of a URI or an IRI, which needs a scheme.
+///
+/// # Examples
+///
+/// `Uri::<String>::builder(alloc)` is in it.
 #[derive(Drop)]
 pub struct NonRefStart {
     #[doc(hidden)]
@@ -74,6 +94,10 @@ impl State for NonRefStart {
 }
 
 /// Behind the scheme.
+///
+/// # Examples
+///
+/// A builder is in it after `scheme`.
 #[derive(Drop)]
 pub struct SchemeEnd {
     #[doc(hidden)]
@@ -90,6 +114,10 @@ impl State for SchemeEnd {
 }
 
 /// At the start of the authority.
+///
+/// # Examples
+///
+/// The builder that the closure of `authority_with` is called with is in it.
 #[derive(Drop)]
 pub struct AuthorityStart {
     #[doc(hidden)]
@@ -106,6 +134,10 @@ impl State for AuthorityStart {
 }
 
 /// Behind the userinfo.
+///
+/// # Examples
+///
+/// A builder is in it after `userinfo`.
 #[derive(Drop)]
 pub struct UserinfoEnd {
     #[doc(hidden)]
@@ -122,6 +154,10 @@ impl State for UserinfoEnd {
 }
 
 /// Behind the host.
+///
+/// # Examples
+///
+/// A builder is in it after `host`.
 #[derive(Drop)]
 pub struct HostEnd {
     #[doc(hidden)]
@@ -138,6 +174,10 @@ impl State for HostEnd {
 }
 
 /// Behind the port.
+///
+/// # Examples
+///
+/// A builder is in it after `port`.
 #[derive(Drop)]
 pub struct PortEnd {
     #[doc(hidden)]
@@ -154,6 +194,10 @@ impl State for PortEnd {
 }
 
 /// Behind the authority.
+///
+/// # Examples
+///
+/// A builder is in it after `authority`, and after `authority_with`.
 #[derive(Drop)]
 pub struct AuthorityEnd {
     #[doc(hidden)]
@@ -170,6 +214,10 @@ impl State for AuthorityEnd {
 }
 
 /// Behind the path.
+///
+/// # Examples
+///
+/// A builder is in it after `path`, and may be built.
 #[derive(Drop)]
 pub struct PathEnd {
     #[doc(hidden)]
@@ -186,6 +234,10 @@ impl State for PathEnd {
 }
 
 /// Behind the query.
+///
+/// # Examples
+///
+/// A builder is in it after `query`, and may be built.
 #[derive(Drop)]
 pub struct QueryEnd {
     #[doc(hidden)]
@@ -202,6 +254,10 @@ impl State for QueryEnd {
 }
 
 /// Behind the fragment.
+///
+/// # Examples
+///
+/// A builder is in it after `fragment`, and may be built.
 #[derive(Drop)]
 pub struct FragmentEnd {
     #[doc(hidden)]
@@ -218,6 +274,10 @@ impl State for FragmentEnd {
 }
 
 /// The end.
+///
+/// # Examples
+///
+/// Each state from which `build` may be called leads to it.
 #[derive(Drop)]
 pub struct End {
     #[doc(hidden)]
