@@ -85,16 +85,6 @@ impl<T: AsStr> RiMaybeRef for Iri<T> {
         }
     }
 
-    fn is_international() -> bool {
-        true
-    }
-
-    fn has_needed_scheme() -> bool {
-        true
-    }
-
-    ghost known = { refl };
-
     ghost kind_is_its_own = { refl };
 
     ghost component_sets = { iri_sets };

@@ -85,16 +85,6 @@ impl<T: AsStr> RiMaybeRef for Uri<T> {
         }
     }
 
-    fn is_international() -> bool {
-        false
-    }
-
-    fn has_needed_scheme() -> bool {
-        true
-    }
-
-    ghost known = { refl };
-
     ghost kind_is_its_own = { refl };
 
     ghost component_sets = { uri_sets };

@@ -86,16 +86,6 @@ impl<T: AsStr> RiMaybeRef for UriRef<T> {
         }
     }
 
-    fn is_international() -> bool {
-        false
-    }
-
-    fn has_needed_scheme() -> bool {
-        false
-    }
-
-    ghost known = { refl };
-
     ghost kind_is_its_own = { refl };
 
     ghost component_sets = { uri_ref_sets };

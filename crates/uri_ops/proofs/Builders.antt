@@ -3,8 +3,7 @@ pub mod Drafting
 pub mod BuilderAuthorities
 pub mod BuilderSteps
 pub mod BuilderDrafts
-pub mod BuilderPlaces
-pub mod BuilderKinds
 pub mod BuilderHosts
 pub mod BuilderGrowth
 pub mod Built
+pub mod PartRules

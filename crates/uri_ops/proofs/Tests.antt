@@ -1,7 +1,6 @@
 -- What a test says, and what holds of a part that may be absent.
 use Rattle.std.proofs.Common.{◌≡◌, ℕ, Bool, true, List, refl, rules, option_map}
 use Rattle.std.specs.Prelude.{Option, Some, None, IsTrue, IfSome, is_some, is_none}
-use Rattle.uri_parts.proofs.Splitting.Recompose.{true_to}
 
 pub true_of : (b : Bool) → IsTrue b → b ≡ true
 true_of b h = search rules

@@ -1,13 +1,13 @@
 -- What a builder holds, and the text of it: RFC 3986, section 5.3.
-use Rattle.std.specs.Prelude.{◌≡◌, ◌==◌, ◌&&◌, ℕ, Bool, false, List, [], ◌++◌, Option, Some, None}
-use Rattle.std.specs.Prelude.{codes, is_none, option_map, unwrap_or, if◌then◌else◌}
+use Rattle.std.specs.Prelude.{◌≡◌, ◌==◌, ◌&&◌, ℕ, Bool, true, false, List, [], ◌++◌, Option, Some}
+use Rattle.std.specs.Prelude.{None, codes, is_none, option_map, unwrap_or, if◌then◌else◌}
 use Rattle.std.specs.Fmt.{decimal}
 use Rattle.std.specs.Str.{is_utf8}
 use Rattle.uri_pct.specs.Sets.{TableSet}
 use Rattle.uri_pct.specs.Tokens.{is_valid_for}
 use Rattle.uri_parts.specs.Authority.{authority_parts}
 use Rattle.uri_parts.specs.Components.{Components, recompose}
-use Rattle.uri_parts.specs.Grammar.{Kind, if_some, is_authority, is_scheme, iri_ref, uri_ref}
+use Rattle.uri_parts.specs.Grammar.{Kind, if_some, is_authority, is_scheme}
 use Rattle.uri_ops.specs.Dots.{is_empty}
 
 -- the parts so far, each perhaps absent, and whether the builder is marked failed
@@ -82,11 +82,6 @@ with_query text p = record p { query = Some text }
 abbrev pub with_fragment : List ℕ → BuilderParts → BuilderParts
 with_fragment text p = record p { fragment = Some text }
 
--- a kind by what its sets hold past ASCII, and whether it needs a scheme
-abbrev pub known_kind : Bool → Bool → Kind
-known_kind international needs_scheme =
-    record (if international then iri_ref else uri_ref) { needs_scheme = needs_scheme }
-
 -- UTF-8 that a set allows
 unfoldable pub is_text_for : TableSet → List ℕ → Bool
 is_text_for set text = is_utf8 text && is_valid_for set text
@@ -105,6 +100,10 @@ meet_rules kind p =
     && (if_some p.path (is_text_for kind.path)
     && (if_some p.query (is_text_for kind.query)
     && if_some p.fragment (is_text_for kind.fragment))))
+
+-- each part of what is not marked failed meets its rule
+abbrev pub Meets : Kind → BuilderParts → Type 0
+Meets kind p = p.failed ≡ false → meet_rules kind p ≡ true
 
 -- an authority of which a host may follow, and of which a port may follow: RFC 3986, section 3.2
 abbrev pub takes_port : List ℕ → Bool

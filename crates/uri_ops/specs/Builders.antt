@@ -1,85 +1,87 @@
--- Where a builder stands: what it may hold before each step, unless it is marked failed.
-use Rattle.std.specs.Prelude.{◌≡◌, ◌&&◌, ◌||◌, ◌==◌, not, Bool, false, is_some, is_none}
-use Rattle.std.specs.Prelude.{string_bytes, if◌then◌else◌}
+-- Where a builder stands: which parts it may hold before each step, unless it is marked failed.
+use Rattle.std.specs.Prelude.{◌≡◌, ◌&&◌, ◌||◌, not, ℕ, Bool, true, false, List, is_some, is_none}
+use Rattle.std.specs.Prelude.{string_bytes}
 use Rattle.std.specs.Option.{option_map_or}
-use Rattle.uri_parts.specs.Grammar.{Kind}
 use Rattle.uri_ops.specs.declared.build.draft.Draft.{Draft}
-use Rattle.uri_ops.specs.BuilderParts.{Adds, BuilderParts, known_kind, takes_host, takes_port}
+use Rattle.uri_ops.specs.BuilderParts.{BuilderParts, takes_host, takes_port}
+use Rattle.uri_ops.specs.Dots.{is_empty}
 use Rattle.uri_ops.specs.Drafts.{parts_in}
 
 abbrev pub draft_parts : Draft → BuilderParts
 draft_parts d = parts_in d.lengths (string_bytes d.text) d.failed
 
-abbrev pub draft_kind : Draft → Kind
-draft_kind d = known_kind d.international d.needs_scheme
+abbrev pub is_unended : BuilderParts → Bool
+is_unended p = is_none p.query && is_none p.fragment
 
-abbrev pub same : Bool → Bool → Bool
-same a b = if a then b else not b
+abbrev pub lacks_path : BuilderParts → Bool
+lacks_path p = is_none p.path && is_unended p
 
--- the parts are those of a kind
-unfoldable pub is_for : Kind → Draft → Bool
-is_for kind d = same d.international kind.path.ucschar && same d.needs_scheme kind.needs_scheme
+abbrev pub lacks_authority : BuilderParts → Bool
+lacks_authority p = is_none p.authority && lacks_path p
 
--- what a builder of a kind holds: one that was begun for another kind counts as marked failed, and
--- no call makes one
-abbrev pub builder_parts : Kind → Draft → BuilderParts
-builder_parts kind d = parts_in d.lengths (string_bytes d.text) (d.failed || not (is_for kind d))
+abbrev pub lacks_all : BuilderParts → Bool
+lacks_all p = is_none p.scheme && lacks_authority p
 
--- a step of a builder of a kind: the answer holds the parts so changed, or is marked failed
-abbrev pub IsStep : Kind → (BuilderParts → BuilderParts) → Draft → Draft → Type 0
-IsStep kind change before after = Adds change (builder_parts kind before) (builder_parts kind after)
+-- the authority comes last, and may go on so
+abbrev pub ends_in_authority : (List ℕ → Bool) → BuilderParts → Bool
+ends_in_authority takes p = option_map_or takes p.authority false && lacks_path p
 
--- a draft that follows another is of the same kind, and marked failed if that is
-pub record Follows (a b : Draft) : Type 0 where
-  pub international : b.international ≡ a.international
-  pub needs_scheme : b.needs_scheme ≡ a.needs_scheme
-  pub failed : b.failed ≡ false → a.failed ≡ false
+-- and it need not go on
+abbrev pub any_authority : List ℕ → Bool
+any_authority authority = true
 
--- there is a scheme where the kind needs one
-abbrev pub has_scheme : Draft → Bool
-has_scheme d = is_some d.lengths.scheme || not d.needs_scheme
+abbrev pub has_path_last : BuilderParts → Bool
+has_path_last p = is_some p.path && is_unended p
 
-abbrev pub is_unended : Draft → Bool
-is_unended d = is_none d.lengths.query && is_none d.lengths.fragment
+abbrev pub has_path_before_fragment : BuilderParts → Bool
+has_path_before_fragment p = is_some p.path && is_none p.fragment
 
-abbrev pub lacks_path : Draft → Bool
-lacks_path d = is_none d.lengths.path && is_unended d
+abbrev pub has_path : BuilderParts → Bool
+has_path p = is_some p.path
 
-unfoldable pub is_fresh : Draft → Bool
-is_fresh d = d.failed || (is_none d.lengths.scheme && (is_none d.lengths.authority && lacks_path d))
+-- there is a scheme where one is needed
+abbrev pub has_scheme : Bool → BuilderParts → Bool
+has_scheme needs_scheme p = is_some p.scheme || not needs_scheme
 
-unfoldable pub is_fresh_reference : Draft → Bool
-is_fresh_reference d = d.failed
-    || (not d.needs_scheme
-    && (is_none d.lengths.scheme && (is_none d.lengths.authority && lacks_path d)))
+-- what is not marked failed has a scheme where one is needed, and these parts
+unfoldable pub stands : (BuilderParts → Bool) → Bool → BuilderParts → Bool
+stands test needs_scheme p = p.failed || (has_scheme needs_scheme p && test p)
 
-unfoldable pub is_before_authority : Draft → Bool
-is_before_authority d = d.failed || (has_scheme d && (is_none d.lengths.authority && lacks_path d))
+unfoldable pub is_fresh : Bool → BuilderParts → Bool
+is_fresh needs_scheme p = p.failed || lacks_all p
 
-unfoldable pub is_before_userinfo : Draft → Bool
-is_before_userinfo d = d.failed
-    || (has_scheme d && (option_map_or (λ n. n == 0) d.lengths.authority false && lacks_path d))
+abbrev pub is_fresh_reference : Bool → BuilderParts → Bool
+is_fresh_reference = stands lacks_all
 
-unfoldable pub is_before_host : Draft → Bool
-is_before_host d = d.failed
-    || (has_scheme d && (option_map_or takes_host (draft_parts d).authority false && lacks_path d))
+abbrev pub is_before_authority : Bool → BuilderParts → Bool
+is_before_authority = stands lacks_authority
 
-unfoldable pub is_before_port : Draft → Bool
-is_before_port d = d.failed
-    || (has_scheme d && (option_map_or takes_port (draft_parts d).authority false && lacks_path d))
+abbrev pub is_before_userinfo : Bool → BuilderParts → Bool
+is_before_userinfo = stands (ends_in_authority is_empty)
 
-unfoldable pub is_in_authority : Draft → Bool
-is_in_authority d = d.failed || (has_scheme d && (is_some d.lengths.authority && lacks_path d))
+abbrev pub is_before_host : Bool → BuilderParts → Bool
+is_before_host = stands (ends_in_authority takes_host)
 
-unfoldable pub is_before_path : Draft → Bool
-is_before_path d = d.failed || (has_scheme d && lacks_path d)
+abbrev pub is_before_port : Bool → BuilderParts → Bool
+is_before_port = stands (ends_in_authority takes_port)
 
-unfoldable pub is_before_query : Draft → Bool
-is_before_query d = d.failed || (has_scheme d && (is_some d.lengths.path && is_unended d))
+abbrev pub is_in_authority : Bool → BuilderParts → Bool
+is_in_authority = stands (ends_in_authority any_authority)
 
-unfoldable pub is_before_fragment : Draft → Bool
-is_before_fragment d =
-    d.failed || (has_scheme d && (is_some d.lengths.path && is_none d.lengths.fragment))
+abbrev pub is_before_path : Bool → BuilderParts → Bool
+is_before_path = stands lacks_path
 
-unfoldable pub is_at_end : Draft → Bool
-is_at_end d = d.failed || (has_scheme d && is_some d.lengths.path)
+abbrev pub is_before_query : Bool → BuilderParts → Bool
+is_before_query = stands has_path_last
+
+abbrev pub is_before_fragment : Bool → BuilderParts → Bool
+is_before_fragment = stands has_path_before_fragment
+
+abbrev pub is_at_end : Bool → BuilderParts → Bool
+is_at_end = stands has_path
+
+-- what may be held at one place may be held at the other
+abbrev pub Passes : (Bool → BuilderParts → Bool) → (Bool → BuilderParts → Bool) → Type 0
+Passes place next =
+    (needs_scheme : Bool) (p : BuilderParts)
+    → place needs_scheme p ≡ true → next needs_scheme p ≡ true

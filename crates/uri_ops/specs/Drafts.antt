@@ -1,9 +1,8 @@
 -- How a builder's text holds its parts: RFC 3986, section 5.3.
-use Rattle.std.specs.Prelude.{◌≡◌, ℕ, ◌+◌, Bool, true, false, List, length, take, drop, Option}
+use Rattle.std.specs.Prelude.{◌≡◌, ℕ, ◌+◌, Bool, false, List, length, take, drop, Option}
 use Rattle.std.specs.Prelude.{Some, None, option_map}
-use Rattle.uri_parts.specs.Grammar.{Kind}
 use Rattle.uri_ops.specs.declared.build.draft.Lengths.{Lengths}
-use Rattle.uri_ops.specs.BuilderParts.{BuilderParts, meet_rules, parts_text}
+use Rattle.uri_ops.specs.BuilderParts.{BuilderParts, parts_text}
 
 abbrev pub lengths_of : BuilderParts → Lengths
 lengths_of p = record {
@@ -39,8 +38,7 @@ parts_in lengths text failed =
       failed = failed;
     }
 
--- the text is that of the parts, which have these lengths, and each meets its rule
-pub record IsDraft (kind : Kind) (lengths : Lengths) (text : List ℕ) : Type 0 where
+-- the text is that of the parts, which have these lengths
+pub record IsDraft (lengths : Lengths) (text : List ℕ) : Type 0 where
   pub whole : parts_text (parts_in lengths text false) ≡ text
   pub counted : lengths_of (parts_in lengths text false) ≡ lengths
-  pub rules : meet_rules kind (parts_in lengths text false) ≡ true

@@ -4,28 +4,32 @@ ghost use Rattle.std.specs.Result.{result_err};
 ghost use Rattle.uri_pct.specs.EStrs.{text_of};
 ghost use Rattle.uri_parts.specs.AuthorityTexts.{authority_text};
 ghost use Rattle.uri_parts.specs.Schemes.{scheme_text};
-ghost use Rattle.uri_ops.specs.BuilderParts.{no_parts, parts_text, with_authority, with_fragment};
-ghost use Rattle.uri_ops.specs.BuilderParts.{with_host, with_path, with_port, with_port_but};
-ghost use Rattle.uri_ops.specs.BuilderParts.{with_query, with_scheme, with_userinfo};
-ghost use Rattle.uri_ops.specs.Builders.{IsStep, builder_parts, is_for};
+ghost use Rattle.uri_ops.specs.BuilderParts.{Adds, Meets, no_parts, parts_text, with_authority};
+ghost use Rattle.uri_ops.specs.BuilderParts.{with_fragment, with_host, with_path, with_port};
+ghost use Rattle.uri_ops.specs.BuilderParts.{with_port_but, with_query, with_scheme};
+ghost use Rattle.uri_ops.specs.BuilderParts.{with_userinfo};
+ghost use Rattle.uri_ops.specs.BuilderStates.{held_of, parts_at};
+ghost use Rattle.uri_ops.specs.Builders.{draft_parts};
 
 mod appending;
 #[doc(hidden)]
 pub mod draft;
+#[doc(hidden)]
+pub mod held;
 #[doc(hidden)]
 pub mod host_port;
 mod order;
 pub mod state;
 
 use crate::build::draft::Draft;
+use crate::build::held::Holds;
 use crate::build::host_port::{AsPort, WithEncoder};
 use crate::build::state::{
-    AdvanceTo, AuthorityEnd, AuthorityStart, End, FragmentEnd, HostEnd, NonRefStart, PathEnd,
-    PortEnd, QueryEnd, SchemeEnd, Start, State, To, UserinfoEnd,
+    AdvanceTo, AuthorityEnd, AuthorityStart, Begins, End, FragmentEnd, HostEnd, NonRefStart,
+    PathEnd, PortEnd, QueryEnd, SchemeEnd, Start, State, StateOf, To, UserinfoEnd,
 };
 use crate::traits::{RiMaybeRef, owned};
 use std::alloc::Global;
-use std::marker::PhantomData;
 use thiserror::Error;
 use uri_parts::component::{Authority, Scheme};
 use uri_pct::pct_enc::EStr;
@@ -79,9 +83,8 @@ pub enum BuildError {
 /// A step that is refused memory marks the builder failed. Later steps keep the mark, and `build`
 /// answers `OutOfMemory`.
 #[derive(Drop)]
-pub struct Builder<R, S> {
-    state: S,
-    made: PhantomData<R>,
+pub struct Builder<R: RiMaybeRef, S: StateOf<R>> {
+    held: S::Held,
 }
 
 impl<R: RiMaybeRef> Builder<R, Start> {
@@ -89,14 +92,9 @@ impl<R: RiMaybeRef> Builder<R, Start> {
     #[doc(hidden)]
     pub fn of_reference(alloc: Global) -> Builder<R, Start>
         requires { R.kind.needs_scheme ≡ false }
-        ensures { builder_parts R.kind (⟦<Start as State>⟧.held result.state) ≡ no_parts }
+        ensures { parts_at (held_of result) ≡ no_parts }
     {
-        Builder {
-            state: Start {
-                draft: Draft::new(alloc, R::is_international(), R::has_needed_scheme()),
-            },
-            made: PhantomData,
-        }
+        Builder::holding(Draft::new(alloc))
     }
 }
 
@@ -104,18 +102,16 @@ impl<R: RiMaybeRef> Builder<R, NonRefStart> {
     /// A fresh builder of a URI or an IRI.
     #[doc(hidden)]
     pub fn with_needed_scheme(alloc: Global) -> Builder<R, NonRefStart>
-        ensures { builder_parts R.kind (⟦<NonRefStart as State>⟧.held result.state) ≡ no_parts }
+        ensures { parts_at (held_of result) ≡ no_parts }
     {
-        Builder {
-            state: NonRefStart {
-                draft: Draft::new(alloc, R::is_international(), R::has_needed_scheme()),
-            },
-            made: PhantomData,
-        }
+        Builder::holding(Draft::new(alloc))
     }
 }
 
-impl<R, S: State> Builder<R, S> {
+impl<R: RiMaybeRef, S: StateOf<R>> Builder<R, S> {
+    ghost use Rattle.uri_ops.specs.Built.{IsTextOfParts, refusal};
+    ghost use Rattle.uri_ops.specs.declared.build.BuildError.TheVariants.{OutOfMemory};
+
     /// The same builder in a later state, as by `advance::<AuthorityEnd>()`: the parts in between
     /// are left out.
     ///
@@ -123,15 +119,12 @@ impl<R, S: State> Builder<R, S> {
     ///
     /// `UriRef::<String>::builder(alloc).advance().path(EStr::new_or_panic("a"))` leaves out scheme
     /// and authority.
-    pub fn advance<T: State>(self) -> Builder<R, T>
+    pub fn advance<T: StateOf<R>>(self) -> Builder<R, T>
     where
         S: AdvanceTo<T>,
-        ensures { T.held result.state ≡ S.held self.state }
+        ensures { T.Held.parts (held_of result) ≡ S.Held.parts (held_of self) }
     {
-        Builder {
-            state: self.state.pass(),
-            made: PhantomData,
-        }
+        Builder::holding(self.held.taken())
     }
 
     /// The builder that the step answers for the value, where there is one, and else the same
@@ -144,40 +137,41 @@ impl<R, S: State> Builder<R, S> {
     ///
     /// `builder.optional(Builder::query, None)` leaves the query out, and
     /// `Some(EStr::new_or_panic("q"))` in place of `None` gives it.
-    pub fn optional<F, V, T: State>(self, step: F, value: Option<V>) -> Builder<R, T>
+    pub fn optional<F, V, T: StateOf<R>>(self, step: F, value: Option<V>) -> Builder<R, T>
     where
         S: AdvanceTo<T>,
         F: FnOnce(Builder<R, S>, V) -> Builder<R, T> + Drop,
         requires { F.IsAlwaysCallable step }
         ensures { MatchOption value
-            (T.held result.state ≡ S.held self.state) (λ v. F.post step self v result) }
+            (T.Held.parts (held_of result) ≡ S.Held.parts (held_of self))
+            (λ v. F.post step self v result) }
     {
         match value {
             Some(value) => step(self, value),
             None => self.advance(),
         }
     }
-}
 
-impl<R: RiMaybeRef, S: State> Builder<R, S> {
-    ghost use Rattle.uri_ops.specs.Built.{IsTextOfParts, refusal};
-    ghost use Rattle.uri_ops.specs.declared.build.BuildError.TheVariants.{OutOfMemory};
+    /// The builder that holds a draft.
+    fn holding(draft: Draft) -> Builder<R, S>
+        requires rules { Meets R.kind (draft_parts draft) }
+        requires place { S.place R.kind.needs_scheme (draft_parts draft) ≡ true }
+        ensures { S.Held.parts (held_of result) ≡ draft_parts draft }
+    {
+        Builder {
+            held: S::Held::made(draft),
+        }
+    }
 
     /// What the builder holds where the step to a state begins.
     fn taken<T: State>(self) -> Draft
     where
         S: To<T>,
-        ensures mark { result.failed ≡ (builder_parts R.kind (S.held self.state)).failed }
-        ensures same { result.failed ≡ false → result ≡ S.held self.state }
-        ensures of_kind { result.failed ≡ false → is_for R.kind result ≡ true }
-        ensures before { T.before result ≡ true }
+        ensures same { draft_parts result ≡ S.Held.parts (held_of self) }
+        ensures rules { Meets R.kind (draft_parts result) }
+        ensures before { T.before R.kind.needs_scheme (draft_parts result) ≡ true }
     {
-        let draft = self.state.carry();
-        if draft.is_for(R::is_international(), R::has_needed_scheme()) {
-            draft
-        } else {
-            draft.marked()
-        }
+        self.held.taken()
     }
 
     /// Gives the scheme (RFC 3986, section 3.1). `Scheme::new_or_panic("http")` writes `http:`.
@@ -190,30 +184,21 @@ impl<R: RiMaybeRef, S: State> Builder<R, S> {
     pub fn scheme(self, scheme: Scheme<'_>) -> Builder<R, SchemeEnd>
     where
         S: To<SchemeEnd>,
-        ensures { IsStep R.kind (with_scheme (scheme_text scheme.entry)) (S.held self.state)
-            (⟦<SchemeEnd as State>⟧.held result.state) }
+        ensures { Adds (with_scheme (scheme_text scheme.entry)) (S.Held.parts (held_of self))
+            (parts_at (held_of result)) }
     {
-        Builder {
-            state: SchemeEnd {
-                draft: self.taken::<SchemeEnd>().with_scheme(scheme.as_str()),
-            },
-            made: PhantomData,
-        }
+        Builder::holding(self.taken::<SchemeEnd>().with_scheme(scheme.as_str()))
     }
 
     /// With an empty authority begun.
-    fn with_authority_begun(self) -> Builder<R, AuthorityStart>
+    fn with_authority_begun(self) -> Builder<R, S::Begun>
     where
-        S: To<AuthorityStart>,
-        ensures { IsStep R.kind (with_authority []) (S.held self.state)
-            (⟦<AuthorityStart as State>⟧.held result.state) }
+        S: Begins,
+        S::Begun: StateOf<R>,
+        ensures { Adds (with_authority []) (S.Held.parts (held_of self))
+            (S.Begun.Held.parts (held_of result)) }
     {
-        Builder {
-            state: AuthorityStart {
-                draft: self.taken::<AuthorityStart>().with_authority(""),
-            },
-            made: PhantomData,
-        }
+        Builder::holding(self.taken::<AuthorityStart>().with_authority(""))
     }
 
     /// Gives the authority (RFC 3986, section 3.2) part by part: the closure is called with this
@@ -221,25 +206,21 @@ impl<R: RiMaybeRef, S: State> Builder<R, S> {
     /// be called on every builder.
     ///
     /// `authority_with(|authority| authority.host(Ipv4Addr::LOCALHOST))` writes `//127.0.0.1`.
-    pub fn authority_with<F, T: State>(self, parts: F) -> Builder<R, AuthorityEnd>
+    pub fn authority_with<F, T: StateOf<R>>(self, parts: F) -> Builder<R, AuthorityEnd>
     where
-        S: To<AuthorityStart>,
+        S: Begins,
+        S::Begun: StateOf<R>,
         T: To<AuthorityEnd>,
-        F: FnOnce(Builder<R, AuthorityStart>) -> Builder<R, T>,
+        F: FnOnce(Builder<R, S::Begun>) -> Builder<R, T>,
         requires { F.IsAlwaysCallable parts }
         ensures { (begun : _) × (done : _)
-            × IsStep R.kind (with_authority []) (S.held self.state)
-            (⟦<AuthorityStart as State>⟧.held begun.state)
+            × Adds (with_authority []) (S.Held.parts (held_of self))
+            (S.Begun.Held.parts (held_of begun))
             × F.post parts begun done
-            × (⟦<AuthorityEnd as State>⟧.held result.state ≡ T.held done.state) }
+            × (parts_at (held_of result) ≡ T.Held.parts (held_of done)) }
     {
         let done = parts(self.with_authority_begun());
-        Builder {
-            state: AuthorityEnd {
-                draft: done.state.carry(),
-            },
-            made: PhantomData,
-        }
+        Builder::holding(done.taken::<AuthorityEnd>())
     }
 
     /// Gives the authority (RFC 3986, section 3.2): the empty one, or that of another reference.
@@ -254,32 +235,24 @@ impl<R: RiMaybeRef, S: State> Builder<R, S> {
     ) -> Builder<R, AuthorityEnd>
     where
         S: To<AuthorityStart>,
-        ensures { IsStep R.kind (with_authority (authority_text authority.entry))
-            (S.held self.state) (⟦<AuthorityEnd as State>⟧.held result.state) }
+        ensures { Adds (with_authority (authority_text authority.entry))
+            (S.Held.parts (held_of self))
+            (parts_at (held_of result)) }
     {
-        Builder {
-            state: AuthorityEnd {
-                draft: self
-                    .taken::<AuthorityStart>()
-                    .with_authority(authority.as_str()),
-            },
-            made: PhantomData,
-        }
+        Builder::holding(
+            self.taken::<AuthorityStart>()
+                .with_authority(authority.as_str()),
+        )
     }
 
     /// Gives the userinfo (RFC 3986, section 3.2.1), without its `@`. `EStr::EMPTY` writes `@`.
     pub fn userinfo(self, userinfo: EStr<'_, R::UserinfoE>) -> Builder<R, UserinfoEnd>
     where
         S: To<UserinfoEnd>,
-        ensures { IsStep R.kind (with_userinfo (text_of userinfo.entry)) (S.held self.state)
-            (⟦<UserinfoEnd as State>⟧.held result.state) }
+        ensures { Adds (with_userinfo (text_of userinfo.entry)) (S.Held.parts (held_of self))
+            (parts_at (held_of result)) }
     {
-        Builder {
-            state: UserinfoEnd {
-                draft: self.taken::<UserinfoEnd>().with_userinfo(userinfo.as_str()),
-            },
-            made: PhantomData,
-        }
+        Builder::holding(self.taken::<UserinfoEnd>().with_userinfo(userinfo.as_str()))
     }
 
     /// Gives the host (RFC 3986, section 3.2.2): an IP address, or a registered name of the kind.
@@ -292,15 +265,10 @@ impl<R: RiMaybeRef, S: State> Builder<R, S> {
     where
         S: To<HostEnd>,
         H: WithEncoder<R::RegNameE>,
-        ensures { IsStep R.kind (with_host (H.host_text host)) (S.held self.state)
-            (⟦<HostEnd as State>⟧.held result.state) }
+        ensures { Adds (with_host (H.host_text host)) (S.Held.parts (held_of self))
+            (parts_at (held_of result)) }
     {
-        Builder {
-            state: HostEnd {
-                draft: self.taken::<HostEnd>().with_host::<R::RegNameE, H>(host),
-            },
-            made: PhantomData,
-        }
+        Builder::holding(self.taken::<HostEnd>().with_host::<R::RegNameE, H>(host))
     }
 
     /// Gives the port (RFC 3986, section 3.2.3): a number, which is written in decimal, or digits.
@@ -310,34 +278,24 @@ impl<R: RiMaybeRef, S: State> Builder<R, S> {
     pub fn port<P: AsPort>(self, port: P) -> Builder<R, PortEnd>
     where
         S: To<PortEnd>,
-        ensures { IsStep R.kind (with_port (P.port_digits port)) (S.held self.state)
-            (⟦<PortEnd as State>⟧.held result.state) }
+        ensures { Adds (with_port (P.port_digits port)) (S.Held.parts (held_of self))
+            (parts_at (held_of result)) }
     {
-        Builder {
-            state: PortEnd {
-                draft: self.taken::<PortEnd>().with_port(port),
-            },
-            made: PhantomData,
-        }
+        Builder::holding(self.taken::<PortEnd>().with_port(port))
     }
 
     /// Gives the port (RFC 3986, section 3.2.3), unless it is the default one, which is left out.
     ///
     /// `port_with_default(8080, 80)` writes `:8080`, and `port_with_default(80, 80)` nothing.
-    #[tactic(auto, using(crate::proofs::Builders::BuilderPlaces::port_authority))]
+    #[tactic(auto, using(crate::specs::BuilderOrder::port_authority))]
     pub fn port_with_default(self, port: u16, default: u16) -> Builder<R, PortEnd>
     where
         S: To<PortEnd>,
-        ensures { IsStep R.kind (with_port_but default port) (S.held self.state)
-            (⟦<PortEnd as State>⟧.held result.state) }
+        ensures { Adds (with_port_but default port) (S.Held.parts (held_of self))
+            (parts_at (held_of result)) }
     {
         if port == default {
-            Builder {
-                state: PortEnd {
-                    draft: self.taken::<PortEnd>(),
-                },
-                made: PhantomData,
-            }
+            Builder::holding(self.taken::<PortEnd>())
         } else {
             self.port(port)
         }
@@ -351,15 +309,10 @@ impl<R: RiMaybeRef, S: State> Builder<R, S> {
     pub fn path(self, path: EStr<'_, R::PathE>) -> Builder<R, PathEnd>
     where
         S: To<PathEnd>,
-        ensures { IsStep R.kind (with_path (text_of path.entry)) (S.held self.state)
-            (⟦<PathEnd as State>⟧.held result.state) }
+        ensures { Adds (with_path (text_of path.entry)) (S.Held.parts (held_of self))
+            (parts_at (held_of result)) }
     {
-        Builder {
-            state: PathEnd {
-                draft: self.taken::<PathEnd>().with_path(path.as_str()),
-            },
-            made: PhantomData,
-        }
+        Builder::holding(self.taken::<PathEnd>().with_path(path.as_str()))
     }
 
     /// Gives the query (RFC 3986, section 3.4), without its `?`. `EStr::EMPTY` writes `?`.
@@ -370,15 +323,10 @@ impl<R: RiMaybeRef, S: State> Builder<R, S> {
     pub fn query(self, query: EStr<'_, R::QueryE>) -> Builder<R, QueryEnd>
     where
         S: To<QueryEnd>,
-        ensures { IsStep R.kind (with_query (text_of query.entry)) (S.held self.state)
-            (⟦<QueryEnd as State>⟧.held result.state) }
+        ensures { Adds (with_query (text_of query.entry)) (S.Held.parts (held_of self))
+            (parts_at (held_of result)) }
     {
-        Builder {
-            state: QueryEnd {
-                draft: self.taken::<QueryEnd>().with_query(query.as_str()),
-            },
-            made: PhantomData,
-        }
+        Builder::holding(self.taken::<QueryEnd>().with_query(query.as_str()))
     }
 
     /// Gives the fragment (RFC 3986, section 3.5), without its `#`. `EStr::EMPTY` writes `#`.
@@ -389,15 +337,10 @@ impl<R: RiMaybeRef, S: State> Builder<R, S> {
     pub fn fragment(self, fragment: EStr<'_, R::FragmentE>) -> Builder<R, FragmentEnd>
     where
         S: To<FragmentEnd>,
-        ensures { IsStep R.kind (with_fragment (text_of fragment.entry)) (S.held self.state)
-            (⟦<FragmentEnd as State>⟧.held result.state) }
+        ensures { Adds (with_fragment (text_of fragment.entry)) (S.Held.parts (held_of self))
+            (parts_at (held_of result)) }
     {
-        Builder {
-            state: FragmentEnd {
-                draft: self.taken::<FragmentEnd>().with_fragment(fragment.as_str()),
-            },
-            made: PhantomData,
-        }
+        Builder::holding(self.taken::<FragmentEnd>().with_fragment(fragment.as_str()))
     }
 
     /// The reference of these parts: its text is that of the parts by RFC 3986, section 5.3, and
@@ -416,13 +359,13 @@ impl<R: RiMaybeRef, S: State> Builder<R, S> {
     where
         S: To<End>,
         R: RiMaybeRef<Owned = R>,
-        ensures failed { let p = builder_parts R.kind (S.held self.state) in
+        ensures failed { let p = S.Held.parts (held_of self) in
             p.failed ≡ true → result_err result ≡ Some OutOfMemory }
-        ensures refused { let p = builder_parts R.kind (S.held self.state) in
+        ensures refused { let p = S.Held.parts (held_of self) in
             p.failed ≡ false → result_err result ≡ refusal p }
-        ensures value { let p = builder_parts R.kind (S.held self.state) in
+        ensures value { let p = S.Held.parts (held_of self) in
             IfOk result (λ made. R.owned_text made ≡ parts_text p) }
-        ensures exactly { let p = builder_parts R.kind (S.held self.state) in
+        ensures exactly { let p = S.Held.parts (held_of self) in
             p.failed ≡ false → (IsOk result ↔ IsTextOfParts R.kind p) }
     {
         let draft = self.taken::<End>();

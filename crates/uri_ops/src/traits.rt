@@ -22,7 +22,6 @@ use uri_pct::pct_enc::EStr;
 pub trait RiMaybeRef {
     ghost use Rattle.std.specs.Prelude.{ℕ, List};
     ghost use Rattle.uri_parts.specs.Grammar as grammar;
-    ghost use Rattle.uri_ops.specs.BuilderParts.{known_kind};
     ghost use Rattle.uri_ops.specs.ComponentSets.{HasComponentSets};
     ghost use Rattle.uri_pct.specs.EStrs.{text_of};
     ghost use Rattle.uri_parts.specs.AuthorityTexts.{authority_text};
@@ -82,16 +81,6 @@ pub trait RiMaybeRef {
         requires of_kind { IsOfKind kind (string_bytes owned) }
         requires at { AreAt (string_bytes owned) positions }
         ensures { owned_text result ≡ string_bytes owned };
-
-    /// Whether the kind has characters past ASCII.
-    #[doc(hidden)]
-    fn is_international() -> bool
-        ensures { result ≡ kind.path.ucschar };
-
-    /// Whether each text of the kind has a scheme.
-    #[doc(hidden)]
-    fn has_needed_scheme() -> bool
-        ensures { result ≡ kind.needs_scheme };
 
     /// The text with the positions of its components.
     #[doc(hidden)]
@@ -156,8 +145,6 @@ pub trait RiMaybeRef {
     {
         self.core().fragment()
     }
-
-    ghost known: { kind ≡ known_kind kind.path.ucschar kind.needs_scheme };
 
     ghost kind_is_its_own: { Self.Kind.kind ≡ kind };
 

@@ -10,8 +10,7 @@ ghost use Rattle.uri_parts.specs.Grammar.{IsOfKind, iri};
 ghost use Rattle.uri_parts.specs.SchemePorts.{default_port};
 ghost use Rattle.uri_parts.specs.Schemes.{scheme_text};
 ghost use Rattle.uri_ops.specs.BuilderParts.{no_parts};
-ghost use Rattle.uri_ops.specs.BuilderStates.{state_of};
-ghost use Rattle.uri_ops.specs.Builders.{builder_parts};
+ghost use Rattle.uri_ops.specs.BuilderStates.{held_of, parts_at};
 ghost use Rattle.uri_ops.specs.Normalizers.{IsNormalForm};
 ghost use Rattle.fluent_uri.specs.Iris.{iri_text};
 
@@ -19,7 +18,7 @@ use crate::component::IAuthority;
 use crate::iri::Iri;
 use std::alloc::{AllocError, Global};
 use uri_ops::build::Builder;
-use uri_ops::build::state::{NonRefStart, State};
+use uri_ops::build::state::NonRefStart;
 use uri_ops::normalize;
 use uri_parts::component::Scheme;
 use uri_parts::core_text::Core;
@@ -34,7 +33,7 @@ impl Iri<String> {
     ///
     /// With the scheme `http` and the path `a` it builds `http:a`.
     pub fn builder(alloc: Global) -> Builder<Iri<String>, NonRefStart>
-        ensures { builder_parts iri (⟦<NonRefStart as State>⟧.held (state_of result)) ≡ no_parts }
+        ensures { parts_at (held_of result) ≡ no_parts }
     {
         Builder::with_needed_scheme(alloc)
     }

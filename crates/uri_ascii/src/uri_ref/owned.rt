@@ -10,8 +10,7 @@ ghost use Rattle.uri_parts.specs.Grammar.{IsOfKind, uri, uri_ref};
 ghost use Rattle.uri_parts.specs.SchemePorts.{default_port};
 ghost use Rattle.uri_parts.specs.Schemes.{scheme_text};
 ghost use Rattle.uri_ops.specs.BuilderParts.{no_parts};
-ghost use Rattle.uri_ops.specs.BuilderStates.{state_of};
-ghost use Rattle.uri_ops.specs.Builders.{builder_parts};
+ghost use Rattle.uri_ops.specs.BuilderStates.{held_of, parts_at};
 ghost use Rattle.uri_ops.specs.EncodedTargets.{IsErrorForEncoded, IsTargetOfEncoded};
 ghost use Rattle.uri_ops.specs.NormalTargets.{IsErrorOfMeanings, IsTargetOfMeanings};
 ghost use Rattle.uri_ops.specs.Normalizers.{IsNormalForm};
@@ -25,7 +24,7 @@ use crate::uri_ref::UriRef;
 use std::alloc::{AllocError, Global};
 use std::convert::AsStr;
 use uri_ops::build::Builder;
-use uri_ops::build::state::{Start, State};
+use uri_ops::build::state::Start;
 use uri_ops::normalize;
 use uri_ops::resolve::{self, ResolveError};
 use uri_parts::component::{Authority, Scheme};
@@ -42,7 +41,7 @@ impl UriRef<String> {
     ///
     /// With the path `a` alone it builds `a`.
     pub fn builder(alloc: Global) -> Builder<UriRef<String>, Start>
-        ensures { builder_parts uri_ref (⟦<Start as State>⟧.held (state_of result)) ≡ no_parts }
+        ensures { parts_at (held_of result) ≡ no_parts }
     {
         Builder::of_reference(alloc)
     }

@@ -3,7 +3,6 @@ use Rattle.std.proofs.Common.{◌≡◌, ℕ, ◌<◌, Bool, true, false, not, l
 use Rattle.std.specs.Prelude.{codes, Option, Some, None, IfSome, IfNone}
 use Rattle.std.specs.List.{list_all}
 use Rattle.std.specs.Str.{IsUtf8}
-use Rattle.std.proofs.lemmas.Bool.{false≢true}
 use Rattle.uri_parts.specs.Components.{Components, IsSplitOf, Lacks, IsRooted, marked, starts, has_scheme, has_authority, from_any, components, recompose}
 use Rattle.uri_parts.proofs.Splitting.Recompose.{IsSplitOf-components, true_to}
 use Rattle.uri_parts.proofs.Splitting.Splits.{components-recompose}

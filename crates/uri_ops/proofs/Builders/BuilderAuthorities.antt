@@ -6,7 +6,7 @@ use Rattle.std.proofs.lemmas.Str.{IsUtf8-append, IsUtf8-from_is_utf8, is_utf8-fr
 use Rattle.std.proofs.lemmas.Bool.{and_parts, and_from, false≢true}
 use Rattle.uri_pct.specs.Sets.{TableSet, digit_set, reg_name_set}
 use Rattle.uri_pct.specs.Tokens.{IsValidFor, is_valid_for}
-use Rattle.uri_parts.specs.Authority.{AuthorityParts, IsAuthorityFor, authority_parts}
+use Rattle.uri_parts.specs.Authority.{AuthorityParts, IsAuthorityFor, authority_parts, is_authority_for}
 use Rattle.uri_pct.proofs.ValidTexts.Cuts.{excludes}
 use Rattle.uri_parts.specs.Components.{Lacks, marked}
 use Rattle.uri_parts.specs.Grammar.{Kind, is_authority}
@@ -37,6 +37,10 @@ authority_meets kind text e = (and_parts _ (is_authority kind text) e).1
 pub authority_from : (kind : Kind) (text : List ℕ) → IsUtf8 text → is_authority kind text ≡ true → is_authority_text kind text ≡ true
 unfolding is_authority_text
 authority_from kind text u e = and_from _ _ (is_utf8-from_IsUtf8 text u) e
+
+-- by the sets of the encoders, which are those of the kind
+pub authority_from_encoders : (kind : Kind) (users names : TableSet) → users ≡ kind.userinfo → names ≡ kind.reg_name → (text : List ℕ) → IsUtf8 text → is_authority_for users names text ≡ true → is_authority_text kind text ≡ true
+authority_from_encoders kind users names u n text utf8 e = authority_from kind text utf8 (sym (λ i. is_authority_for (u i) (n i) text) ∙ e)
 
 empty_host : (names : TableSet) → (h : HostKind) × IsHost names [] h
 empty_host names = (is_authority_for-sound names names [] (empty_is names names)).host

@@ -1,35 +1,27 @@
 -- What a step inside an authority makes of a draft: the authority, which ends the text, goes on.
-use Rattle.std.proofs.Common.{◌≡◌, ℕ, ◌+◌, ◌-◌, ◌≤◌, Bool, true, false, not, ◌&&◌, ◌||◌, List, [], ◌∷◌, ◌++◌, length, take, drop, refl, sym, ap, subst, ◌∙◌, arith, length-append, string_bytes}
-use Rattle.std.specs.Prelude.{codes, Option, Some, None, IfSome, is_some, is_none, option_map, unwrap_or}
+use Rattle.std.proofs.Common.{◌≡◌, ℕ, ◌+◌, ◌-◌, ◌≤◌, Bool, true, false, ◌&&◌, List, [], ◌∷◌, ◌++◌, length, take, drop, refl, sym, ap, subst, ◌∙◌, arith, length-append, string_bytes}
+use Rattle.std.specs.Prelude.{codes, Option, Some, None, IfSome, is_none, option_map, unwrap_or}
 use Rattle.std.specs.Option.{option_map_or}
 use Rattle.std.specs.Str.{IsUtf8, is_utf8}
 use Rattle.std.specs.String.{string_len}
 use Rattle.std.specs.declared.string.String.{String}
 use Rattle.std.proofs.lemmas.Str.{IsUtf8-from_is_utf8}
-use Rattle.std.proofs.lemmas.Bool.{and_parts, and_from, false≢true}
+use Rattle.std.proofs.lemmas.Bool.{and_parts, false≢true}
 use Rattle.std.proofs.lemmas.List.{length-take, length-drop}
 use Rattle.uri_pct.specs.Sets.{digit_set}
 use Rattle.uri_pct.specs.Tokens.{is_valid_for}
-use Rattle.uri_parts.specs.Grammar.{Kind, if_some}
+use Rattle.uri_parts.specs.Grammar.{Kind}
 use Rattle.uri_ops.specs.declared.build.draft.Draft.{Draft}
 use Rattle.uri_ops.specs.declared.build.draft.Lengths.{Lengths}
-use Rattle.uri_ops.specs.BuilderParts.{BuilderParts, is_authority_text, is_text_for, known_kind, takes_host, takes_port, with_more_authority}
-use Rattle.uri_ops.specs.Builders.{draft_kind, draft_parts}
+use Rattle.uri_ops.specs.BuilderParts.{BuilderParts, is_authority_text, is_text_for, takes_host, takes_port, with_more_authority}
+use Rattle.uri_ops.specs.Builders.{any_authority, draft_parts, ends_in_authority, is_unended, lacks_path}
 use Rattle.uri_ops.specs.ComponentSets.{HasComponentSets}
 use Rattle.uri_ops.specs.Dots.{is_empty}
 use Rattle.uri_ops.specs.Drafts.{behind_part, part_in, parts_in}
 use Rattle.uri_ops.specs.HostParts.{IsHostText}
 use Rattle.uri_ops.proofs.Builders.BuilderAuthorities.{host_parts, port_parts, user_parts}
-use Rattle.uri_ops.proofs.Builders.BuilderDrafts.{holds}
 use Rattle.uri_ops.proofs.Builders.BuilderSteps.{more_step}
-use Rattle.uri_ops.proofs.Builders.Drafting.{IsStep, none_of, rules_of}
-use Rattle.uri_ops.proofs.TextKinds.FourKinds.{uri_sets, uri_ref_sets, iri_sets, iri_ref_sets}
-
-pub known_sets : (international needs_scheme : Bool) → HasComponentSets (known_kind international needs_scheme)
-known_sets true true = iri_sets
-known_sets true false = iri_ref_sets
-known_sets false true = uri_sets
-known_sets false false = uri_ref_sets
+use Rattle.uri_ops.proofs.Builders.Drafting.{IsStep, none_in}
 
 -- an authority that goes on is one, and stands where its next part may follow
 abbrev pub GoesOn : Kind → (List ℕ → Bool) → (List ℕ → Bool) → List ℕ → Type 0
@@ -43,9 +35,6 @@ userinfo_goes_on kind sets user u valid (c ∷ a) e t = absurd (false≢true t)
 
 pub host_goes_on : (kind : Kind) → HasComponentSets kind → (host : List ℕ) → IsHostText kind.reg_name host → GoesOn kind takes_host takes_port host
 host_goes_on kind sets host h = λ a e t. let p = host_parts kind sets a host e t h in (p.rule, ap (λ (q : _). is_none q.port) p.parts)
-
-abbrev pub any_authority : List ℕ → Bool
-any_authority a = true
 
 port_goes : (kind : Kind) → HasComponentSets kind → (digits : List ℕ) → IsUtf8 digits → is_valid_for digit_set digits ≡ true → (a : List ℕ) → is_authority_text kind a ≡ true → takes_port a ≡ true → is_authority_text kind (a ++ (codes ":" ++ digits)) ≡ true
 port_goes kind sets digits u valid a e t = (port_parts kind sets a digits e t u valid).rule
@@ -88,64 +77,40 @@ module _ (a : Draft) (x new : List ℕ) (g : Bool) (kept : g ≡ false → a.fai
   abbrev text : List ℕ
   text = string_bytes a.text
 
-  abbrev kind : Kind
-  kind = draft_kind a
-
   abbrev parts : BuilderParts
   parts = parts_in a.lengths text false
 
-  abbrev scheme_there : Bool
-  scheme_there = is_some a.lengths.scheme || not a.needs_scheme
+  abbrev behind : List ℕ
+  behind = behind_part 1 a.lengths.scheme text
 
-  abbrev no_path : Bool
-  no_path = is_none a.lengths.path && (is_none a.lengths.query && is_none a.lengths.fragment)
+  abbrev from_path : List ℕ
+  from_path = behind_part 2 a.lengths.authority behind
+
+  abbrev from_query : List ℕ
+  from_query = behind_part 0 a.lengths.path from_path
+
+  abbrev from_fragment : List ℕ
+  from_fragment = behind_part 1 a.lengths.query from_query
 
   abbrev longer : Lengths
   longer = record a.lengths { authority = option_map (λ k. k + (n - m)) a.lengths.authority }
-
-  -- where the authority takes what follows
-  abbrev Takes : (List ℕ → Bool) → Type 0
-  Takes takes = (a.failed || (scheme_there && (option_map_or takes (draft_parts a).authority false && no_path))) ≡ true
 
   grown_by : (k : ℕ) → a.lengths.authority ≡ Some k → new ≡ text ++ x → (record a.lengths { authority = Some (k + length x) }) ≡ longer
   grown_by k e appended =
       let by : length x ≡ n - m = omega (arith, before_len, after_len, ap length appended, length-append text x) in
       (λ i. record a.lengths { authority = Some (k + by i) }) ∙ ap (λ (o : Option ℕ). record a.lengths { authority = option_map (λ j. j + (n - m)) o }) (sym e)
 
-  more : (takes then : List ℕ → Bool) → Takes takes → GoesOn kind takes then x → g ≡ false → new ≡ text ++ x
-      → IsStep kind (with_more_authority x parts) longer new × ((scheme_there && (option_map_or then (parts_in longer new false).authority false && no_path)) ≡ true)
-  more takes then before goes e appended =
-      let t = and_parts _ _ (holds _ _ (kept e) before) in
-      let s = and_parts _ _ t.1 in
-      let p = and_parts _ _ s.1 in
-      let q = and_parts _ _ p.1 in
-      let behind : List ℕ = behind_part 1 a.lengths.scheme text in
-      let held = held_at takes a.lengths.authority behind s.0 in
+  more : (a.failed ≡ false → ends_in_authority any_authority (draft_parts a) ≡ true) → g ≡ false → new ≡ text ++ x → IsStep (with_more_authority x parts) longer new
+  more ends e appended =
+      let s = and_parts (option_map_or any_authority parts.authority false) (lacks_path parts) (ends (kept e)) in
+      let p = and_parts (is_none parts.path) (is_unended parts) s.1 in
+      let q = and_parts (is_none parts.query) (is_none parts.fragment) p.1 in
+      let held = held_at any_authority a.lengths.authority behind s.0 in
       let authority : List ℕ = take held.0 (drop 2 behind) in
       let is : parts.authority ≡ Some authority = ap (λ o. part_in 2 o behind) held.1 in
-      let rule : is_authority_text kind authority ≡ true = sym (ap (λ o. if_some o (is_authority_text kind)) is) ∙ (rules_of kind parts (a.ok (kept e)).rules).authority in
-      let on = goes authority rule held.2 in
-      let step = more_step kind a.lengths text (a.ok (kept e)) held.0 authority x held.1 is (none_of _ p.0) (none_of _ q.0) (none_of _ q.1) on.0 in
-      let whole : IsStep kind (with_more_authority x parts) longer new =
-      subst (λ l. IsStep kind (with_more_authority x parts) l new) (grown_by held.0 held.1 appended)
-      (subst (IsStep kind (with_more_authority x parts) (record a.lengths { authority = Some (held.0 + length x) })) (sym appended) step) in (
-        whole,
-        and_from _ _ t.0 (and_from _ _ (ap (λ (b : BuilderParts). option_map_or then b.authority false) whole.parts ∙ ap (λ o. option_map_or then (option_map (λ u. u ++ x) o) false) is ∙ on.1) s.1),
-      )
+      let step = more_step a.lengths text (a.ok (kept e)) held.0 authority x held.1 is (none_in 0 a.lengths.path from_path p.0) (none_in 1 a.lengths.query from_query q.0) (none_in 1 a.lengths.fragment from_fragment q.1) in
+      subst (λ l. IsStep (with_more_authority x parts) l new) (grown_by held.0 held.1 appended)
+      (subst (IsStep (with_more_authority x parts) (record a.lengths { authority = Some (held.0 + length x) })) (sym appended) step)
 
-  module _ (takes then : List ℕ → Bool) (before : Takes takes) (lengths : Lengths) (grown : g ≡ false → lengths ≡ longer) (appended : g ≡ false → new ≡ text ++ x) (goes : g ≡ false → GoesOn kind takes then x) where
-    pub more_draft : g ≡ false → IsStep kind (with_more_authority x parts) lengths new
-    more_draft e = subst (λ l. IsStep kind (with_more_authority x parts) l new) (sym (grown e)) (more takes then before (goes e) e (appended e)).0
-
-    pub behind_more : (g || ((is_some lengths.scheme || not a.needs_scheme)
-        && (option_map_or then (parts_in lengths new g).authority false
-        && (is_none lengths.path && (is_none lengths.query && is_none lengths.fragment))))) ≡ true
-    behind_more = placed g refl
-      where
-        placed : (f : Bool) → g ≡ f → (f || ((is_some lengths.scheme || not a.needs_scheme)
-            && (option_map_or then (parts_in lengths new g).authority false
-            && (is_none lengths.path && (is_none lengths.query && is_none lengths.fragment))))) ≡ true
-        placed true e = refl
-        placed false e =
-            subst (λ (l : Lengths). ((is_some l.scheme || not a.needs_scheme) && (option_map_or then (parts_in l new g).authority false && (is_none l.path && (is_none l.query && is_none l.fragment)))) ≡ true)
-            (sym (grown e)) (more takes then before (goes e) e (appended e)).1
+  pub more_draft : (a.failed ≡ false → ends_in_authority any_authority (draft_parts a) ≡ true) → (lengths : Lengths) → (g ≡ false → lengths ≡ longer) → (g ≡ false → new ≡ text ++ x) → g ≡ false → IsStep (with_more_authority x parts) lengths new
+  more_draft ends lengths grown appended e = subst (λ l. IsStep (with_more_authority x parts) l new) (sym (grown e)) (more ends e (appended e))

@@ -1,5 +1,5 @@
 -- The text of a builder's parts is of its kind, with these components, exactly where nothing is refused.
-use Rattle.std.proofs.Common.{◌≡◌, ℕ, ◌<◌, Bool, true, false, not, ◌&&◌, ◌||◌, List, [], ◌∷◌, ◌++◌, length, refl, sym, ap, subst, ◌∙◌, inl, inr, cond, arith, string_bytes, take, drop}
+use Rattle.std.proofs.Common.{◌≡◌, ℕ, ◌<◌, Bool, true, false, not, ◌&&◌, ◌||◌, List, [], ◌∷◌, ◌++◌, length, refl, sym, ap, subst, ◌∙◌, inl, inr, cond, string_bytes}
 use Rattle.std.specs.Prelude.{codes, Option, Some, None, IfSome, IfNone, is_some, unwrap_or, slice_index}
 use Rattle.std.specs.Char.{is_ascii_alphabetic}
 use Rattle.std.specs.Str.{IsUtf8}
@@ -17,20 +17,18 @@ use Rattle.uri_parts.proofs.TextKinds.SpeltTexts.{valid_lacks}
 use Rattle.uri_parts.proofs.Splitting.Splits.{components-recompose}
 use Rattle.uri_ops.specs.declared.build.BuildError.{BuildError}
 use Rattle.uri_ops.specs.declared.build.BuildError.TheVariants.{FirstPathSegmentContainsColon, NonemptyRootlessPath, PathStartsWithDoubleSlash}
-use Rattle.uri_ops.specs.BuilderParts.{BuilderParts, as_components, is_authority_text, is_scheme_text, is_text_for, known_kind, meet_rules, parts_text}
+use Rattle.uri_ops.specs.BuilderParts.{BuilderParts, Meets, as_components, is_authority_text, is_scheme_text, is_text_for, meet_rules, parts_text}
 use Rattle.uri_ops.specs.Built.{IsTextOfParts, refusal, refusal_of}
 use Rattle.uri_ops.specs.ComponentSets.{HasComponentSets}
 use Rattle.uri_ops.specs.Dots.{is_empty}
 use Rattle.uri_ops.specs.declared.build.draft.Draft.{Draft}
-use Rattle.uri_ops.specs.Builders.{draft_kind, draft_parts, is_at_end, is_for}
-use Rattle.uri_ops.specs.Drafts.{parts_in}
-use Rattle.uri_ops.proofs.Builders.BuilderDrafts.{holds}
-use Rattle.uri_ops.proofs.Builders.BuilderKinds.{kind_of_draft}
+use Rattle.uri_ops.specs.Builders.{draft_parts, has_path, is_at_end}
+use Rattle.uri_ops.proofs.Builders.PartRules.{at_place}
 use Rattle.uri_ops.proofs.Builders.BuilderAuthorities.{authority_lacks, authority_meets, authority_utf8}
 use Rattle.uri_ops.proofs.Builders.Drafting.{rules_of}
 use Rattle.uri_ops.proofs.Meanings.ComponentEnds.{ends_outside, excludes_front, no_scheme}
 use Rattle.uri_ops.proofs.Meanings.AllowedParts.{is_part, part_from, part_nil, part_utf8, part_valid}
-use Rattle.uri_ops.proofs.Tests.{some_map, true_of}
+use Rattle.uri_ops.proofs.Tests.{true_of}
 use Rattle.uri_ops.proofs.Meanings.TextParts.{AreParts, parts_meet}
 use Rattle.uri_ops.proofs.Normal.NormalComponents.{some_first}
 
@@ -205,25 +203,9 @@ nothing_refused kind p w =
     })
 
 -- what a builder builds
-module _ (kind : Kind) (sets : HasComponentSets kind) (known : kind ≡ known_kind kind.path.ucschar kind.needs_scheme) (d : Draft) (whole : d.failed ≡ false) (of_kind : is_for kind d ≡ true) where
-  draft_rules : meet_rules kind (draft_parts d) ≡ true
-  draft_rules =
-      sym (ap (λ k. meet_rules k (draft_parts d)) (kind_of_draft kind d known of_kind))
-      ∙ ap (λ f. meet_rules (draft_kind d) (parts_in d.lengths (string_bytes d.text) f)) whole
-      ∙ (d.ok whole).rules
+module _ (kind : Kind) (sets : HasComponentSets kind) (d : Draft) (whole : d.failed ≡ false) (meets : Meets kind (draft_parts d)) (at : is_at_end kind.needs_scheme (draft_parts d) ≡ true) where
+  pub built : refusal (draft_parts d) ≡ None → IsTextOfParts kind (draft_parts d)
+  built e = is_text_of_parts kind sets (draft_parts d) (meets whole) (at_place has_path kind.needs_scheme (draft_parts d) at whole).0 e
 
-  pub draft_text : parts_text (draft_parts d) ≡ string_bytes d.text
-  draft_text = (d.ok whole).whole
-
-  needs : is_at_end d ≡ true → (is_some (draft_parts d).scheme || not kind.needs_scheme) ≡ true
-  unfolding is_at_end
-  needs at =
-      let h = and_parts (is_some d.lengths.scheme || not d.needs_scheme) (is_some d.lengths.path) (holds d.failed _ whole at) in
-      ap (λ k. is_some (draft_parts d).scheme || not k) (sym (ap (λ (k : Kind). k.needs_scheme) (kind_of_draft kind d known of_kind)))
-      ∙ ap (λ t. t || not d.needs_scheme) (some_map (λ n. take n (drop 0 (string_bytes d.text))) d.lengths.scheme) ∙ h.0
-
-  pub built : is_at_end d ≡ true → refusal (draft_parts d) ≡ None → IsTextOfParts kind (draft_parts d)
-  built at e = is_text_of_parts kind sets (draft_parts d) draft_rules (needs at) e
-
-  pub built_kind : is_at_end d ≡ true → refusal (draft_parts d) ≡ None → IsOfKind kind (string_bytes d.text)
-  built_kind at e = subst (IsOfKind kind) draft_text (built at e).of_kind
+  pub built_kind : refusal (draft_parts d) ≡ None → IsOfKind kind (string_bytes d.text)
+  built_kind e = subst (IsOfKind kind) (d.ok whole).whole (built e).of_kind

@@ -59,23 +59,22 @@ read_back p =
 pub read_parts : (p : BuilderParts) (lengths : Lengths) (text : List ℕ) → lengths ≡ lengths_of p → text ≡ parts_text p → parts_in lengths text p.failed ≡ p
 read_parts p lengths text n t = ap (λ l. parts_in l text p.failed) n ∙ ap (λ x. parts_in (lengths_of p) x p.failed) t ∙ read_back p
 
-pub drafted : (kind : Kind) (p : BuilderParts) (lengths : Lengths) (text : List ℕ) → p.failed ≡ false → lengths ≡ lengths_of p → text ≡ parts_text p → meet_rules kind p ≡ true → IsDraft kind lengths text
-drafted kind p lengths text f n t rules =
+pub drafted : (p : BuilderParts) (lengths : Lengths) (text : List ℕ) → p.failed ≡ false → lengths ≡ lengths_of p → text ≡ parts_text p → IsDraft lengths text
+drafted p lengths text f n t =
     let same : parts_in lengths text false ≡ p = ap (parts_in lengths text) (sym f) ∙ read_parts p lengths text n t in
     record {
       whole = ap parts_text same ∙ sym t;
       counted = ap lengths_of same ∙ sym n;
-      rules = ap (meet_rules kind) same ∙ rules;
     }
 
 -- a step from a draft: the text and the lengths become those of the parts so changed
-pub record IsStep (kind : Kind) (p : BuilderParts) (lengths : Lengths) (text : List ℕ) : Type 0 where
-  pub draft : IsDraft kind lengths text
+pub record IsStep (p : BuilderParts) (lengths : Lengths) (text : List ℕ) : Type 0 where
+  pub draft : IsDraft lengths text
   pub parts : parts_in lengths text false ≡ p
 
-pub stepped : (kind : Kind) (p : BuilderParts) (lengths : Lengths) (text : List ℕ) → p.failed ≡ false → lengths ≡ lengths_of p → text ≡ parts_text p → meet_rules kind p ≡ true → IsStep kind p lengths text
-stepped kind p lengths text f n t rules = record {
-  draft = drafted kind p lengths text f n t rules;
+pub stepped : (p : BuilderParts) (lengths : Lengths) (text : List ℕ) → p.failed ≡ false → lengths ≡ lengths_of p → text ≡ parts_text p → IsStep p lengths text
+stepped p lengths text f n t = record {
+  draft = drafted p lengths text f n t;
   parts = ap (parts_in lengths text) (sym f) ∙ read_parts p lengths text n t;
 }
 
@@ -98,9 +97,10 @@ rules_of kind p e =
 pub by_rules : (kind : Kind) (p : BuilderParts) → Rules kind p → meet_rules kind p ≡ true
 by_rules kind p r = and_from _ _ r.scheme (and_from _ _ r.authority (and_from _ _ r.path (and_from _ _ r.query r.fragment)))
 
-pub none_of : (n : Option ℕ) → is_none n ≡ true → n ≡ None
-none_of None e = refl
-none_of (Some n) e = absurd (false≢true e)
+-- a part that is not there has no length
+pub none_in : (mark : ℕ) (n : Option ℕ) (text : List ℕ) → is_none (part_in mark n text) ≡ true → n ≡ None
+none_in mark None text e = refl
+none_in mark (Some n) text e = absurd (false≢true e)
 
 -- the text of the parts with one more at its end
 pub scheme_text : (s : List ℕ) → [] ++ (s ++ codes ":") ≡ recompose (record { scheme = Some s; authority = None; path = []; query = None; fragment = None })

@@ -6,7 +6,7 @@ use Rattle.std.specs.Str.{chars, IsUtf8, is_utf8}
 use Rattle.std.proofs.lemmas.Str.{IsUtf8-from_is_utf8, is_utf8-from_IsUtf8, IsUtf8-nil, chars-append, encode_ascii}
 use Rattle.std.proofs.lemmas.List.Concat.{flat_map-append}
 use Rattle.std.proofs.lemmas.List.Folds.{list_all-append}
-use Rattle.std.proofs.lemmas.Bool.{cases_Bool, cond-false, and_left, and_right, and_parts, and_from}
+use Rattle.std.proofs.lemmas.Bool.{cases_Bool, cond-false, and_right, and_parts, and_from}
 use Rattle.uri_pct.specs.Sets.{TableSet, LacksPercent, IsSubset, unreserved_set, allows}
 use Rattle.uri_pct.specs.Tokens.{Token, Char, Octet, tokens, tokens_of, token_bytes, is_pct_encoded, text_of_token, print, allows_token, is_valid_for, IsValidFor}
 use Rattle.uri_pct.specs.Reading.{is_printable, read, read_run, read_from, read_tokens, encode_formatting}

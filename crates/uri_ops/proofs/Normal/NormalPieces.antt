@@ -1,9 +1,9 @@
 -- The pieces of a normal text, as they are appended one after the other.
-use Rattle.std.proofs.Common.{◌≡◌, ℕ, Bool, true, false, ◌&&◌, List, [], ◌∷◌, ◌++◌, refl, sym, ap, ◌∙◌, ⊎_elim, cond, option_map}
+use Rattle.std.proofs.Common.{◌≡◌, ℕ, Bool, true, false, ◌&&◌, List, [], ◌∷◌, ◌++◌, refl, sym, ap, ◌∙◌, cond, option_map}
 use Rattle.std.specs.Prelude.{codes, Option, Some, None, is_some}
 use Rattle.std.specs.Option.{option_and_then}
 use Rattle.std.specs.Str.{IsUtf8, str_to_ascii_lowercase}
-use Rattle.std.proofs.lemmas.Bool.{cases_Bool, cond-false, false≢true}
+use Rattle.std.proofs.lemmas.Bool.{cond-false}
 use Rattle.std.proofs.lemmas.List.{append-nil, append_assoc}
 use Rattle.uri_pct.specs.Sets.{TableSet}
 use Rattle.uri_pct.specs.Texts.{is_absolute}
@@ -19,7 +19,6 @@ use Rattle.uri_ops.specs.NormalPaths.{path_text}
 use Rattle.uri_ops.specs.Ports.{PortFunction}
 use Rattle.uri_ops.specs.Target.{guarded}
 use Rattle.uri_ops.proofs.Meanings.AllowedParts.{part_from, part_valid, reprinted}
-use Rattle.uri_ops.proofs.Paths.PathMeanings.{authority_first}
 use Rattle.uri_ops.proofs.Paths.ReadPaths.{part_removed}
 use Rattle.uri_ops.proofs.Paths.ReadStarts.{has_authority_reprinted, no_authority_first}
 use Rattle.uri_ops.proofs.Tests.{some_map}

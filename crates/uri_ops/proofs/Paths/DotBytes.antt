@@ -8,7 +8,6 @@ use Rattle.std.proofs.lemmas.List.{append-nil, length-append}
 use Rattle.std.proofs.lemmas.Str.{encodes-chars, length-encode, len_utf8_bounds, encode_ascii, encode_same}
 use Rattle.std.proofs.lemmas.Bool.{cases_Bool, cond-true, cond-false, and_parts, or_cases, false≢true, false_from_ne_true, eqb-true}
 use Rattle.std.proofs.lemmas.Bool.Decides.{nat_tests}
-use Rattle.std.proofs.lemmas.Slice.Eq.{bytes_eq-Decides}
 use Rattle.uri_pct.specs.Tokens.{tokens, tokens_of, token_bytes, is_pct_encoded}
 use Rattle.uri_ops.specs.Dots.{dots, is_single_dot, is_double_dot}
 use Rattle.uri_ops.proofs.Paths.Segments.{same_of}

@@ -1,5 +1,5 @@
 -- What a reference resolves to, against a base, is a function of the meanings of both.
-use Rattle.std.proofs.Common.{◌≡◌, ℕ, Bool, true, false, not, List, refl, sym, ap, ◌∙◌, ◌&&◌, ◌||◌, ⊎_elim, inr, option_map}
+use Rattle.std.proofs.Common.{◌≡◌, ℕ, true, false, not, List, refl, sym, ap, ◌∙◌, ◌&&◌, ⊎_elim, inr, option_map}
 use Rattle.std.specs.Prelude.{codes, Option, Some, None, IfSome, Result, is_some, is_none}
 use Rattle.std.proofs.lemmas.Bool.{and_cases, and_left, and_right, or_from, cond_both, not-false, false≢true, both_ways}
 use Rattle.uri_pct.specs.Tokens.{print}

@@ -1,14 +1,15 @@
 //! The text that a builder writes, with the lengths of its parts (RFC 3986, section 5.3).
-ghost use Rattle.std.specs.Prelude.{◌≡◌, ◌==◌, ◌&&◌, ◌+◌, ◌++◌, ◌≤◌, IfSome, [], false};
-ghost use Rattle.std.specs.Prelude.{length, unwrap_or, true, string_bytes};
-ghost use Rattle.uri_pct.specs.Tokens.{is_valid_for};
+ghost use Rattle.std.specs.Prelude.{◌≡◌, ◌+◌, ◌++◌, ◌≤◌, IfSome, [], false};
+ghost use Rattle.std.specs.Prelude.{is_none, length, unwrap_or, true, string_bytes};
+ghost use Rattle.uri_pct.specs.Sets.{digit_set};
 ghost use Rattle.uri_parts.specs.Appending.{Pushes};
-ghost use Rattle.uri_parts.specs.Grammar.{has_colon_first, is_authority, is_scheme};
-ghost use Rattle.uri_ops.specs.BuilderParts.{Adds, known_kind, no_parts};
+ghost use Rattle.uri_parts.specs.Grammar.{has_colon_first};
+ghost use Rattle.uri_ops.specs.BuilderParts.{Adds, is_text_for, no_parts};
 ghost use Rattle.uri_ops.specs.BuilderParts.{with_authority, with_fragment, with_host, with_path};
 ghost use Rattle.uri_ops.specs.BuilderParts.{with_port, with_query, with_scheme, with_userinfo};
 ghost use Rattle.uri_ops.specs.Built.{refusal_of};
 ghost use Rattle.uri_ops.specs.Drafts.{IsDraft, behind_part};
+ghost use Rattle.uri_ops.specs.HostParts.{IsHostText};
 
 use crate::build::BuildError;
 use crate::build::appending::{append, append_host, append_port, grown};
@@ -28,35 +29,24 @@ pub struct Lengths {
     pub fragment: Option<usize>,
 }
 
-/// The text so far, whose parts are those of a kind. Unless it is marked failed it is their text by
-/// RFC 3986, section 5.3, and each of them meets its rule.
+/// The text so far. Unless it is marked failed, it is that of its parts by RFC 3986, section 5.3.
 #[doc(hidden)]
 #[derive(Drop)]
 pub struct Draft {
     pub text: String,
     pub lengths: Lengths,
     pub failed: bool,
-    /// Whether the kind has characters past ASCII.
-    pub international: bool,
-    /// Whether the kind needs a scheme.
-    pub needs_scheme: bool,
-    pub ghost ok: { failed ≡ false
-        → IsDraft (known_kind international needs_scheme) lengths (string_bytes text) },
+    pub ghost ok: { failed ≡ false → IsDraft lengths (string_bytes text) },
 }
 
 impl Draft {
-    ghost use Rattle.uri_ops.specs.Builders.{Follows, draft_kind, draft_parts, is_before_authority};
-    ghost use Rattle.uri_ops.specs.Builders.{is_at_end, is_before_fragment, is_before_host};
-    ghost use Rattle.uri_ops.specs.Builders.{is_before_path, is_before_port, is_before_query};
-    ghost use Rattle.uri_ops.specs.Builders.{is_before_userinfo, is_fresh, is_in_authority, same};
+    ghost use Rattle.uri_ops.specs.Builders.{any_authority, draft_parts, ends_in_authority};
+    ghost use Rattle.uri_ops.specs.Builders.{is_unended, lacks_all, lacks_authority, lacks_path};
     ghost use Rattle.uri_ops.specs.Built.{refusal};
 
     /// A draft that holds nothing.
-    pub fn new(alloc: Global, international: bool, needs_scheme: bool) -> Draft
-        ensures parts { draft_parts result ≡ no_parts }
-        ensures international { result.international ≡ international }
-        ensures needs_scheme { result.needs_scheme ≡ needs_scheme }
-        ensures at { is_fresh result ≡ true }
+    pub fn new(alloc: Global) -> Draft
+        ensures { draft_parts result ≡ no_parts }
     {
         Draft {
             text: String::new(alloc),
@@ -68,47 +58,21 @@ impl Draft {
                 fragment: None,
             },
             failed: false,
-            international,
-            needs_scheme,
-        }
-    }
-
-    /// Whether it was begun for such a kind.
-    pub fn is_for(&self, international: bool, needs_scheme: bool) -> bool
-        ensures { result
-            ≡ (same self.now.international international
-            && same self.now.needs_scheme needs_scheme) }
-    {
-        self.international == international && self.needs_scheme == needs_scheme
-    }
-
-    /// The same, marked failed.
-    pub fn marked(self) -> Draft
-        ensures { result.failed ≡ true }
-    {
-        Draft {
-            text: self.text,
-            lengths: self.lengths,
-            failed: true,
-            international: self.international,
-            needs_scheme: self.needs_scheme,
         }
     }
 
     /// With these two pieces behind the text, and parts of these lengths.
     fn appended(self, first: &str, second: &str, lengths: Lengths) -> Draft
-        requires { self.failed ≡ false → IsDraft (draft_kind self) lengths
+        requires { self.failed ≡ false → IsDraft lengths
             (string_bytes self.text ++ (first.now ++ second.now)) }
         ensures text { result.failed ≡ false
             → Pushes self.text result.text (first.now ++ second.now) }
         ensures lengths { result.lengths ≡ lengths }
-        ensures follows { Follows self result }
+        ensures kept { result.failed ≡ false → self.failed ≡ false }
     {
         let Draft {
             mut text,
             failed,
-            international,
-            needs_scheme,
             ..
         } = self;
         let failed = append(&mut text, failed, first);
@@ -117,18 +81,13 @@ impl Draft {
             text,
             lengths,
             failed,
-            international,
-            needs_scheme,
         }
     }
 
     /// With a scheme, and its `:`.
     pub fn with_scheme(self, scheme: &str) -> Draft
-        requires before { is_fresh self ≡ true }
-        requires rule { is_scheme scheme.now ≡ true }
-        ensures adds { Adds (with_scheme scheme.now) (draft_parts self) (draft_parts result) }
-        ensures follows { Follows self result }
-        ensures at { is_before_authority result ≡ true }
+        requires { self.failed ≡ false → lacks_all (draft_parts self) ≡ true }
+        ensures { Adds (with_scheme scheme.now) (draft_parts self) (draft_parts result) }
     {
         let lengths = Lengths {
             scheme: Some(scheme.len()),
@@ -139,12 +98,8 @@ impl Draft {
 
     /// With an authority behind its `//`.
     pub fn with_authority(self, authority: &str) -> Draft
-        requires before { is_before_authority self ≡ true }
-        requires rule { self.failed ≡ false → is_authority (draft_kind self) authority.now ≡ true }
-        ensures adds { Adds (with_authority authority.now) (draft_parts self) (draft_parts result) }
-        ensures follows { Follows self result }
-        ensures at { is_before_path result ≡ true }
-        ensures start { authority.now ≡ [] → is_before_userinfo result ≡ true }
+        requires { self.failed ≡ false → lacks_authority (draft_parts self) ≡ true }
+        ensures { Adds (with_authority authority.now) (draft_parts self) (draft_parts result) }
     {
         let lengths = Lengths {
             authority: Some(authority.len()),
@@ -155,19 +110,13 @@ impl Draft {
 
     /// With userinfo and its `@`, where an authority is begun.
     pub fn with_userinfo(self, userinfo: &str) -> Draft
-        requires before { is_before_userinfo self ≡ true }
-        requires rule { self.failed ≡ false
-            → is_valid_for (draft_kind self).userinfo userinfo.now ≡ true }
-        ensures adds { Adds (with_userinfo userinfo.now) (draft_parts self) (draft_parts result) }
-        ensures follows { Follows self result }
-        ensures at { is_before_host result ≡ true }
+        requires { self.failed ≡ false → ends_in_authority any_authority (draft_parts self) ≡ true }
+        ensures { Adds (with_userinfo userinfo.now) (draft_parts self) (draft_parts result) }
     {
         let Draft {
             mut text,
             lengths,
             failed,
-            international,
-            needs_scheme,
         } = self;
         let old = text.len();
         let failed = append(&mut text, failed, userinfo);
@@ -177,25 +126,19 @@ impl Draft {
             text,
             lengths,
             failed,
-            international,
-            needs_scheme,
         }
     }
 
     /// With a host.
     pub fn with_host<E: Encoder, H: WithEncoder<E>>(self, host: H) -> Draft
-        requires before { is_before_host self ≡ true }
-        requires rule { self.failed ≡ false → E.set ≡ (draft_kind self).reg_name }
+        requires { self.failed ≡ false → ends_in_authority any_authority (draft_parts self) ≡ true }
         ensures adds { Adds (with_host (H.host_text host)) (draft_parts self) (draft_parts result) }
-        ensures follows { Follows self result }
-        ensures at { is_before_port result ≡ true }
+        ensures host { result.failed ≡ false → IsHostText E.set (H.host_text host) }
     {
         let Draft {
             mut text,
             lengths,
             failed,
-            international,
-            needs_scheme,
         } = self;
         let old = text.len();
         let failed = append_host::<E, H>(&mut text, failed, &host);
@@ -204,25 +147,21 @@ impl Draft {
             text,
             lengths,
             failed,
-            international,
-            needs_scheme,
         }
     }
 
     /// With a port behind its `:`.
     pub fn with_port<P: AsPort>(self, port: P) -> Draft
-        requires before { is_before_port self ≡ true }
+        requires { self.failed ≡ false → ends_in_authority any_authority (draft_parts self) ≡ true }
         ensures adds { Adds (with_port (P.port_digits port))
             (draft_parts self) (draft_parts result) }
-        ensures follows { Follows self result }
-        ensures at { is_in_authority result ≡ true }
+        ensures digits { result.failed ≡ false
+            → is_text_for digit_set (P.port_digits port) ≡ true }
     {
         let Draft {
             mut text,
             lengths,
             failed,
-            international,
-            needs_scheme,
         } = self;
         let old = text.len();
         let begun = append(&mut text, failed, ":");
@@ -232,18 +171,13 @@ impl Draft {
             text,
             lengths,
             failed,
-            international,
-            needs_scheme,
         }
     }
 
     /// With a path.
     pub fn with_path(self, path: &str) -> Draft
-        requires before { is_before_path self ≡ true }
-        requires rule { self.failed ≡ false → is_valid_for (draft_kind self).path path.now ≡ true }
-        ensures adds { Adds (with_path path.now) (draft_parts self) (draft_parts result) }
-        ensures follows { Follows self result }
-        ensures at { is_before_query result ≡ true }
+        requires { self.failed ≡ false → lacks_path (draft_parts self) ≡ true }
+        ensures { Adds (with_path path.now) (draft_parts self) (draft_parts result) }
     {
         let lengths = Lengths {
             path: Some(path.len()),
@@ -254,12 +188,8 @@ impl Draft {
 
     /// With a query behind its `?`.
     pub fn with_query(self, query: &str) -> Draft
-        requires before { is_before_query self ≡ true }
-        requires rule { self.failed ≡ false
-            → is_valid_for (draft_kind self).query query.now ≡ true }
-        ensures adds { Adds (with_query query.now) (draft_parts self) (draft_parts result) }
-        ensures follows { Follows self result }
-        ensures at { is_before_fragment result ≡ true }
+        requires { self.failed ≡ false → is_unended (draft_parts self) ≡ true }
+        ensures { Adds (with_query query.now) (draft_parts self) (draft_parts result) }
     {
         let lengths = Lengths {
             query: Some(query.len()),
@@ -270,12 +200,8 @@ impl Draft {
 
     /// With a fragment behind its `#`.
     pub fn with_fragment(self, fragment: &str) -> Draft
-        requires before { is_before_fragment self ≡ true }
-        requires rule { self.failed ≡ false
-            → is_valid_for (draft_kind self).fragment fragment.now ≡ true }
-        ensures adds { Adds (with_fragment fragment.now) (draft_parts self) (draft_parts result) }
-        ensures follows { Follows self result }
-        ensures at { is_at_end result ≡ true }
+        requires { self.failed ≡ false → is_none (draft_parts self).fragment ≡ true }
+        ensures { Adds (with_fragment fragment.now) (draft_parts self) (draft_parts result) }
     {
         let lengths = Lengths {
             fragment: Some(fragment.len()),

@@ -1,31 +1,36 @@
 //! The states of a builder (RFC 3986, section 3).
-ghost use Rattle.std.specs.Prelude.{◌≡◌, true};
-ghost use Rattle.uri_ops.specs.MarkedBuilders.{marked_at_end, marked_before_authority};
-ghost use Rattle.uri_ops.specs.MarkedBuilders.{marked_before_fragment, marked_before_host};
-ghost use Rattle.uri_ops.specs.MarkedBuilders.{marked_before_path, marked_before_port};
-ghost use Rattle.uri_ops.specs.MarkedBuilders.{marked_before_query, marked_before_userinfo};
-ghost use Rattle.uri_ops.specs.MarkedBuilders.{marked_fresh};
 ghost use Rattle.uri_ops.specs.Builders.{is_at_end, is_before_authority, is_before_fragment};
 ghost use Rattle.uri_ops.specs.Builders.{is_before_host, is_before_path, is_before_port};
 ghost use Rattle.uri_ops.specs.Builders.{is_before_query, is_before_userinfo, is_fresh};
 ghost use Rattle.uri_ops.specs.Builders.{is_fresh_reference, is_in_authority};
 
-use crate::build::draft::Draft;
+use crate::build::held::{At, Holds};
+use crate::traits::RiMaybeRef;
 
 /// A state of a builder: which step was the last.
 ///
 /// # Examples
 ///
 /// A builder behind `scheme` is a `Builder<R, SchemeEnd>`.
-pub trait State: Drop {
-    ghost use Rattle.std.specs.Prelude.{Bool, true};
-    ghost use Rattle.uri_ops.specs.declared.build.draft.Draft.{Draft};
+pub trait State {
+    ghost use Rattle.std.specs.Prelude.{Bool};
+    ghost use Rattle.uri_ops.specs.BuilderParts.{BuilderParts};
 
-    ghost held: { Self → Draft };
+    ghost place: { Bool → BuilderParts → Bool };
 
-    ghost before: { Draft → Bool };
+    ghost before: { Bool → BuilderParts → Bool };
+}
 
-    ghost marked: { (draft : Draft) → draft.failed ≡ true → Self.before draft ≡ true };
+/// A state of a builder of an `R`.
+///
+/// Each state is one for every kind. Code over any state of a builder asks for it.
+///
+/// # Examples
+///
+/// `PathEnd` is a `StateOf<Uri<String>>`.
+pub trait StateOf<R: RiMaybeRef>: State {
+    #[doc(hidden)]
+    type Held: Holds<R, Self>;
 }
 
 /// A state from which the step to `T` may be taken.
@@ -34,12 +39,9 @@ pub trait State: Drop {
 ///
 /// `SchemeEnd` is a `To<PathEnd>`: `path` may be called behind `scheme`.
 pub trait To<T: State>: State {
-    ghost use Rattle.std.specs.Prelude.{true};
+    ghost use Rattle.uri_ops.specs.Builders.{Passes};
 
-    #[doc(hidden)]
-    fn carry(self) -> Draft
-        ensures same { result ≡ Self.held self }
-        ensures before { T.before result ≡ true };
+    ghost passes: { Passes Self.place T.before };
 }
 
 /// A state from which the steps up to `T` may be left out.
@@ -48,9 +50,23 @@ pub trait To<T: State>: State {
 ///
 /// `Start` is an `AdvanceTo<SchemeEnd>`: of a reference the scheme may be left out by `advance`.
 pub trait AdvanceTo<T: State>: State {
-    #[doc(hidden)]
-    fn pass(self) -> T
-        ensures { T.held result ≡ Self.held self };
+    ghost use Rattle.uri_ops.specs.Builders.{Passes};
+
+    ghost passes: { Passes Self.place T.place };
+}
+
+/// A state from which an authority may be given part by part.
+///
+/// # Examples
+///
+/// `SchemeEnd` is such a state, and what `authority_with` begins is in `AuthorityStart`.
+pub trait Begins: To<AuthorityStart> {
+    ghost use Rattle.uri_ops.specs.Builders.{Passes, is_before_userinfo};
+
+    /// The state of the builder that the closure is called with, which is `AuthorityStart`.
+    type Begun: State;
+
+    ghost begun: { Passes is_before_userinfo Self.Begun.place };
 }
 
 /// The start of a reference.
@@ -58,19 +74,16 @@ pub trait AdvanceTo<T: State>: State {
 /// # Examples
 ///
 /// `UriRef::<String>::builder(alloc)` is in it.
-#[derive(Drop)]
-pub struct Start {
-    #[doc(hidden)]
-    pub draft: Draft,
-    pub ghost ok: { is_fresh_reference draft ≡ true },
-}
+pub struct Start;
 
 impl State for Start {
-    ghost held = { λ state. state.draft };
+    ghost place = { is_fresh_reference };
 
-    ghost before = { λ draft. draft.failed };
+    ghost before = { λ _ parts. parts.failed };
+}
 
-    ghost marked = { λ draft e. e };
+impl<R: RiMaybeRef> StateOf<R> for Start {
+    type Held = At<R, Start>;
 }
 
 /// The start of a URI or an IRI, which needs a scheme.
@@ -78,19 +91,16 @@ impl State for Start {
 /// # Examples
 ///
 /// `Uri::<String>::builder(alloc)` is in it.
-#[derive(Drop)]
-pub struct NonRefStart {
-    #[doc(hidden)]
-    pub draft: Draft,
-    pub ghost ok: { is_fresh draft ≡ true },
-}
+pub struct NonRefStart;
 
 impl State for NonRefStart {
-    ghost held = { λ state. state.draft };
+    ghost place = { is_fresh };
 
-    ghost before = { λ draft. draft.failed };
+    ghost before = { λ _ parts. parts.failed };
+}
 
-    ghost marked = { λ draft e. e };
+impl<R: RiMaybeRef> StateOf<R> for NonRefStart {
+    type Held = At<R, NonRefStart>;
 }
 
 /// Behind the scheme.
@@ -98,19 +108,16 @@ impl State for NonRefStart {
 /// # Examples
 ///
 /// A builder is in it after `scheme`.
-#[derive(Drop)]
-pub struct SchemeEnd {
-    #[doc(hidden)]
-    pub draft: Draft,
-    pub ghost ok: { is_before_authority draft ≡ true },
-}
+pub struct SchemeEnd;
 
 impl State for SchemeEnd {
-    ghost held = { λ state. state.draft };
+    ghost place = { is_before_authority };
 
     ghost before = { is_fresh };
+}
 
-    ghost marked = { marked_fresh };
+impl<R: RiMaybeRef> StateOf<R> for SchemeEnd {
+    type Held = At<R, SchemeEnd>;
 }
 
 /// At the start of the authority.
@@ -118,19 +125,16 @@ impl State for SchemeEnd {
 /// # Examples
 ///
 /// The builder that the closure of `authority_with` is called with is in it.
-#[derive(Drop)]
-pub struct AuthorityStart {
-    #[doc(hidden)]
-    pub draft: Draft,
-    pub ghost ok: { is_before_userinfo draft ≡ true },
-}
+pub struct AuthorityStart;
 
 impl State for AuthorityStart {
-    ghost held = { λ state. state.draft };
+    ghost place = { is_before_userinfo };
 
     ghost before = { is_before_authority };
+}
 
-    ghost marked = { marked_before_authority };
+impl<R: RiMaybeRef> StateOf<R> for AuthorityStart {
+    type Held = At<R, AuthorityStart>;
 }
 
 /// Behind the userinfo.
@@ -138,19 +142,16 @@ impl State for AuthorityStart {
 /// # Examples
 ///
 /// A builder is in it after `userinfo`.
-#[derive(Drop)]
-pub struct UserinfoEnd {
-    #[doc(hidden)]
-    pub draft: Draft,
-    pub ghost ok: { is_before_host draft ≡ true },
-}
+pub struct UserinfoEnd;
 
 impl State for UserinfoEnd {
-    ghost held = { λ state. state.draft };
+    ghost place = { is_before_host };
 
     ghost before = { is_before_userinfo };
+}
 
-    ghost marked = { marked_before_userinfo };
+impl<R: RiMaybeRef> StateOf<R> for UserinfoEnd {
+    type Held = At<R, UserinfoEnd>;
 }
 
 /// Behind the host.
@@ -158,19 +159,16 @@ impl State for UserinfoEnd {
 /// # Examples
 ///
 /// A builder is in it after `host`.
-#[derive(Drop)]
-pub struct HostEnd {
-    #[doc(hidden)]
-    pub draft: Draft,
-    pub ghost ok: { is_before_port draft ≡ true },
-}
+pub struct HostEnd;
 
 impl State for HostEnd {
-    ghost held = { λ state. state.draft };
+    ghost place = { is_before_port };
 
     ghost before = { is_before_host };
+}
 
-    ghost marked = { marked_before_host };
+impl<R: RiMaybeRef> StateOf<R> for HostEnd {
+    type Held = At<R, HostEnd>;
 }
 
 /// Behind the port.
@@ -178,19 +176,16 @@ impl State for HostEnd {
 /// # Examples
 ///
 /// A builder is in it after `port`.
-#[derive(Drop)]
-pub struct PortEnd {
-    #[doc(hidden)]
-    pub draft: Draft,
-    pub ghost ok: { is_in_authority draft ≡ true },
-}
+pub struct PortEnd;
 
 impl State for PortEnd {
-    ghost held = { λ state. state.draft };
+    ghost place = { is_in_authority };
 
     ghost before = { is_before_port };
+}
 
-    ghost marked = { marked_before_port };
+impl<R: RiMaybeRef> StateOf<R> for PortEnd {
+    type Held = At<R, PortEnd>;
 }
 
 /// Behind the authority.
@@ -198,19 +193,16 @@ impl State for PortEnd {
 /// # Examples
 ///
 /// A builder is in it after `authority`, and after `authority_with`.
-#[derive(Drop)]
-pub struct AuthorityEnd {
-    #[doc(hidden)]
-    pub draft: Draft,
-    pub ghost ok: { is_before_path draft ≡ true },
-}
+pub struct AuthorityEnd;
 
 impl State for AuthorityEnd {
-    ghost held = { λ state. state.draft };
+    ghost place = { is_before_path };
 
     ghost before = { is_before_path };
+}
 
-    ghost marked = { marked_before_path };
+impl<R: RiMaybeRef> StateOf<R> for AuthorityEnd {
+    type Held = At<R, AuthorityEnd>;
 }
 
 /// Behind the path.
@@ -218,19 +210,16 @@ impl State for AuthorityEnd {
 /// # Examples
 ///
 /// A builder is in it after `path`, and may be built.
-#[derive(Drop)]
-pub struct PathEnd {
-    #[doc(hidden)]
-    pub draft: Draft,
-    pub ghost ok: { is_before_query draft ≡ true },
-}
+pub struct PathEnd;
 
 impl State for PathEnd {
-    ghost held = { λ state. state.draft };
+    ghost place = { is_before_query };
 
     ghost before = { is_before_path };
+}
 
-    ghost marked = { marked_before_path };
+impl<R: RiMaybeRef> StateOf<R> for PathEnd {
+    type Held = At<R, PathEnd>;
 }
 
 /// Behind the query.
@@ -238,19 +227,16 @@ impl State for PathEnd {
 /// # Examples
 ///
 /// A builder is in it after `query`, and may be built.
-#[derive(Drop)]
-pub struct QueryEnd {
-    #[doc(hidden)]
-    pub draft: Draft,
-    pub ghost ok: { is_before_fragment draft ≡ true },
-}
+pub struct QueryEnd;
 
 impl State for QueryEnd {
-    ghost held = { λ state. state.draft };
+    ghost place = { is_before_fragment };
 
     ghost before = { is_before_query };
+}
 
-    ghost marked = { marked_before_query };
+impl<R: RiMaybeRef> StateOf<R> for QueryEnd {
+    type Held = At<R, QueryEnd>;
 }
 
 /// Behind the fragment.
@@ -258,19 +244,16 @@ impl State for QueryEnd {
 /// # Examples
 ///
 /// A builder is in it after `fragment`, and may be built.
-#[derive(Drop)]
-pub struct FragmentEnd {
-    #[doc(hidden)]
-    pub draft: Draft,
-    pub ghost ok: { is_at_end draft ≡ true },
-}
+pub struct FragmentEnd;
 
 impl State for FragmentEnd {
-    ghost held = { λ state. state.draft };
+    ghost place = { is_at_end };
 
     ghost before = { is_before_fragment };
+}
 
-    ghost marked = { marked_before_fragment };
+impl<R: RiMaybeRef> StateOf<R> for FragmentEnd {
+    type Held = At<R, FragmentEnd>;
 }
 
 /// The end.
@@ -278,17 +261,14 @@ impl State for FragmentEnd {
 /// # Examples
 ///
 /// Each state from which `build` may be called leads to it.
-#[derive(Drop)]
-pub struct End {
-    #[doc(hidden)]
-    pub draft: Draft,
-    pub ghost ok: { is_at_end draft ≡ true },
-}
+pub struct End;
 
 impl State for End {
-    ghost held = { λ state. state.draft };
+    ghost place = { is_at_end };
 
     ghost before = { is_at_end };
+}
 
-    ghost marked = { marked_at_end };
+impl<R: RiMaybeRef> StateOf<R> for End {
+    type Held = At<R, End>;
 }

@@ -1,6 +1,7 @@
-use Rattle.std.proofs.Common.{◌∙◌}
-use Rattle.uri_ops.proofs.Builders.BuilderKinds.{fresh_parts}
+use Rattle.std.proofs.Common.{ap}
+use Rattle.uri_ops.specs.Builders.{is_fresh}
 use Rattle.uri_ops.proofs.build.Builder+R+NonRefStart.with_needed_scheme.Goals as goal
 
-pub returns : goal.returns
-returns g c = fresh_parts g.R.RiMaybeRef.kind c.new.result c.new.ensures.parts (c.new.ensures.international ∙ c.is_international.ensures) (c.new.ensures.needs_scheme ∙ c.has_needed_scheme.ensures)
+pub holding-requires-clause-place : goal.holding-requires-clause-place
+unfolding is_fresh
+holding-requires-clause-place g c = ap (is_fresh g.R.RiMaybeRef.kind.needs_scheme) c.new.ensures

@@ -1,9 +1,10 @@
-use Rattle.std.proofs.Common.{◌∙◌}
-use Rattle.uri_ops.proofs.Builders.BuilderKinds.{fresh_of_reference, fresh_parts}
+use Rattle.std.proofs.Common.{ap, ◌∙◌}
+use Rattle.uri_ops.specs.BuilderParts.{no_parts}
+use Rattle.uri_ops.specs.Builders.{is_fresh_reference, stands}
 use Rattle.uri_ops.proofs.build.Builder+R+Start.of_reference.Goals as goal
 
-pub invariant_of-result : goal.invariant_of-result
-invariant_of-result g c = record { ok = fresh_of_reference c.new.result c.new.ensures.at (c.new.ensures.needs_scheme ∙ c.has_needed_scheme.ensures ∙ c.requires) }
-
-pub returns : goal.returns
-returns g c = fresh_parts g.R.RiMaybeRef.kind c.new.result c.new.ensures.parts (c.new.ensures.international ∙ c.is_international.ensures) (c.new.ensures.needs_scheme ∙ c.has_needed_scheme.ensures)
+pub holding-requires-clause-place : goal.holding-requires-clause-place
+unfolding stands
+holding-requires-clause-place g c =
+    ap (is_fresh_reference g.R.RiMaybeRef.kind.needs_scheme) c.new.ensures
+    ∙ ap (λ needs. is_fresh_reference needs no_parts) c.requires

@@ -1,7 +1,17 @@
 use Rattle.std.proofs.Common.{ap, ◌∙◌}
-use Rattle.uri_ops.proofs.Builders.BuilderKinds.{allowed}
+use Rattle.uri_ops.specs.Builders.{draft_parts}
+use Rattle.uri_ops.proofs.Builders.BuilderDrafts.{text_from_encoder}
+use Rattle.uri_ops.proofs.Builders.PartRules.{fragment_meets, fragment_stands, to_no_fragment}
 use Rattle.uri_ops.proofs.build.Builder.fragment.Goals as goal
 
-pub with_fragment-requires-clause-rule : goal.with_fragment-requires-clause-rule
-with_fragment-requires-clause-rule g c = λ e.
-    allowed g.R.RiMaybeRef.kind c.taken.result g.met.R.RiMaybeRef.known (c.taken.ensures.of_kind e) (λ kind. kind.fragment) g.R.FragmentE.Encoder.set (g.met.R.Kind.Kind.fragment_set ∙ ap (λ kind. kind.fragment) g.met.R.RiMaybeRef.kind_is_its_own) c.as_str.result.now c.as_str.ensures.valid
+pub with_fragment-requires : goal.with_fragment-requires
+with_fragment-requires g c = to_no_fragment g.R.RiMaybeRef.kind.needs_scheme (draft_parts c.taken.result) c.taken.ensures.before
+
+pub holding-requires-clause-rules : goal.holding-requires-clause-rules
+holding-requires-clause-rules g c =
+    fragment_meets g.R.RiMaybeRef.kind g.R.RiMaybeRef.kind.needs_scheme (draft_parts c.taken.result) (draft_parts c.with_fragment.result) c.as_str.result.now c.with_fragment.ensures c.taken.ensures.rules
+    (text_from_encoder g.R.FragmentE.Encoder.set g.R.RiMaybeRef.kind.fragment (g.met.R.Kind.Kind.fragment_set ∙ ap (λ kind. kind.fragment) g.met.R.RiMaybeRef.kind_is_its_own) c.as_str.result.now c.as_str.utf8 c.as_str.ensures.valid)
+
+pub holding-requires-clause-place : goal.holding-requires-clause-place
+holding-requires-clause-place g c =
+    fragment_stands g.R.RiMaybeRef.kind g.R.RiMaybeRef.kind.needs_scheme (draft_parts c.taken.result) (draft_parts c.with_fragment.result) c.as_str.result.now c.with_fragment.ensures c.taken.ensures.before

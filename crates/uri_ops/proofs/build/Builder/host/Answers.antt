@@ -1,9 +1,20 @@
-use Rattle.std.proofs.Common.{sym, ap, ◌∙◌}
-use Rattle.uri_parts.specs.Grammar.{Kind}
-use Rattle.uri_ops.proofs.Builders.BuilderKinds.{kind_of_draft}
+use Rattle.std.proofs.Common.{ap, subst, ◌∙◌}
+use Rattle.uri_ops.specs.BuilderParts.{takes_host, takes_port}
+use Rattle.uri_ops.specs.Builders.{draft_parts}
+use Rattle.uri_ops.specs.HostParts.{IsHostText}
+use Rattle.uri_ops.proofs.Builders.BuilderGrowth.{host_goes_on}
+use Rattle.uri_ops.proofs.Builders.PartRules.{more_meets, more_stands, to_end}
 use Rattle.uri_ops.proofs.build.Builder.host.Goals as goal
 
-pub with_host-requires-clause-rule : goal.with_host-requires-clause-rule
-with_host-requires-clause-rule g c = λ e.
-    (g.met.R.Kind.Kind.reg_name_set ∙ ap (λ (kind : Kind). kind.reg_name) g.met.R.RiMaybeRef.kind_is_its_own)
-    ∙ sym (ap (λ (kind : Kind). kind.reg_name) (kind_of_draft g.R.RiMaybeRef.kind c.taken.result g.met.R.RiMaybeRef.known (c.taken.ensures.of_kind e)))
+pub with_host-requires : goal.with_host-requires
+with_host-requires g c = to_end takes_host g.R.RiMaybeRef.kind.needs_scheme (draft_parts c.taken.result) c.taken.ensures.before
+
+pub holding-requires-clause-rules : goal.holding-requires-clause-rules
+holding-requires-clause-rules g c =
+    more_meets g.R.RiMaybeRef.kind g.R.RiMaybeRef.kind.needs_scheme (draft_parts c.taken.result) (draft_parts c.with_host.result) (g.H.AsHost.host_text c.args.host) takes_host takes_port c.with_host.ensures.adds c.taken.ensures.rules c.taken.ensures.before
+    (λ f. host_goes_on g.R.RiMaybeRef.kind g.met.R.RiMaybeRef.component_sets (g.H.AsHost.host_text c.args.host) (subst (λ names. IsHostText names (g.H.AsHost.host_text c.args.host)) (g.met.R.Kind.Kind.reg_name_set ∙ ap (λ kind. kind.reg_name) g.met.R.RiMaybeRef.kind_is_its_own) (c.with_host.ensures.host f)))
+
+pub holding-requires-clause-place : goal.holding-requires-clause-place
+holding-requires-clause-place g c =
+    more_stands g.R.RiMaybeRef.kind g.R.RiMaybeRef.kind.needs_scheme (draft_parts c.taken.result) (draft_parts c.with_host.result) (g.H.AsHost.host_text c.args.host) takes_host takes_port c.with_host.ensures.adds c.taken.ensures.rules c.taken.ensures.before
+    (λ f. host_goes_on g.R.RiMaybeRef.kind g.met.R.RiMaybeRef.component_sets (g.H.AsHost.host_text c.args.host) (subst (λ names. IsHostText names (g.H.AsHost.host_text c.args.host)) (g.met.R.Kind.Kind.reg_name_set ∙ ap (λ kind. kind.reg_name) g.met.R.RiMaybeRef.kind_is_its_own) (c.with_host.ensures.host f)))

@@ -1,7 +1,21 @@
-use Rattle.std.proofs.Common.{ap, ◌∙◌}
-use Rattle.uri_ops.proofs.Builders.BuilderKinds.{allowed}
+use Rattle.std.proofs.Common.{◌++◌, ap, sym, ◌∙◌, codes}
+use Rattle.uri_pct.specs.Tokens.{is_valid_for}
+use Rattle.uri_ops.specs.BuilderParts.{takes_host}
+use Rattle.uri_ops.specs.Builders.{draft_parts}
+use Rattle.uri_ops.specs.Dots.{is_empty}
+use Rattle.uri_ops.proofs.Builders.BuilderGrowth.{userinfo_goes_on}
+use Rattle.uri_ops.proofs.Builders.PartRules.{more_meets, more_stands, to_end}
 use Rattle.uri_ops.proofs.build.Builder.userinfo.Goals as goal
 
-pub with_userinfo-requires-clause-rule : goal.with_userinfo-requires-clause-rule
-with_userinfo-requires-clause-rule g c = λ e.
-    allowed g.R.RiMaybeRef.kind c.taken.result g.met.R.RiMaybeRef.known (c.taken.ensures.of_kind e) (λ kind. kind.userinfo) g.R.UserinfoE.Encoder.set (g.met.R.Kind.Kind.userinfo_set ∙ ap (λ kind. kind.userinfo) g.met.R.RiMaybeRef.kind_is_its_own) c.as_str.result.now c.as_str.ensures.valid
+pub with_userinfo-requires : goal.with_userinfo-requires
+with_userinfo-requires g c = to_end is_empty g.R.RiMaybeRef.kind.needs_scheme (draft_parts c.taken.result) c.taken.ensures.before
+
+pub holding-requires-clause-rules : goal.holding-requires-clause-rules
+holding-requires-clause-rules g c =
+    more_meets g.R.RiMaybeRef.kind g.R.RiMaybeRef.kind.needs_scheme (draft_parts c.taken.result) (draft_parts c.with_userinfo.result) (c.as_str.result.now ++ codes "@") is_empty takes_host c.with_userinfo.ensures c.taken.ensures.rules c.taken.ensures.before
+    (λ _. userinfo_goes_on g.R.RiMaybeRef.kind g.met.R.RiMaybeRef.component_sets c.as_str.result.now c.as_str.utf8 (sym (ap (λ set. is_valid_for set c.as_str.result.now) (g.met.R.Kind.Kind.userinfo_set ∙ ap (λ kind. kind.userinfo) g.met.R.RiMaybeRef.kind_is_its_own)) ∙ c.as_str.ensures.valid))
+
+pub holding-requires-clause-place : goal.holding-requires-clause-place
+holding-requires-clause-place g c =
+    more_stands g.R.RiMaybeRef.kind g.R.RiMaybeRef.kind.needs_scheme (draft_parts c.taken.result) (draft_parts c.with_userinfo.result) (c.as_str.result.now ++ codes "@") is_empty takes_host c.with_userinfo.ensures c.taken.ensures.rules c.taken.ensures.before
+    (λ _. userinfo_goes_on g.R.RiMaybeRef.kind g.met.R.RiMaybeRef.component_sets c.as_str.result.now c.as_str.utf8 (sym (ap (λ set. is_valid_for set c.as_str.result.now) (g.met.R.Kind.Kind.userinfo_set ∙ ap (λ kind. kind.userinfo) g.met.R.RiMaybeRef.kind_is_its_own)) ∙ c.as_str.ensures.valid))

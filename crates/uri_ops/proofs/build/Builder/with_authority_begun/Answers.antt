@@ -1,7 +1,16 @@
-use Rattle.std.proofs.Common.{[], refl}
-use Rattle.uri_ops.specs.Builders.{draft_kind}
-use Rattle.uri_ops.proofs.Builders.BuilderKinds.{any_empty_authority}
+use Rattle.std.proofs.Common.{[]}
+use Rattle.uri_ops.specs.Builders.{draft_parts, lacks_authority}
+use Rattle.uri_ops.proofs.Builders.BuilderAuthorities.{empty_authority}
+use Rattle.uri_ops.proofs.Builders.PartRules.{authority_meets, begun_stands, to_test}
 use Rattle.uri_ops.proofs.build.Builder.with_authority_begun.Goals as goal
 
-pub with_authority-requires-clause-rule : goal.with_authority-requires-clause-rule
-with_authority-requires-clause-rule g c = λ _. any_empty_authority (draft_kind c.taken.result) [] refl
+pub with_authority-requires : goal.with_authority-requires
+with_authority-requires g c = to_test lacks_authority g.R.RiMaybeRef.kind.needs_scheme (draft_parts c.taken.result) c.taken.ensures.before
+
+pub holding-requires-clause-rules : goal.holding-requires-clause-rules
+holding-requires-clause-rules g c =
+    authority_meets g.R.RiMaybeRef.kind g.R.RiMaybeRef.kind.needs_scheme (draft_parts c.taken.result) (draft_parts c.with_authority.result) [] c.with_authority.ensures c.taken.ensures.rules (empty_authority g.R.RiMaybeRef.kind)
+
+pub holding-requires-clause-place : goal.holding-requires-clause-place
+holding-requires-clause-place g c =
+    g.met.S.Begins.begun g.R.RiMaybeRef.kind.needs_scheme (draft_parts c.with_authority.result) (begun_stands g.R.RiMaybeRef.kind g.R.RiMaybeRef.kind.needs_scheme (draft_parts c.taken.result) (draft_parts c.with_authority.result) [] c.with_authority.ensures c.taken.ensures.before)

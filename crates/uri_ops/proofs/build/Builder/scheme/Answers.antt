@@ -1,0 +1,15 @@
+use Rattle.uri_ops.specs.Builders.{draft_parts}
+use Rattle.uri_ops.proofs.Builders.BuilderDrafts.{scheme_from}
+use Rattle.uri_ops.proofs.Builders.PartRules.{at_start, scheme_meets, scheme_stands}
+use Rattle.uri_ops.proofs.build.Builder.scheme.Goals as goal
+
+pub with_scheme-requires : goal.with_scheme-requires
+with_scheme-requires g c = at_start g.R.RiMaybeRef.kind.needs_scheme (draft_parts c.taken.result) c.taken.ensures.before
+
+pub holding-requires-clause-rules : goal.holding-requires-clause-rules
+holding-requires-clause-rules g c =
+    scheme_meets g.R.RiMaybeRef.kind g.R.RiMaybeRef.kind.needs_scheme (draft_parts c.taken.result) (draft_parts c.with_scheme.result) c.as_str.result.now c.with_scheme.ensures c.taken.ensures.rules (scheme_from c.as_str.result.now c.as_str.utf8 c.as_str.ensures.valid)
+
+pub holding-requires-clause-place : goal.holding-requires-clause-place
+holding-requires-clause-place g c =
+    scheme_stands g.R.RiMaybeRef.kind g.R.RiMaybeRef.kind.needs_scheme (draft_parts c.taken.result) (draft_parts c.with_scheme.result) c.as_str.result.now c.with_scheme.ensures c.taken.ensures.before
