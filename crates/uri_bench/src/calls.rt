@@ -1,10 +1,11 @@
 //! The calls that are counted: none is inlined, and each returns its whole answer.
-use fluent_uri::normalize::Normalizer;
+use fluent_uri::normalize::{Normalizer, SchemeDefaults};
 use fluent_uri::pct_enc::encoder::{Data, IPath, Path};
 use fluent_uri::pct_enc::{CowStr, EStr, EString};
 use fluent_uri::resolve::Resolver;
 use fluent_uri::{Iri, IriRef, ParseError, Uri, UriRef};
 use std::alloc::Global;
+use uri_links::links::{Outcome, Register};
 
 #[inline(never)]
 pub fn parse_uri(text: &str) -> Result<Uri<&str>, ParseError> {
@@ -107,4 +108,14 @@ pub fn build(alloc: Global, parts: Uri<&str>) -> Option<Uri<String>> {
         .fragment(parts.fragment()?)
         .build()
         .ok()
+}
+
+#[inline(never)]
+pub fn note(
+    register: &mut Register<SchemeDefaults>,
+    base: &Uri<&str>,
+    reference: &str,
+) -> Option<Outcome> {
+    let reference = UriRef::<&str>::parse(reference).ok()?;
+    register.note(base, &reference).ok()
 }

@@ -5,8 +5,10 @@
 mod calls;
 
 use crate::calls as call;
+use fluent_uri::normalize::Normalizer;
 use fluent_uri::{Iri, Uri, UriRef};
 use std::alloc::Global;
+use uri_links::links::Register;
 
 /// What a refused text answers, in place of the length of the answer.
 const REFUSED: u64 = u64::MAX;
@@ -52,6 +54,7 @@ pub extern "C" fn bench(alloc: Global, work: u32, text: &[u8], base: &[u8], roun
         13 => length_of!(rounds, call::encode(alloc, text)),
         14 => length_of!(rounds, call::to_uri(alloc, text)),
         15 => build(alloc, text, rounds),
+        16 => links(alloc, base, text, rounds),
         _ => REFUSED,
     }
 }
@@ -78,4 +81,22 @@ fn build(alloc: Global, text: &str, rounds: u64) -> u64 {
         return REFUSED;
     };
     length_of!(rounds, call::build(alloc, value))
+}
+
+/// Notes each line in a new register, and answers how many targets that has then.
+fn links(alloc: Global, base: &str, lines: &str, rounds: u64) -> u64 {
+    let Ok(base) = Uri::<&str>::parse(base) else {
+        return REFUSED;
+    };
+    let mut targets = REFUSED;
+    for _ in 0..rounds {
+        let mut register = Register::new(alloc, Normalizer::new());
+        for line in lines.split('\n') {
+            if call::note(&mut register, &base, line).is_none() {
+                return REFUSED;
+            }
+        }
+        targets = register.len() as u64;
+    }
+    targets
 }

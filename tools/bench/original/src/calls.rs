@@ -3,6 +3,7 @@ use fluent_uri::pct_enc::encoder::{Data, IPath, Path};
 use fluent_uri::pct_enc::{EStr, EString};
 use fluent_uri::{Iri, IriRef, ParseError, Uri, UriRef};
 use std::borrow::Cow;
+use std::collections::BTreeMap;
 
 #[inline(never)]
 pub fn parse_uri(text: &str) -> Result<Uri<&str>, ParseError> {
@@ -97,4 +98,26 @@ pub fn build(parts: Uri<&str>) -> Option<Uri<String>> {
         .fragment(parts.fragment()?)
         .build()
         .ok()
+}
+
+/// The normal forms of the targets that were noted, and their places.
+#[derive(Default)]
+pub struct Register {
+    pub targets: Vec<Uri<String>>,
+    places: BTreeMap<String, usize>,
+}
+
+/// The place of the reference's target, which is noted where it is new: the original has no one
+/// call for it.
+#[inline(never)]
+pub fn note(register: &mut Register, base: &Uri<&str>, reference: &str) -> Option<usize> {
+    let reference = UriRef::parse(reference).ok()?;
+    let target = reference.resolve_against(base).ok()?.normalize();
+    if let Some(place) = register.places.get(target.as_str()) {
+        return Some(*place);
+    }
+    let place = register.targets.len();
+    register.places.insert(target.as_str().to_owned(), place);
+    register.targets.push(target);
+    Some(place)
 }

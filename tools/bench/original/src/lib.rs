@@ -67,6 +67,7 @@ pub unsafe extern "C" fn bench(
         13 => length_of!(rounds, call::encode(text)),
         14 => length_of!(rounds, call::to_uri(text)),
         15 => build(text, rounds),
+        16 => links(base, text, rounds),
         _ => REFUSED,
     }
 }
@@ -90,4 +91,22 @@ fn build(text: &str, rounds: u64) -> u64 {
         return REFUSED;
     };
     length_of!(rounds, call::build(value))
+}
+
+/// Notes each line in a new register, and answers how many targets that has then.
+fn links(base: &str, lines: &str, rounds: u64) -> u64 {
+    let Ok(base) = Uri::parse(base) else {
+        return REFUSED;
+    };
+    let mut targets = REFUSED;
+    for _ in 0..rounds {
+        let mut register = call::Register::default();
+        for line in lines.split('\n') {
+            if call::note(&mut register, &base, line).is_none() {
+                return REFUSED;
+            }
+        }
+        targets = register.targets.len() as u64;
+    }
+    targets
 }
