@@ -10,8 +10,19 @@ use Rattle.caller_laws.proofs.swapping.normal_target.Goals as goal
 
 pub returns-clause-target : goal.returns-clause-target
 returns-clause-target c =
-    normal_form_of_target iri iri_ref default_port (iri_text c.args.base) (iri_ref_text c.args.reference) (iri_text c.in_ok-normal_base.normal_base)
-    (iri_ref_text c.in_ok-normal_reference.normal_reference) (iri_text (base_of c.with_base.result)) (iri_text c.in_ok-target.target) (iri_text c.in_ok-normalize.field-0)
-    (record { utf8 = subst IsUtf8 c.as_str-base_text.ensures.text c.as_str-base_text.utf8; grammar = c.args.base.core.of_kind })
-    (record { utf8 = subst IsUtf8 c.as_str-reference_text.ensures.text c.as_str-reference_text.utf8; grammar = c.args.reference.core.of_kind })
-    (ap iri_text c.with_base.ensures.base) c.in_ok-normal_base.ensures c.in_ok-normal_reference.ensures c.in_ok-target.ensures.alike c.in_ok-normalize.ensures
+    normal_form_of_target iri iri_ref default_port
+    (iri_text c.args.base) (iri_ref_text c.args.reference)
+    (iri_text c.in_ok-normal_base.normal_base)
+    (iri_ref_text c.in_ok-normal_reference.normal_reference)
+    (iri_text (base_of c.with_base.result)) (iri_text c.in_ok-target.target)
+    (iri_text c.in_ok-normalize.field-0)
+    (record {
+      utf8 = subst IsUtf8 c.as_str-base_text.ensures.text c.as_str-base_text.utf8;
+      grammar = c.args.base.core.of_kind;
+    })
+    (record {
+      utf8 = subst IsUtf8 c.as_str-reference_text.ensures.text c.as_str-reference_text.utf8;
+      grammar = c.args.reference.core.of_kind;
+    })
+    (ap iri_text c.with_base.ensures.base) c.in_ok-normal_base.ensures
+    c.in_ok-normal_reference.ensures c.in_ok-target.ensures.alike c.in_ok-normalize.ensures

@@ -11,11 +11,22 @@ use Rattle.caller_laws.proofs.swapping.same_normal_target.Goals as goal
 pub returns : goal.returns
 returns c =
     let same : iri_text c.in_ok-normalize-3.field-0 ≡ iri_text c.in_ok-normalize-4.field-0 =
-    same_normal_form iri iri_ref default_port (iri_text c.args.base) (iri_ref_text c.args.reference) (iri_text (base_of c.with_base.result))
-    (iri_text c.in_ok-target.target) (iri_text c.in_ok-normalize.field-0) (iri_ref_text c.in_ok-normalize-2.field-0) (iri_text (base_of c.with_base-2.result))
-    (iri_text c.in_ok-of_normal.of_normal) (iri_text c.in_ok-normalize-3.field-0) (iri_text c.in_ok-normalize-4.field-0)
-    (record { utf8 = IsUtf8-string_bytes c.in_ok-normalize.field-0.core.text; grammar = c.in_ok-normalize.field-0.core.of_kind })
-    (record { utf8 = IsUtf8-string_bytes c.in_ok-normalize-2.field-0.core.text; grammar = c.in_ok-normalize-2.field-0.core.of_kind })
-    (ap iri_text c.with_base.ensures.base) (ap iri_text c.with_base-2.ensures.base) c.in_ok-target.ensures.alike c.in_ok-normalize.ensures c.in_ok-normalize-2.ensures
-    c.in_ok-of_normal.ensures.target.0 c.in_ok-normalize-3.ensures c.in_ok-normalize-4.ensures in
+    same_normal_form iri iri_ref default_port
+    (iri_text c.args.base) (iri_ref_text c.args.reference)
+    (iri_text (base_of c.with_base.result)) (iri_text c.in_ok-target.target)
+    (iri_text c.in_ok-normalize.field-0) (iri_ref_text c.in_ok-normalize-2.field-0)
+    (iri_text (base_of c.with_base-2.result)) (iri_text c.in_ok-of_normal.of_normal)
+    (iri_text c.in_ok-normalize-3.field-0) (iri_text c.in_ok-normalize-4.field-0)
+    (record {
+      utf8 = IsUtf8-string_bytes c.in_ok-normalize.field-0.core.text;
+      grammar = c.in_ok-normalize.field-0.core.of_kind;
+    })
+    (record {
+      utf8 = IsUtf8-string_bytes c.in_ok-normalize-2.field-0.core.text;
+      grammar = c.in_ok-normalize-2.field-0.core.of_kind;
+    })
+    (ap iri_text c.with_base.ensures.base) (ap iri_text c.with_base-2.ensures.base)
+    c.in_ok-target.ensures.alike c.in_ok-normalize.ensures c.in_ok-normalize-2.ensures
+    c.in_ok-of_normal.ensures.target.0 c.in_ok-normalize-3.ensures
+    c.in_ok-normalize-4.ensures in
     search (rules, same)
