@@ -1,6 +1,10 @@
 -- What the parser reads of an address in brackets, behind the `[`: RFC 3986, section 3.2.2.
-use Rattle.std.specs.Prelude.{◌≡◌, ℕ, ◌+◌, Bool, ◌&&◌, ◌||◌, List, length, codes, is_some, ⊤}
+use Rattle.std.specs.Prelude.{◌≡◌, ℕ, ◌+◌, ◌<◌, ◌≤◌, Bool, ◌&&◌, ◌||◌, List, length, take, codes}
+use Rattle.std.specs.Prelude.{slice_index, is_some, ⊤}
+use Rattle.std.specs.Char.{digit_value}
+use Rattle.std.specs.Str.Parse.{AllDigits}
 use Rattle.std.specs.Str.{IsCharBoundary}
+use Rattle.std.specs.Net.Reader.{Segments}
 use Rattle.uri_parts.specs.declared.error.ParseError.{ParseError}
 use Rattle.uri_parts.specs.declared.error.ParseErrorKind.{ParseErrorKind}
 use Rattle.uri_parts.specs.declared.error.ParseErrorKind.TheVariants.{InvalidPctEncodedOctet}
@@ -9,6 +13,19 @@ use Rattle.uri_parts.specs.declared.error.ParseErrorKind.TheVariants.{InvalidIpv
 use Rattle.uri_parts.specs.Components.{starts, before_any, from_any}
 use Rattle.uri_parts.specs.Hosts.{ipv6_value, is_ipv_future}
 use Rattle.uri_pct.specs.Delimiters.{right_bracket}
+
+-- so many hexadecimal digits come first: all of them, or five
+pub record AreHexDigits (text : List ℕ) (count : ℕ) : Type 0 where
+  pub digits : AllDigits 16 (take count text)
+  pub most : count ≤ 5
+  pub within : count ≤ length text
+  pub stop : count < 5 → 16 ≤ digit_value (slice_index text count)
+
+-- the groups that were found are so many, and this follows
+pub record AreCounted (found : Segments) (count : ℕ) (ends : Bool) (rest : List ℕ) : Type 0 where
+  pub many : length found.0 ≡ count
+  pub ipv4 : found.1 ≡ ends
+  pub left : found.2 ≡ rest
 
 -- the text before the first `]`
 abbrev pub literal_before : List ℕ → List ℕ

@@ -1,6 +1,7 @@
 //! The parts of a reference: its components, and the grammar of each kind.
 #![tactic(auto)]
 
+mod address_reader;
 #[doc(hidden)]
 pub mod authority_reader;
 pub mod component;

@@ -10,6 +10,7 @@ ghost use Rattle.uri_parts.specs.Hosts as Hosts;
 ghost use Rattle.uri_parts.specs.AuthorityReading.{is_literal};
 ghost use Rattle.uri_parts.specs.Literals.{IsLiteralRefusal, reads_literal, literal_length};
 
+use crate::address_reader::after_ipv6;
 use crate::error::{ParseError, ParseErrorKind};
 use crate::net::Ipv6Addr;
 use uri_pct::table::{HEXDIG, IPV_FUTURE, Table};
@@ -203,9 +204,9 @@ pub(crate) fn is_literal(text: &str) -> bool
     Ipv6Addr::read(text).is_some() || is_ipv_future(text)
 }
 
-/// Where the address that stands at `start`, behind a `[`, and the `]` behind it end; or why there
-/// is none.
-pub(crate) fn literal_end(text: &str, start: usize) -> Result<usize, ParseError>
+/// Where the IPvFuture address that stands at `start`, behind a `[`, and the `]` behind it end; or
+/// why there is none.
+fn future_literal_end(text: &str, start: usize) -> Result<usize, ParseError>
     requires { IsCharBoundary text.now start }
     ensures accepts { is_ok result ≡ reads_literal (drop start text.now) }
     ensures end { IfOk result (λ end. end ≡ start + literal_length (drop start text.now)) }
@@ -215,6 +216,28 @@ pub(crate) fn literal_end(text: &str, start: usize) -> Result<usize, ParseError>
     if let Some((address, _)) = text[start..].split_once(']') {
         if is_literal(address) {
             return Ok(start + address.len() + 1);
+        }
+    }
+    Err(refusal(text, start))
+}
+
+/// Where the address that stands at `start`, behind a `[`, and the `]` behind it end; or why there
+/// is none.
+pub(crate) fn literal_end(text: &str, start: usize) -> Result<usize, ParseError>
+    requires { IsCharBoundary text.now start }
+    ensures accepts { is_ok result ≡ reads_literal (drop start text.now) }
+    ensures end { IfOk result (λ end. end ≡ start + literal_length (drop start text.now)) }
+    ensures boundary { IfOk result (λ end. IsCharBoundary text.now end) }
+    ensures err { IfErr result (IsLiteralRefusal text.now start) }
+{
+    let address = &text[start..];
+    if is_lettered(address) {
+        return future_literal_end(text, start);
+    }
+    if let Some(rest) = after_ipv6(address.as_bytes()) {
+        let end = text.len() - rest.len();
+        if sees(text, end, b']') {
+            return Ok(end + 1);
         }
     }
     Err(refusal(text, start))

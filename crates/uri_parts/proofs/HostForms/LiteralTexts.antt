@@ -1,13 +1,13 @@
 -- A text cut at the first of one character, as std cuts it, and the tests of an address in brackets there.
 use Rattle.std.proofs.Common.{◌≡◌, ℕ, ◌+◌, ◌<◌, ◌≤◌, Bool, true, false, not, eqb, ltb, List, [], ◌∷◌, length, get_or, drop, take, refl, sym, ap, ◌∙◌, arith, ◌||◌, ◌&&◌, rules}
-use Rattle.std.specs.Prelude.{codes, IsTrue, Some, None, is_some}
+use Rattle.std.specs.Prelude.{codes, IsTrue, is_some}
 use Rattle.std.specs.Char.{digit_value}
 use Rattle.std.specs.List.{prefix_len, position_or_len, before_first, after_first}
 use Rattle.std.specs.Str.{IsUtf8, IsCharBoundary}
 use Rattle.std.proofs.lemmas.Str.{IsCharBoundary-after_ascii}
 use Rattle.std.proofs.lemmas.List.{drop_more, drop_all}
 use Rattle.std.proofs.lemmas.List.Sums.{prefix_len_stops}
-use Rattle.std.proofs.lemmas.Bool.{not-false, eqb-true, and_left, and_right, false≢true, or_right}
+use Rattle.std.proofs.lemmas.Bool.{not-false, eqb-true, and_left, and_right, false≢true}
 use Rattle.std.proofs.lemmas.Bool.Decides.{nat_tests}
 use Rattle.uri_pct.specs.Sets.{is_one_of, hexdig_set, ipv_future_set}
 use Rattle.uri_pct.specs.Tokens.{is_valid_for}

@@ -1,18 +1,17 @@
 -- What a text lacks that a set's characters spell, and UTF-8 on both sides of an ASCII character.
-use Rattle.std.proofs.Common.{◌≡◌, ℕ, ◌<◌, ◌≤◌, true, false, List, [], ◌∷◌, ◌++◌, length, get_or, drop, length-append, sym, ap, subst, ◌∙◌, arith}
+use Rattle.std.proofs.Common.{◌≡◌, ℕ, ◌<◌, ◌≤◌, true, false, List, ◌∷◌, ◌++◌, length, get_or, drop, length-append, sym, subst, ◌∙◌, arith}
 use Rattle.std.specs.Str.{IsUtf8}
 use Rattle.std.proofs.Math.Seq.{get_or-append_seam, take-append_seam, drop-append_seam}
 use Rattle.std.proofs.lemmas.Str.{IsUtf8-take, IsUtf8-drop, IsCharBoundary-before_ascii}
 use Rattle.std.proofs.lemmas.List.{take_all}
-use Rattle.std.proofs.lemmas.Bool.{and_parts, eqb-true, not-true, false≢true}
+use Rattle.std.proofs.lemmas.Bool.{and_parts, eqb-true, not-true}
 use Rattle.uri_pct.specs.Sets.{TableSet, LacksPercent, is_one_of}
 use Rattle.uri_pct.specs.Tokens.{is_valid_for}
 use Rattle.uri_pct.specs.Fronts.{front}
 use Rattle.uri_pct.proofs.ValidTexts.Cuts.{to_mark, excludes, of_each, front_le_mark, valid_where_read}
-use Rattle.uri_parts.specs.Components.{Lacks, before_any, starts}
+use Rattle.uri_parts.specs.Components.{Lacks, before_any}
 use Rattle.uri_parts.proofs.Splitting.Cuts.{IsCut-any}
 use Rattle.uri_parts.proofs.Parsing.ReadingStops.{utf8_tail}
-use Rattle.uri_parts.proofs.Splitting.Recompose.{starts-cons}
 
 inside_seam : (xs : List ℕ) (c : ℕ) (ys : List ℕ) → length xs < length (xs ++ c ∷ ys)
 inside_seam xs c ys = omega (arith, length-append xs (c ∷ ys))

@@ -1,29 +1,38 @@
-use Rattle.std.proofs.Common.{sym, ◌∙◌, lit<, drop}
-use Rattle.std.proofs.lemmas.Str.Pattern.{split_once_first}
-use Rattle.uri_parts.proofs.HostForms.LiteralTexts.{reads_at, literal_end, reads_unclosed}
+use Rattle.std.proofs.Common.{◌≡◌, ◌≤◌, true, false, length, arith, sym, ap, ◌∙◌, length-drop}
+use Rattle.uri_parts.specs.Components.{starts}
+use Rattle.uri_parts.proofs.HostForms.Ipv6Literals.{follows, place_behind, accepted, unread, unclosed}
+use Rattle.uri_parts.proofs.literal.literal_end.Goals.{in-Some+else-sees, in_default}
 use Rattle.uri_parts.proofs.literal.literal_end.Goals as goal
-use Rattle.uri_parts.proofs.literal.literal_end.Goals.{in-Some+else-is_literal, in_default}
 
-pub returns-then-is_literal-clause-accepts : goal.returns-then-is_literal-clause-accepts
-returns-then-is_literal-clause-accepts c =
-    let h = split_once_first 93 c.range_from.result.now c.split_once.result c.split_once.ensures.cases (lit< tt) in
-    let e = rw (c.in-Some.is, c.range_from.ensures.value) at h in
-    sym (reads_at (drop c.args.start c.args.text.now) e.0 c.in-Some.address.now e.1 ∙ sym c.is_literal.ensures ∙ c.if-is_literal.true)
+pub overflow_sub-end : goal.overflow_sub-end
+overflow_sub-end c =
+    let e = rw (c.as_bytes.ensures.value, c.range_from-address.ensures.value) at c.in-Some.ensures in
+    omega (arith, (follows _ _ e).0, length-drop c.args.start c.args.text.now)
 
-pub returns-then-is_literal-clause-end : goal.returns-then-is_literal-clause-end
-returns-then-is_literal-clause-end c =
-    let h = split_once_first 93 c.range_from.result.now c.split_once.result c.split_once.ensures.cases (lit< tt) in
-    let e = rw (c.in-Some.is, c.range_from.ensures.value) at h in
-    literal_end (drop c.args.start c.args.text.now) e.0 c.in-Some.address.now e.1 c.args.start
+pub returns-then-sees-clause-accepts : goal.returns-then-sees-clause-accepts
+returns-then-sees-clause-accepts c =
+    let e = rw (c.as_bytes.ensures.value, c.range_from-address.ensures.value) at c.in-Some.ensures in
+    let within : c.args.start ≤ length c.args.text.now = c.requires.0 in
+    let here : starts 93 c.in-Some.rest.now ≡ true = ap (starts 93) (place_behind _ _ _ within e) ∙ sym c.sees.ensures.value ∙ c.if-sees.true in
+    sym (accepted _ _ e here).0
+
+pub returns-then-sees-clause-end : goal.returns-then-sees-clause-end
+returns-then-sees-clause-end c =
+    let e = rw (c.as_bytes.ensures.value, c.range_from-address.ensures.value) at c.in-Some.ensures in
+    let within : c.args.start ≤ length c.args.text.now = c.requires.0 in
+    let here : starts 93 c.in-Some.rest.now ≡ true = ap (starts 93) (place_behind _ _ _ within e) ∙ sym c.sees.ensures.value ∙ c.if-sees.true in
+    omega (arith, (accepted _ _ e here).1, (follows _ _ e).0, length-drop c.args.start c.args.text.now)
 
 pub returns-clause-accepts : goal.returns-clause-accepts
 returns-clause-accepts c =
-    let h = split_once_first 93 c.range_from.result.now c.split_once.result c.split_once.ensures.cases (lit< tt) in
-    elim c.match-split_once.branch [
-      | in-Some+else-is_literal w ↦
-          let e = rw (w.in-Some.is, c.range_from.ensures.value) at h in
-          sym (reads_at (drop c.args.start c.args.text.now) e.0 w.in-Some.address.now e.1 ∙ sym w.is_literal.ensures ∙ w.if-is_literal.false)
+    let plain = rw c.range_from-address.ensures.value at (sym c.is_lettered.ensures ∙ c.if-is_lettered.false) in
+    let within : c.args.start ≤ length c.args.text.now = c.requires.0 in
+    elim c.match-after_ipv6.branch [
+      | in-Some+else-sees w ↦
+          let e = rw (c.as_bytes.ensures.value, c.range_from-address.ensures.value) at w.in-Some.ensures in
+          let other : starts 93 w.in-Some.rest.now ≡ false = ap (starts 93) (place_behind _ _ _ within e) ∙ sym w.sees.ensures.value ∙ w.if-sees.false in
+          sym (unclosed _ _ plain e other)
       | in_default w ↦
-          let e = rw (w.in_default.is, c.range_from.ensures.value) at h in
-          reads_unclosed (drop c.args.start c.args.text.now) e
+          let e = rw (c.as_bytes.ensures.value, c.range_from-address.ensures.value) at w.in_default.ensures in
+          sym (unread _ plain e)
     ]

@@ -1,0 +1,17 @@
+use Rattle.std.proofs.Common.{arith, ap, length-drop, take_all, Some, drop, length, ◌-◌, inl, inr}
+use Rattle.uri_parts.proofs.HostForms.AddressReads.{group_read, nothing_read, long_unread}
+use Rattle.uri_parts.proofs.address_reader.after_group.Goals as goal
+
+pub returns-then-digits-eq5 : goal.returns-then-digits-eq5
+returns-then-digits-eq5 c = elim c.if-digits-eq5.either [
+  | inl none ↦ rw (nothing_read c.args.text.now c.args.digits c.requires none)
+  | inr five ↦ rw (long_unread c.args.text.now c.args.digits c.requires five.1)
+]
+
+pub returns-else-digits-eq5 : goal.returns-else-digits-eq5
+returns-else-digits-eq5 c =
+    let rest = drop c.args.digits c.args.text.now in
+    let few = c.if-digits-eq5.false in
+    let most = c.requires.most in
+    let whole = take_all (length c.args.text.now - c.args.digits) rest (omega (arith, length-drop c.args.digits c.args.text.now)) in
+    rw (group_read c.args.text.now c.args.digits c.requires (omega arith) (omega arith)) (ap Some whole)
