@@ -14,3 +14,4 @@ pub mod Cased
 pub mod WrittenFormatting
 pub mod TakenReadings
 pub mod Decodable
+pub mod BracketedHosts

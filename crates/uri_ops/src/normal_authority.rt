@@ -1,38 +1,44 @@
 //! Authorities in normal form (RFC 3986, sections 6.2.2 and 6.2.3; RFC 3987, section 5.3.2).
 ghost use Rattle.std.specs.Prelude.{◌≡◌, ◌==◌, [], OnOk, codes, false, option_map};
 ghost use Rattle.std.specs.Option.{option_map_or};
+ghost use Rattle.uri_pct.specs.Delimiters.{left_bracket};
 ghost use Rattle.uri_parts.specs.Appending.{Pushes};
 ghost use Rattle.uri_parts.specs.Authority.{authority_parts};
 ghost use Rattle.uri_parts.specs.AuthorityTexts.{authority_text};
-ghost use Rattle.uri_parts.specs.Components.{marked};
+ghost use Rattle.uri_parts.specs.Components.{marked, starts};
 ghost use Rattle.uri_parts.specs.Grammar.{Kind};
 ghost use Rattle.uri_parts.specs.Hosts.{host_kind};
+ghost use Rattle.uri_parts.specs.Schemes.{scheme_text};
 ghost use Rattle.uri_ops.specs.Meaning.{authority_meaning, host_meaning, port_meaning};
 ghost use Rattle.uri_ops.specs.Normal.{host_text, normal_authority, normal_part};
+ghost use Rattle.uri_ops.specs.NormalPorts.{default_of};
 
+use crate::default_port::DefaultPort;
 use crate::reading::{push_component, push_lower, push_read_host};
 use std::alloc::{AllocError, Global};
-use uri_parts::component::{Authority, HostOf};
+use uri_parts::component::{Authority, HostOf, Scheme};
 use uri_pct::encoder::Encoder;
 
-/// Appends the normal form of the authority, where `default` is the default port of its scheme: the
-/// userinfo and the host as they are read, and the port unless it is empty or the default.
+/// Appends the normal form of an authority behind its scheme: the userinfo and the host as they are
+/// read, and the port unless it is empty or the scheme's default.
 ///
 /// After an error some of it may stand behind what was there.
 #[doc(hidden)]
-pub fn push_authority<U: Encoder, R: Encoder>(
+pub fn push_authority<U: Encoder, R: Encoder, P: DefaultPort>(
     alloc: Global,
     authority: Authority<'_, U, R>,
-    default: Option<u16>,
+    scheme: Option<Scheme<'_>>,
+    ports: &P,
     out: &mut String,
 ) -> Result<(), AllocError>
-    ensures { (kind : Kind) → kind.userinfo ≡ U.set → kind.reg_name ≡ R.set
+    ensures { let default = default_of (P.port_of ports.now) (option_map scheme_text scheme.entry) in
+        (kind : Kind) → kind.userinfo ≡ U.set → kind.reg_name ≡ R.set
         → OnOk result (Pushes out.old out.new
         (normal_authority (authority_meaning kind default (authority_text authority.entry)))) }
 {
     push_userinfo(alloc, authority, out)?;
     push_host(alloc, authority, out)?;
-    push_port(authority, default, out)
+    push_port(authority, scheme, ports, out)
 }
 
 /// Appends what is read of the userinfo, and its `@`.
@@ -67,23 +73,34 @@ pub fn push_host<U: Encoder, R: Encoder>(
         (host_text (host_meaning R.set host (host_kind host)))) }
 {
     let host = authority.host();
+    if !is_bracketed(host) {
+        return push_read_host(alloc, &R::table(), host, out);
+    }
     match authority.host_parsed() {
-        HostOf::Ipv4(_) => push_read_host(alloc, &R::table(), host, out),
         HostOf::Ipv6(address) => write!(out, "[{address}]"),
-        HostOf::IpvFuture => push_lower(alloc, host, out),
-        HostOf::RegName(name) => push_read_host(alloc, &R::table(), name.as_str(), out),
+        _ => push_lower(alloc, host, out),
     }
 }
 
-/// Appends the port's `:` and its digits, unless it is empty or the default.
-fn push_port<U: Encoder, R: Encoder>(
+/// Whether the host is an address in brackets.
+fn is_bracketed(host: &str) -> bool
+    ensures { result ≡ starts left_bracket host.now }
+{
+    matches!(host.as_bytes(), [b'[', ..])
+}
+
+/// Appends the port's `:` and its digits, unless it is empty or the scheme's default.
+fn push_port<U: Encoder, R: Encoder, P: DefaultPort>(
     authority: Authority<'_, U, R>,
-    default: Option<u16>,
+    scheme: Option<Scheme<'_>>,
+    ports: &P,
     out: &mut String,
 ) -> Result<(), AllocError>
     ensures { let p = authority_parts (authority_text authority.entry) in
+        let default = default_of (P.port_of ports.now) (option_map scheme_text scheme.entry) in
         OnOk result (Pushes out.old out.new (marked (codes ":") (port_meaning default p.port) [])) }
 {
+    let default = default_behind(authority, scheme, ports);
     let Some(digits) = kept_port(authority, default) else {
         return Ok(());
     };
@@ -106,6 +123,23 @@ fn kept_port<'a, U: Encoder, R: Encoder>(
         Ok(Some(number)) if is_number_of(default, number) => None,
         _ => Some(port.as_str()),
     }
+}
+
+/// The default port of the scheme, which is asked for only where there is a port that isn't empty.
+fn default_behind<U: Encoder, R: Encoder, P: DefaultPort>(
+    authority: Authority<'_, U, R>,
+    scheme: Option<Scheme<'_>>,
+    ports: &P,
+) -> Option<u16>
+    ensures { let port = (authority_parts (authority_text authority.entry)).port in
+        port_meaning result port
+        ≡ port_meaning (default_of (P.port_of ports.now) (option_map scheme_text scheme.entry))
+        port }
+{
+    if authority.port()?.is_empty() {
+        return None;
+    }
+    ports.default_port(scheme?)
 }
 
 /// Whether there is a default port, and it is this number.

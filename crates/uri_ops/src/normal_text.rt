@@ -1,7 +1,6 @@
 //! The normal text of a value (RFC 3986, section 6.2.2; RFC 3987, section 5.3.2).
 ghost use Rattle.std.specs.Prelude.{◌≡◌, ◌++◌, ℕ, List, Option, [], IfOk, OnOk, codes, is_some};
 ghost use Rattle.std.specs.Prelude.{option_map, true};
-ghost use Rattle.std.specs.Option.{option_and_then};
 ghost use Rattle.uri_pct.specs.EStrs.{text_of};
 ghost use Rattle.uri_pct.specs.Reading.{read};
 ghost use Rattle.uri_pct.specs.Tokens.{print, IsValidFor};
@@ -16,6 +15,7 @@ ghost use Rattle.uri_ops.specs.Dots.{IsAbsolute, remove_dot_segments, underflows
 ghost use Rattle.uri_ops.specs.Meaning.{meaning_of};
 ghost use Rattle.uri_ops.specs.Normal.{marked_authority, normal_part, normal_scheme, normal_text};
 ghost use Rattle.uri_ops.specs.NormalPaths.{path_text, path_underflows};
+ghost use Rattle.uri_ops.specs.NormalPorts.{default_of};
 ghost use Rattle.uri_ops.specs.Target.{guarded};
 
 use crate::default_port::DefaultPort;
@@ -46,24 +46,16 @@ fn push_scheme(
     out.push(':')
 }
 
-/// The default port of the scheme, if there is a scheme and it has one.
-fn default_port<P: DefaultPort>(ports: &P, scheme: Option<Scheme<'_>>) -> Option<u16>
-    ensures { result
-        ≡ option_and_then (P.port_of ports.now)
-        (normal_scheme (option_map scheme_text scheme.entry)) }
-{
-    ports.default_port(scheme?)
-}
-
-/// Appends `//` and the normal form of the authority, where `default` is the default port of its
-/// scheme.
-fn push_marked_authority<U: Encoder, R: Encoder>(
+/// Appends `//` and the normal form of the authority behind this scheme.
+fn push_marked_authority<U: Encoder, R: Encoder, P: DefaultPort>(
     alloc: Global,
     authority: Option<Authority<'_, U, R>>,
-    default: Option<u16>,
+    scheme: Option<Scheme<'_>>,
+    ports: &P,
     out: &mut String,
 ) -> Result<(), AllocError>
-    ensures { (kind : Kind) → kind.userinfo ≡ U.set → kind.reg_name ≡ R.set
+    ensures { let default = default_of (P.port_of ports.now) (option_map scheme_text scheme.entry) in
+        (kind : Kind) → kind.userinfo ≡ U.set → kind.reg_name ≡ R.set
         → OnOk result (Pushes out.old out.new
         (marked_authority kind default (option_map authority_text authority.entry))) }
 {
@@ -71,7 +63,7 @@ fn push_marked_authority<U: Encoder, R: Encoder>(
         return Ok(());
     };
     out.push_str("//")?;
-    push_authority(alloc, authority, default, out)
+    push_authority(alloc, authority, scheme, ports, out)
 }
 
 /// Appends what is read of a query or a fragment, behind its mark.
@@ -210,7 +202,7 @@ pub fn push_normal<K: Kind, P: DefaultPort>(
 {
     let scheme = core.scheme();
     push_scheme(alloc, scheme, out)?;
-    push_marked_authority(alloc, core.authority(), default_port(ports, scheme), out)?;
+    push_marked_authority(alloc, core.authority(), scheme, ports, out)?;
     let path = core.path();
     let underflowed = push_path(alloc, core.has_scheme(), core.has_authority(), path, out)?;
     push_marked(alloc, "?", core.query(), out)?;

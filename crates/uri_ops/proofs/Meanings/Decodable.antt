@@ -1,8 +1,7 @@
 -- Texts in which each `%` begins an octet.
-use Rattle.std.proofs.Common.{◌≡◌, ℕ, Bool, true, not, eqb, List, refl, sym, subst, ◌∙◌, arith, ⊎_elim, inl, inr}
+use Rattle.std.proofs.Common.{◌≡◌, ℕ, Bool, true, false, not, eqb, List, refl, subst, arith, inl, inr}
 use Rattle.std.specs.Prelude.{Option, Some, None}
 use Rattle.std.specs.Net.Grammar.{IsDotted}
-use Rattle.std.proofs.lemmas.Bool.{cases_Bool, cond-true, cond-false}
 use Rattle.std.proofs.lemmas.Bool.Decides.{nat_tests}
 use Rattle.std.proofs.lemmas.List.Elements.{All-weaker}
 use Rattle.std.proofs.lemmas.List.Sums.{list_all-from_AllPass}
@@ -16,7 +15,8 @@ use Rattle.uri_pct.proofs.Decodings.Decoding.{in_widest}
 use Rattle.uri_pct.proofs.ValidTexts.EStrs.{valid_in_more}
 use Rattle.uri_pct.proofs.TableSets.Percent.{lacks_percent}
 use Rattle.uri_parts.specs.Components.{starts}
-use Rattle.uri_parts.specs.Hosts.{Ipv4, host_kind, ipv4_value, ipv6_value, literal_of, literal_kind, name_kind}
+use Rattle.uri_parts.specs.Hosts.{ipv4_value, is_host}
+use Rattle.uri_parts.proofs.Authorities.AuthorityPlaces.{name_valid}
 use Rattle.uri_parts.proofs.HostForms.Addresses.{ipv4_value-sound}
 use Rattle.uri_ops.proofs.Meanings.HostMeanings.{ipv4_chars}
 use Rattle.uri_ops.proofs.Meanings.AllowedParts.{part_valid}
@@ -40,18 +40,10 @@ dotted_decodes text octets h =
     (part_plain widest_set no_mark refl refl (λ c e. e) text
     (list_all-from_AllPass (is_plain_char no_mark) text (All-weaker IsDigitOrDot (λ c. is_plain_char no_mark c ≡ true) (λ c d. unmarked c d) text (ipv4_chars text octets h))))
 
-no_literal : (value : Option (List ℕ)) (octets : List ℕ) → literal_kind value ≡ Ipv4 octets → ⊥
-no_literal None octets e = cc
-no_literal (Some segments) octets e = cc
-
-named_octets : (value : Option (List ℕ)) (octets : List ℕ) → name_kind value ≡ Ipv4 octets → value ≡ Some octets
-named_octets None octets e = absurd (cc)
-named_octets (Some other) octets e = cc
-
--- the text of an IPv4 address
-pub ipv4_decodes : (text octets : List ℕ) → host_kind text ≡ Ipv4 octets → IsValidFor widest_set text
-unfolding host_kind
-ipv4_decodes text octets e = ⊎_elim
-    (λ s. absurd (no_literal (ipv6_value (literal_of text)) octets (sym (cond-true _ _ _ s) ∙ e)))
-    (λ s. dotted_decodes text octets (ipv4_value-sound text octets (named_octets (ipv4_value text) octets (sym (cond-false _ _ _ s) ∙ e))))
-    (cases_Bool (starts 91 text))
+-- a host that doesn't begin with `[`: an IPv4 address or a name
+pub named_decodes : (table : Table) (names : TableSet) (host : List ℕ) → set_of table ≡ names → is_host names host ≡ true → starts 91 host ≡ false → IsValidFor widest_set host
+named_decodes table names host e h s = by_value (ipv4_value host) refl
+  where
+    by_value : (value : Option (List ℕ)) → ipv4_value host ≡ value → IsValidFor widest_set host
+    by_value (Some octets) v = dotted_decodes host octets (ipv4_value-sound host octets v)
+    by_value None v = valid_decodes table names host e (name_valid names host h s v)

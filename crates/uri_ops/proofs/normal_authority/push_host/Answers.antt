@@ -1,11 +1,21 @@
 use Rattle.std.proofs.Common.{ap, sym, ◌∙◌}
-use Rattle.uri_parts.specs.Addresses.{ipv4_octets}
 use Rattle.uri_parts.specs.Hosts.{host_kind}
-use Rattle.uri_ops.proofs.Meanings.Decodable.{valid_decodes, ipv4_decodes}
+use Rattle.uri_parts.proofs.Authorities.AuthorityPlaces.{holds}
+use Rattle.uri_ops.proofs.Meanings.BracketedHosts.{name_written, future_written}
+use Rattle.uri_ops.proofs.Meanings.Decodable.{named_decodes}
 use Rattle.uri_ops.proofs.normal_authority.push_host.Goals as goal
 
 pub push_read_host-requires : goal.push_read_host-requires
-push_read_host-requires g c = ipv4_decodes c.host-host.result.now (ipv4_octets c.in-Ipv4.field-0) (ap host_kind c.host-host.ensures ∙ sym c.in-Ipv4.ensures.kind)
+push_read_host-requires g c =
+    let w = (holds g.U.Encoder.set g.R.Encoder.set c.args.authority.text.now c.args.authority.valid).host in
+    named_decodes c.table.result g.R.Encoder.set c.host-host.result.now c.table.ensures (rw c.host-host.ensures w) (sym c.is_bracketed.ensures ∙ c.if-not-is_bracketed.true)
 
-pub push_read_host-requires-in-RegName : goal.push_read_host-requires-in-RegName
-push_read_host-requires-in-RegName g c = valid_decodes c.table-in-RegName.result g.R.Encoder.set c.as_str.result.now c.table-in-RegName.ensures c.as_str.ensures.valid
+pub returns-then-not-is_bracketed : goal.returns-then-not-is_bracketed
+returns-then-not-is_bracketed g c =
+    let host = c.host-host.result.now in
+    rw (← c.host-host.ensures, name_written g.R.Encoder.set host (sym c.is_bracketed.ensures ∙ c.if-not-is_bracketed.true), ← c.table.ensures) c.push_read_host.ensures
+
+pub returns-in_default : goal.returns-in_default
+returns-in_default g c =
+    let host = c.host-host.result.now in
+    rw (← c.host-host.ensures, future_written c.host_parsed.result g.R.Encoder.set host c.in_default.not-Ipv6 (sym c.is_bracketed.ensures ∙ c.if-not-is_bracketed.false) (c.host_parsed.ensures.kind ∙ ap host_kind (sym c.host-host.ensures))) c.push_lower.ensures

@@ -9,6 +9,7 @@ use Rattle.uri_parts.specs.Components.{components, marked}
 use Rattle.uri_ops.specs.Meaning.{authority_meaning}
 use Rattle.uri_ops.specs.Normal.{normal_authority}
 use Rattle.uri_ops.specs.NormalPaths.{path_text}
+use Rattle.uri_ops.specs.NormalPorts.{default_of}
 use Rattle.uri_ops.proofs.Normal.NormalPieces.{normal_written, some_twice}
 use Rattle.uri_ops.proofs.normal_text.push_normal.Goals as goal
 
@@ -28,8 +29,7 @@ returns-clause-text g c =
     normal_written kind ports c.args.core.text.now old o1 o2 o3 o4 (string_bytes c.push_marked-2.new.out)
     (c.in_ok-push_scheme.ensures ∙ ap (λ s. old ++ marked [] (option_map str_to_ascii_lowercase s) (codes ":")) c.scheme-scheme.ensures)
     (c.in_ok-push_marked_authority.ensures kind (sym g.met.K.Kind.userinfo_set) (sym g.met.K.Kind.reg_name_set)
-    ∙ ap (λ d. o1 ++ marked (codes "//") (option_map normal_authority (option_map (authority_meaning kind d) (option_map authority_text c.authority.result))) [])
-    (c.default_port.ensures ∙ ap (λ s. option_and_then ports (option_map str_to_ascii_lowercase s)) c.scheme-scheme.ensures)
+    ∙ ap (λ s. o1 ++ marked (codes "//") (option_map normal_authority (option_map (authority_meaning kind (default_of ports s)) (option_map authority_text c.authority.result))) []) c.scheme-scheme.ensures
     ∙ ap (λ a. o1 ++ marked (codes "//") (option_map normal_authority (option_map (authority_meaning kind default) a)) []) c.authority.ensures)
     (c.in_ok-underflowed.ensures.text p.scheme authority (sym c.has_scheme.ensures) (some_twice (authority_meaning kind default) normal_authority p.authority ∙ sym c.has_authority.ensures)
     ∙ ap (λ set. o2 ++ path_text set p.scheme authority (text_of c.path-path.result)) g.met.K.Kind.path_set
