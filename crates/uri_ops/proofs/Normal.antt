@@ -3,3 +3,5 @@ pub mod NormalComponents
 pub mod NormalTexts
 pub mod NormalPieces
 pub mod NormalForms
+pub mod WrittenPlaces
+pub mod NormalPlaces

@@ -1,5 +1,6 @@
 //! Authorities in normal form (RFC 3986, sections 6.2.2 and 6.2.3; RFC 3987, section 5.3.2).
-ghost use Rattle.std.specs.Prelude.{◌≡◌, ◌==◌, [], OnOk, codes, false, option_map};
+ghost use Rattle.std.specs.Prelude.{◌≡◌, ◌==◌, [], IfOk, OnOk, codes, false, length, option_map};
+ghost use Rattle.std.specs.Prelude.{string_bytes};
 ghost use Rattle.std.specs.Option.{option_map_or};
 ghost use Rattle.uri_pct.specs.Delimiters.{left_bracket};
 ghost use Rattle.uri_parts.specs.Appending.{Pushes};
@@ -10,17 +11,19 @@ ghost use Rattle.uri_parts.specs.Grammar.{Kind};
 ghost use Rattle.uri_parts.specs.Hosts.{host_kind};
 ghost use Rattle.uri_parts.specs.Schemes.{scheme_text};
 ghost use Rattle.uri_ops.specs.Meaning.{authority_meaning, host_meaning, port_meaning};
-ghost use Rattle.uri_ops.specs.Normal.{host_text, normal_authority, normal_part};
+ghost use Rattle.uri_ops.specs.Normal.{host_text, normal_authority, normal_part, normal_parts};
 ghost use Rattle.uri_ops.specs.NormalPorts.{default_of};
+ghost use Rattle.uri_ops.specs.Written.{parts_at};
 
 use crate::default_port::DefaultPort;
 use crate::reading::{push_component, push_lower, push_read_host};
 use std::alloc::{AllocError, Global};
 use uri_parts::component::{Authority, HostOf, Scheme};
+use uri_parts::positions::AuthorityPositions;
 use uri_pct::encoder::Encoder;
 
 /// Appends the normal form of an authority behind its scheme: the userinfo and the host as they are
-/// read, and the port unless it is empty or the scheme's default.
+/// read, and the port unless it is empty or the scheme's default. It answers where it lies.
 ///
 /// After an error some of it may stand behind what was there.
 #[doc(hidden)]
@@ -30,15 +33,28 @@ pub fn push_authority<U: Encoder, R: Encoder, P: DefaultPort>(
     scheme: Option<Scheme<'_>>,
     ports: &P,
     out: &mut String,
-) -> Result<(), AllocError>
-    ensures { let default = default_of (P.port_of ports.now) (option_map scheme_text scheme.entry) in
+) -> Result<AuthorityPositions, AllocError>
+    ensures text { let default = default_of (P.port_of ports.now) (option_map scheme_text scheme.entry) in
         (kind : Kind) → kind.userinfo ≡ U.set → kind.reg_name ≡ R.set
         → OnOk result (Pushes out.old out.new
         (normal_authority (authority_meaning kind default (authority_text authority.entry)))) }
+    ensures places { let default = default_of (P.port_of ports.now) (option_map scheme_text scheme.entry) in
+        (kind : Kind) → kind.userinfo ≡ U.set → kind.reg_name ≡ R.set
+        → IfOk result (λ places. places ≡ parts_at (length (string_bytes out.old))
+        (normal_parts (authority_meaning kind default (authority_text authority.entry)))) }
 {
+    let start = out.len();
     push_userinfo(alloc, authority, out)?;
+    let host_start = out.len();
     push_host(alloc, authority, out)?;
-    push_port(authority, scheme, ports, out)
+    let host_end = out.len();
+    push_port(authority, scheme, ports, out)?;
+    Ok(AuthorityPositions {
+        start,
+        host_start,
+        host_end,
+        end: out.len(),
+    })
 }
 
 /// Appends what is read of the userinfo, and its `@`.

@@ -1,6 +1,6 @@
 //! The normal text of a value (RFC 3986, section 6.2.2; RFC 3987, section 5.3.2).
-ghost use Rattle.std.specs.Prelude.{◌≡◌, ◌++◌, ℕ, List, Option, [], IfOk, OnOk, codes, is_some};
-ghost use Rattle.std.specs.Prelude.{option_map, true};
+ghost use Rattle.std.specs.Prelude.{◌≡◌, ◌+◌, ◌++◌, ℕ, List, Option, [], IfOk, OnOk, codes};
+ghost use Rattle.std.specs.Prelude.{is_some, length, option_map, string_bytes, true};
 ghost use Rattle.uri_pct.specs.EStrs.{text_of};
 ghost use Rattle.uri_pct.specs.Reading.{read};
 ghost use Rattle.uri_pct.specs.Tokens.{print, IsValidFor};
@@ -12,11 +12,13 @@ ghost use Rattle.uri_parts.specs.Grammar.{Kind};
 ghost use Rattle.uri_parts.specs.Schemes.{scheme_text};
 ghost use Rattle.uri_ops.specs.ComponentSets.{HasComponentSets, IsComponentSet};
 ghost use Rattle.uri_ops.specs.Dots.{IsAbsolute, remove_dot_segments, underflows};
-ghost use Rattle.uri_ops.specs.Meaning.{meaning_of};
-ghost use Rattle.uri_ops.specs.Normal.{marked_authority, normal_part, normal_scheme, normal_text};
+ghost use Rattle.uri_ops.specs.Meaning.{authority_meaning, meaning_of};
+ghost use Rattle.uri_ops.specs.Normal.{marked_authority, normal_components, normal_part};
+ghost use Rattle.uri_ops.specs.Normal.{normal_parts, normal_scheme, normal_text};
 ghost use Rattle.uri_ops.specs.NormalPaths.{path_text, path_underflows};
 ghost use Rattle.uri_ops.specs.NormalPorts.{default_of};
 ghost use Rattle.uri_ops.specs.Target.{guarded};
+ghost use Rattle.uri_ops.specs.Written.{parts_at, written_at};
 
 use crate::default_port::DefaultPort;
 use crate::dot_segments::{may_have_dot_segments, push_kept_segments};
@@ -27,60 +29,77 @@ use std::alloc::{AllocError, Global};
 use uri_parts::component::{Authority, Scheme};
 use uri_parts::core_text::Core;
 use uri_parts::kind::Kind;
+use uri_parts::positions::{AuthorityPositions, Positions};
 use uri_pct::encoder::{Encoder, PathEncoder};
 use uri_pct::pct_enc::EStr;
 
-/// Appends the scheme in lower case, and its `:`.
+/// Appends the scheme in lower case, and its `:`, and answers where it ends.
 fn push_scheme(
     alloc: Global,
     scheme: Option<Scheme<'_>>,
     out: &mut String,
-) -> Result<(), AllocError>
-    ensures { OnOk result (Pushes out.old out.new
+) -> Result<Option<usize>, AllocError>
+    ensures text { OnOk result (Pushes out.old out.new
         (marked [] (normal_scheme (option_map scheme_text scheme.entry)) (codes ":"))) }
+    ensures end { IfOk result (λ end. end
+        ≡ option_map (λ s. length (string_bytes out.old) + length s)
+        (normal_scheme (option_map scheme_text scheme.entry))) }
 {
     let Some(scheme) = scheme else {
-        return Ok(());
+        return Ok(None);
     };
     push_lower(alloc, scheme.as_str(), out)?;
-    out.push(':')
+    let end = out.len();
+    out.push(':')?;
+    Ok(Some(end))
 }
 
-/// Appends `//` and the normal form of the authority behind this scheme.
+/// Appends `//` and the normal form of the authority behind this scheme, and answers where it lies.
 fn push_marked_authority<U: Encoder, R: Encoder, P: DefaultPort>(
     alloc: Global,
     authority: Option<Authority<'_, U, R>>,
     scheme: Option<Scheme<'_>>,
     ports: &P,
     out: &mut String,
-) -> Result<(), AllocError>
-    ensures { let default = default_of (P.port_of ports.now) (option_map scheme_text scheme.entry) in
+) -> Result<Option<AuthorityPositions>, AllocError>
+    ensures text { let default = default_of (P.port_of ports.now) (option_map scheme_text scheme.entry) in
         (kind : Kind) → kind.userinfo ≡ U.set → kind.reg_name ≡ R.set
         → OnOk result (Pushes out.old out.new
         (marked_authority kind default (option_map authority_text authority.entry))) }
+    ensures places { let default = default_of (P.port_of ports.now) (option_map scheme_text scheme.entry) in
+        (kind : Kind) → kind.userinfo ≡ U.set → kind.reg_name ≡ R.set
+        → IfOk result (λ places. places
+        ≡ option_map (λ a. parts_at (length (string_bytes out.old) + 2)
+        (normal_parts (authority_meaning kind default a)))
+        (option_map authority_text authority.entry)) }
 {
     let Some(authority) = authority else {
-        return Ok(());
+        return Ok(None);
     };
     out.push_str("//")?;
-    push_authority(alloc, authority, scheme, ports, out)
+    let places = push_authority(alloc, authority, scheme, ports, out)?;
+    Ok(Some(places))
 }
 
-/// Appends what is read of a query or a fragment, behind its mark.
+/// Appends what is read of a query or a fragment, behind its mark, and answers where it ends.
 fn push_marked<E: Encoder>(
     alloc: Global,
     mark: &str,
     part: Option<EStr<'_, E>>,
     out: &mut String,
-) -> Result<(), AllocError>
-    ensures { OnOk result (Pushes out.old out.new
+) -> Result<Option<usize>, AllocError>
+    ensures text { OnOk result (Pushes out.old out.new
         (marked mark.now (normal_part E.set (option_map text_of part.entry)) [])) }
+    ensures end { IfOk result (λ end. end
+        ≡ option_map (λ s. length (string_bytes out.old) + length mark.now + length s)
+        (normal_part E.set (option_map text_of part.entry))) }
 {
     let Some(part) = part else {
-        return Ok(());
+        return Ok(None);
     };
     out.push_str(mark)?;
-    push_component(alloc, part, out)
+    push_component(alloc, part, out)?;
+    Ok(Some(out.len()))
 }
 
 /// What stands before a path under a scheme: `/.` if it would be read as an authority.
@@ -183,29 +202,41 @@ fn push_path<E: PathEncoder>(
     Ok(false)
 }
 
-/// Appends the normal text of a value, and answers whether the removal of its dot segments
-/// underflows.
+/// Appends the normal text of a value to what is empty, and answers where its components lie, and
+/// whether the removal of its dot segments underflows.
 ///
-/// After an error some of it may stand behind what was there.
+/// After an error some of it may stand there.
 #[doc(hidden)]
 pub fn push_normal<K: Kind, P: DefaultPort>(
     alloc: Global,
     core: Core<K, &str>,
     ports: &P,
     out: &mut String,
-) -> Result<bool, AllocError>
+) -> Result<(Positions, bool), AllocError>
     requires { HasComponentSets K.kind }
     ensures text { OnOk result (Pushes out.old out.new
         (normal_text (meaning_of K.kind (P.port_of ports.now) (core_text core.entry)))) }
+    ensures places { let m = meaning_of K.kind (P.port_of ports.now) (core_text core.entry) in
+        string_bytes out.old ≡ [] → IfOk result (λ written.
+        written.0 ≡ written_at (normal_components m) (option_map normal_parts m.authority)) }
     ensures underflow { let p = components (core_text core.entry) in
-        IfOk result (λ underflowed. underflowed ≡ path_underflows p.scheme p.path) }
+        IfOk result (λ written. written.1 ≡ path_underflows p.scheme p.path) }
 {
     let scheme = core.scheme();
-    push_scheme(alloc, scheme, out)?;
-    push_marked_authority(alloc, core.authority(), scheme, ports, out)?;
+    let scheme_end = push_scheme(alloc, scheme, out)?;
+    let authority = push_marked_authority(alloc, core.authority(), scheme, ports, out)?;
+    let path_start = out.len();
     let path = core.path();
-    let underflowed = push_path(alloc, core.has_scheme(), core.has_authority(), path, out)?;
-    push_marked(alloc, "?", core.query(), out)?;
+    let underflows = push_path(alloc, core.has_scheme(), core.has_authority(), path, out)?;
+    let path_end = out.len();
+    let query_end = push_marked(alloc, "?", core.query(), out)?;
     push_marked(alloc, "#", core.fragment(), out)?;
-    Ok(underflowed)
+    let positions = Positions {
+        scheme_end,
+        authority,
+        path_start,
+        path_end,
+        query_end,
+    };
+    Ok((positions, underflows))
 }

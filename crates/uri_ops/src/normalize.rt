@@ -3,6 +3,7 @@
 ghost use Rattle.std.specs.Prelude.{◌≡◌, IfOk, IfErr, true, false, string_bytes};
 ghost use Rattle.std.specs.Str.{IsUtf8};
 ghost use Rattle.uri_parts.specs.CoreTexts.{core_text};
+ghost use Rattle.uri_parts.specs.Positions.{AreAt};
 ghost use Rattle.uri_parts.specs.SchemePorts.{default_port};
 ghost use Rattle.uri_ops.specs.ComponentSets.{HasComponentSets};
 ghost use Rattle.uri_ops.specs.Normalizers.{HasNormalText, IsNormalForm, allows_underflow};
@@ -11,11 +12,12 @@ ghost use Rattle.uri_ops.specs.declared.normalize.NormalizeError.TheVariants.{Pa
 
 use crate::default_port::{DefaultPort, SchemeDefaults};
 use crate::normal_text::push_normal;
-use crate::traits::{RiMaybeRef, owned};
+use crate::traits::RiMaybeRef;
 use std::alloc::{AllocError, Global};
 use thiserror::Error;
 use uri_parts::core_text::Core;
 use uri_parts::kind::Kind;
+use uri_parts::positions::Positions;
 
 /// Why a value was not normalised.
 ///
@@ -56,10 +58,12 @@ pub struct Normalizer<P> {
     pub(crate) ports: P,
 }
 
-/// A normal text, and whether the removal of its dot segments underflows.
+/// A normal text with the places of its components, and whether the removal of its dot segments
+/// underflows.
 #[derive(Drop)]
 pub(crate) struct Normalized {
     pub(crate) text: String,
+    pub(crate) positions: Positions,
     pub(crate) underflows: bool,
 }
 
@@ -75,13 +79,18 @@ pub(crate) fn normal_form<K: Kind, P: DefaultPort>(
     ensures text { IfOk result (λ made.
         HasNormalText K.kind (P.port_of ports.now) (core_text core.entry)
         (string_bytes made.text)) }
+    ensures at { IfOk result (λ made. AreAt (string_bytes made.text) made.positions) }
     ensures underflow { IfOk result (λ made.
         made.underflows ≡ text_underflows (core_text core.entry)) }
 {
     let mut text = String::new(alloc);
     text.reserve(core.as_str().len())?;
-    let underflows = push_normal(alloc, core, ports, &mut text)?;
-    Ok(Normalized { text, underflows })
+    let (positions, underflows) = push_normal(alloc, core, ports, &mut text)?;
+    Ok(Normalized {
+        text,
+        positions,
+        underflows,
+    })
 }
 
 impl Normalizer<SchemeDefaults> {
@@ -176,7 +185,7 @@ impl<P: DefaultPort> Normalizer<P> {
         if made.underflows && !self.allow_path_underflow {
             return Err(NormalizeError::PathUnderflow);
         }
-        Ok(owned::<R>(made.text))
+        Ok(R::make_owned(made.text, made.positions))
     }
 }
 

@@ -267,6 +267,6 @@ impl<R: Ri> Resolver<R> {
         let target = resolved_text(alloc, &self.base, reference, true)?;
         let core = Core::<R::Kind, &str>::of_text(target.as_str());
         let made = normal_form(alloc, core, &normalizer.ports)?;
-        Ok(owned::<R>(made.text))
+        Ok(R::make_owned(made.text, made.positions))
     }
 }

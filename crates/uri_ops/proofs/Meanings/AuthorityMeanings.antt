@@ -168,13 +168,16 @@ module _ (kind : Kind) (sets : HasComponentSets kind) (default : Option ℕ) (a 
   pub printed_meets : is_authority kind (authority_text normal) ≡ true
   printed_meets = is_authority_for-complete users names apart (authority_text normal) normal printed_utf8 normal_grammar
 
+  pub printed_parts : authority_parts (authority_text normal) ≡ normal
+  printed_parts = authority_parts-only users names apart (authority_text normal) normal printed_utf8 normal_grammar
+
   pub printed_bare : authority_meaning kind None (authority_text normal) ≡ authority_meaning kind default a
   printed_bare =
       let of_parts : AuthorityParts → AuthorityMeaning = λ p. record { userinfo = option_map (read users) p.userinfo; host = host_meaning names p.host (host_kind p.host); port = port_meaning None p.port } in
       let user_read = printed_read users (codes "/?#[]@") sets.userinfo parts.userinfo user in
       let host_read = host.meaning in
       let port_read = port_bare default parts.port in
-      ap of_parts (authority_parts-only users names apart (authority_text normal) normal printed_utf8 normal_grammar)
+      ap of_parts printed_parts
       ∙ (λ i. record { userinfo = user_read i; host = host_read i; port = port_read i })
 
   user_outside : excludes users (codes "/?#") ≡ true

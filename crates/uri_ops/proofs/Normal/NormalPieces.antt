@@ -14,7 +14,7 @@ use Rattle.uri_parts.specs.Grammar.{Kind}
 use Rattle.uri_ops.specs.ComponentSets.{IsComponentSet}
 use Rattle.uri_ops.specs.Dots.{IsAbsolute, remove_dot_segments}
 use Rattle.uri_ops.specs.Meaning.{authority_meaning, plain_path, meaning_of}
-use Rattle.uri_ops.specs.Normal.{normal_authority, normal_text}
+use Rattle.uri_ops.specs.Normal.{normal_authority, normal_path, normal_text}
 use Rattle.uri_ops.specs.NormalPaths.{path_text}
 use Rattle.uri_ops.specs.Ports.{PortFunction}
 use Rattle.uri_ops.specs.Target.{guarded}
@@ -67,6 +67,15 @@ appended old s a p q f o1 o2 o3 o4 new e1 e2 e3 e4 e5 =
     ∙ ap (λ t. t ++ (p ++ (q ++ f))) e2 ∙ append_assoc o1 a (p ++ (q ++ f))
     ∙ ap (λ t. t ++ (a ++ (p ++ (q ++ f)))) e1 ∙ append_assoc old s (a ++ (p ++ (q ++ f)))
 
+-- the path, by the scheme as it stands
+pub path_written : (kind : Kind) (ports : PortFunction) (text : List ℕ)
+    → (let p = components text in let m = meaning_of kind ports text in path_text kind.path p.scheme (option_map normal_authority m.authority) p.path ≡ normal_path m)
+path_written kind ports text =
+    let p = components text in
+    let m = meaning_of kind ports text in
+    let path = print (read kind.path (plain_path p.scheme p.path)) in
+    ap (λ (b : Bool). cond b (guarded (option_map normal_authority m.authority) path) path) (sym (some_map str_to_ascii_lowercase p.scheme))
+
 -- the five components are the normal text
 pub normal_written : (kind : Kind) (ports : PortFunction) (text : List ℕ) (old o1 o2 o3 o4 new : List ℕ)
     → (let p = components text in let scheme = option_map str_to_ascii_lowercase p.scheme in let authority = option_map normal_authority (option_map (authority_meaning kind (option_and_then ports scheme)) p.authority) in
@@ -77,13 +86,7 @@ pub normal_written : (kind : Kind) (ports : PortFunction) (text : List ℕ) (old
     → new ≡ o4 ++ marked (codes "#") (option_map print (option_map (read kind.fragment) p.fragment)) []
     → new ≡ old ++ normal_text (meaning_of kind ports text))
 normal_written kind ports text old o1 o2 o3 o4 new e1 e2 e3 e4 e5 =
-    let p = components text in
-    let scheme = option_map str_to_ascii_lowercase p.scheme in
-    let authority = option_map normal_authority (option_map (authority_meaning kind (option_and_then ports scheme)) p.authority) in
-    let path = print (read kind.path (plain_path p.scheme p.path)) in
-    appended old _ _ _ _ _ o1 o2 o3 o4 new e1 e2
-    (e3 ∙ ap (λ (b : Bool). o2 ++ cond b (guarded authority path) path) (sym (some_map str_to_ascii_lowercase p.scheme)))
-    e4 e5
+    appended old _ _ _ _ _ o1 o2 o3 o4 new e1 e2 (e3 ∙ ap (λ t. o2 ++ t) (path_written kind ports text)) e4 e5
 
 pub and_off : (b c : Bool) → c ≡ false → (b && c) ≡ false
 and_off false c e = refl

@@ -39,8 +39,8 @@ returns-in_err-made-clause-refusal g c =
     c.resolved_text.ensures.base c.resolved_text.ensures.reference OutOfMemory (ap is_ok c.in_ok-target.ensures.target.0)))
     c.from_residual-in_err-made.ensures.1
 
-pub owned-requires : goal.owned-requires
-owned-requires g c =
+pub make_owned-requires-clause-of_kind : goal.make_owned-requires-clause-of_kind
+make_owned-requires-clause-of_kind g c =
     (normal_is_of_kind g.R.RiMaybeRef.kind g.R.Kind.Kind.kind g.met.R.RiMaybeRef.kind_is_its_own g.met.R.RiMaybeRef.component_sets (g.P.DefaultPort.port_of (ports_of c.args.normalizer.now))
     (core_text c.of_text-core.result) (string_bytes c.in_ok-target.target) (string_bytes c.in_ok-made.made.text)
     (c.of_text-core.ensures ∙ c.as_str.ensures.value) c.normal_form.ensures.utf8 c.in_ok-target.ensures.of_kind.grammar c.in_ok-made.ensures.text).grammar
@@ -51,7 +51,7 @@ returns-clause-normal g c =
     let ports = g.P.DefaultPort.port_of (ports_of c.args.normalizer.now) in
     let base = g.R.RiMaybeRef.text (base_of c.args.self.now) in
     let reference = g.Q.RiMaybeRef.text c.args.reference.now in
-    subst (IsNormalTarget kind g.Q.RiMaybeRef.kind ports base reference) (sym c.owned.ensures)
+    subst (IsNormalTarget kind g.Q.RiMaybeRef.kind ports base reference) (sym c.make_owned.ensures)
     (normal_target kind g.Q.RiMaybeRef.kind g.met.R.RiMaybeRef.component_sets g.met.R.Ri.needs_scheme g.met.Q.RefOf.same_tables ports base reference
     c.resolved_text.ensures.base c.resolved_text.ensures.reference (string_bytes c.in_ok-target.target) (string_bytes c.in_ok-made.made.text) c.in_ok-target.ensures.target.0
     (normal_form kind g.R.Kind.Kind.kind g.met.R.RiMaybeRef.kind_is_its_own g.met.R.RiMaybeRef.component_sets ports

@@ -1,0 +1,89 @@
+-- A text that is put together of components has the positions that their lengths give.
+use Rattle.std.proofs.Common.{◌≡◌, ℕ, ◌+◌, List, [], ◌∷◌, ◌++◌, length, refl, sym, ap, ◌∙◌, arith, length-append, option_map}
+use Rattle.std.specs.Prelude.{codes, Option, Some, None}
+use Rattle.uri_parts.specs.declared.positions.AuthorityPositions.{AuthorityPositions}
+use Rattle.uri_parts.specs.declared.positions.Positions.{Positions}
+use Rattle.uri_parts.specs.Authority.{AuthorityParts, authority_parts, authority_text}
+use Rattle.uri_parts.specs.Components.{Components, marked}
+use Rattle.uri_parts.specs.Positions.{authority_at, marked_length, positions_of}
+use Rattle.std.specs.Option.{option_and_then}
+use Rattle.std.specs.Str.{str_to_ascii_lowercase}
+use Rattle.uri_pct.specs.Reading.{read}
+use Rattle.uri_pct.specs.Tokens.{print}
+use Rattle.uri_parts.specs.Components.{components}
+use Rattle.uri_parts.specs.Grammar.{Kind}
+use Rattle.uri_ops.specs.Meaning.{authority_meaning, meaning_of}
+use Rattle.uri_ops.specs.Normal.{normal_authority, normal_components, normal_parts}
+use Rattle.uri_ops.specs.NormalPaths.{path_text}
+use Rattle.uri_ops.specs.Ports.{PortFunction}
+use Rattle.uri_ops.proofs.Normal.NormalPieces.{path_written}
+use Rattle.uri_ops.specs.Written.{parts_at, written_at}
+
+length-behind : (part : Option (List ℕ)) (mark : ℕ) → length (marked [] part (mark ∷ [])) ≡ marked_length 1 part
+length-behind None mark = refl
+length-behind (Some s) mark = omega (arith, length-append s (mark ∷ []))
+
+length-before : (mark : List ℕ) (part : Option (List ℕ)) → length (marked mark part []) ≡ marked_length (length mark) part
+length-before mark None = refl
+length-before mark (Some s) = omega (arith, length-append (mark ++ s) [], length-append mark s)
+
+-- an authority by its parts
+pub parts_placed : (p : AuthorityParts) (o0 o1 o2 o3 : List ℕ) → o1 ≡ o0 ++ marked [] p.userinfo (codes "@") → o2 ≡ o1 ++ p.host → o3 ≡ o2 ++ marked (codes ":") p.port []
+    → (let x : AuthorityPositions = record { start = length o0; host_start = length o1; host_end = length o2; end = length o3 } in x) ≡ parts_at (length o0) p
+parts_placed p o0 o1 o2 o3 e1 e2 e3 =
+    let user = marked [] p.userinfo (codes "@") in
+    let port = marked (codes ":") p.port [] in
+    let n1 : length o1 ≡ length o0 + marked_length 1 p.userinfo = omega (arith, ap length e1, length-append o0 user, length-behind p.userinfo 64) in
+    let n2 : length o2 ≡ length o0 + (marked_length 1 p.userinfo + length p.host) = omega (arith, n1, ap length e2, length-append o1 p.host) in
+    let n3 : length o3 ≡ length o0 + length (authority_text p) =
+    omega (arith, n2, ap length e3, length-append o2 port, length-append user (p.host ++ port), length-append p.host port, length-behind p.userinfo 64) in
+    λ i. record { start = length o0; host_start = n1 i; host_end = n2 i; end = n3 i }
+
+-- by its text, where that is cut into these parts
+pub parts_cut : (place : ℕ) (p : AuthorityParts) → authority_parts (authority_text p) ≡ p → parts_at place p ≡ authority_at place (authority_text p)
+parts_cut place p cut = ap (λ (q : AuthorityParts). let host = marked_length 1 q.userinfo in let x : AuthorityPositions = record { start = place; host_start = place + host; host_end = place + (host + length q.host); end = place + length (authority_text p) } in x) (sym cut)
+
+from_zero : (part : Option (List ℕ)) → option_map (λ s. 0 + length s) part ≡ option_map length part
+from_zero None = refl
+from_zero (Some s) = ap Some (omega arith)
+
+-- components that are written one after the other
+pub written_placed : (p : Components) (parts : Option AuthorityParts) (o0 o1 o2 o3 : List ℕ) (start stop : ℕ) (end query : Option ℕ) (authority : Option AuthorityPositions) → o0 ≡ []
+    → o1 ≡ o0 ++ marked [] p.scheme (codes ":") → o2 ≡ o1 ++ marked (codes "//") p.authority [] → o3 ≡ o2 ++ p.path → start ≡ length o2 → stop ≡ length o3
+    → end ≡ option_map (λ s. length o0 + length s) p.scheme → authority ≡ option_map (parts_at (length o1 + 2)) parts → query ≡ option_map (λ s. length o3 + 1 + length s) p.query
+    → (let x : Positions = record { scheme_end = end; authority = authority; path_start = start; path_end = stop; query_end = query } in x) ≡ written_at p parts
+written_placed p parts o0 o1 o2 o3 start stop end query authority e0 e1 e2 e3 starts stops ends lies queries =
+    let n0 : length o0 ≡ 0 = ap length e0 in
+    let n1 : length o1 ≡ marked_length 1 p.scheme = omega (arith, n0, ap length e1, length-append o0 (marked [] p.scheme (codes ":")), length-behind p.scheme 58) in
+    let n2 : start ≡ marked_length 1 p.scheme + marked_length 2 p.authority =
+    omega (arith, starts, n1, ap length e2, length-append o1 (marked (codes "//") p.authority []), length-before (codes "//") p.authority) in
+    let m3 : length o3 ≡ marked_length 1 p.scheme + marked_length 2 p.authority + length p.path = omega (arith, starts, n2, ap length e3, length-append o2 p.path) in
+    let n3 = stops ∙ m3 in
+    let f = ends ∙ ap (λ n. option_map (λ s. n + length s) p.scheme) n0 ∙ from_zero p.scheme in
+    let g = lies ∙ ap (λ n. option_map (parts_at (n + 2)) parts) n1 in
+    let h = queries ∙ ap (λ n. option_map (λ s. n + 1 + length s) p.query) m3 in
+    λ i. record { scheme_end = f i; authority = g i; path_start = n2 i; path_end = n3 i; query_end = h i }
+
+of_parts : {A B C D : Type 0} (f : C → D) (h : B → C) (k : A → B) (o : Option A) → option_map (λ a. f (h (k a))) o ≡ option_map f (option_map h (option_map k o))
+of_parts f h k None = refl
+of_parts f h k (Some a) = refl
+
+-- the components of a normal text
+pub normal_placed : (kind : Kind) (ports : PortFunction) (text : List ℕ) (old o1 o2 o3 : List ℕ) (start stop : ℕ) (end query : Option ℕ) (places : Option AuthorityPositions) → old ≡ []
+    → (let p = components text in let scheme = option_map str_to_ascii_lowercase p.scheme in let default = option_and_then ports scheme in
+    let authority = option_map normal_authority (option_map (authority_meaning kind default) p.authority) in
+    o1 ≡ old ++ marked [] scheme (codes ":")
+    → o2 ≡ o1 ++ marked (codes "//") authority []
+    → o3 ≡ o2 ++ path_text kind.path p.scheme authority p.path
+    → start ≡ length o2 → stop ≡ length o3
+    → end ≡ option_map (λ s. length old + length s) scheme
+    → places ≡ option_map (λ a. parts_at (length o1 + 2) (normal_parts (authority_meaning kind default a))) p.authority
+    → query ≡ option_map (λ s. length o3 + 1 + length s) (option_map print (option_map (read kind.query) p.query))
+    → (let x : Positions = record { scheme_end = end; authority = places; path_start = start; path_end = stop; query_end = query } in x)
+    ≡ written_at (normal_components (meaning_of kind ports text)) (option_map normal_parts (meaning_of kind ports text).authority))
+normal_placed kind ports text old o1 o2 o3 start stop end query places empty e1 e2 e3 starts stops ends lies queries =
+    let m = meaning_of kind ports text in
+    let default = option_and_then ports (option_map str_to_ascii_lowercase (components text).scheme) in
+    written_placed (normal_components m) (option_map normal_parts m.authority) old o1 o2 o3 start stop end query places empty e1 e2
+    (e3 ∙ ap (λ t. o2 ++ t) (path_written kind ports text)) starts stops ends
+    (lies ∙ of_parts (parts_at (length o1 + 2)) normal_parts (authority_meaning kind default) (components text).authority) queries
