@@ -48,6 +48,14 @@ ends 'too many words' 2 '' "$usage${newline}"
 run parse uri-ref "$(printf 'a\377')"
 ends 'an argument that is not UTF-8' 1 '' "error: arguments${newline}"
 
+# A name of the program that is not UTF-8 refuses nothing.
+named=$work/$(printf 'a\377')
+ln -s "$(readlink -f "$program")" "$named"
+: > "$work/err"
+"$named" parse uri-ref a > "$work/out" 2> "$work/err"
+status=$?
+ends 'a name that is not UTF-8' 0 "path=a${newline}" ''
+
 : > "$work/out"
 "$program" parse uri-ref a >&- 2> "$work/err"
 status=$?

@@ -2,24 +2,61 @@
 //! `uritool resolve uri|iri BASE REF` and `uritool links BASE REF...`.
 #![tactic(auto)]
 
-use std::env;
-use std::io::Write;
+use std::alloc::Global;
+use std::env::{self, Env, FillError};
+use std::io::{self, ErrorKind, LineWriter, Write};
 use std::process::ExitCode;
 use uri_commands::run::run;
+
+/// The arguments behind the program's name, which need not be UTF-8.
+#[derive(Drop)]
+struct Arguments<'a>(&'a HostRuntime);
+
+impl Env for Arguments<'_> {
+    fn arg(&self, i: usize, buf: &mut [u8]) -> Result<usize, FillError> {
+        let place = i.checked_add(1).ok_or(FillError::NotPresent)?;
+        self.0.arg(place, buf)
+    }
+
+    fn var(&self, name: &str, buf: &mut [u8]) -> Result<usize, FillError> {
+        self.0.var(name, buf)
+    }
+
+    fn var_at(&self, i: usize, buf: &mut [u8]) -> Result<usize, FillError> {
+        self.0.var_at(i, buf)
+    }
+}
+
+/// Tells why there is no answer.
+fn refused<E: Write>(err: &mut E, line: &str) -> ExitCode {
+    let _ = err.write_all(line.as_bytes());
+    ExitCode::from(1)
+}
 
 fn main(rt: HostRuntime) -> ExitCode {
     let alloc = rt.alloc();
     let mut err = rt.stderr();
-    let Ok(args) = env::args(&rt) else {
-        let _ = err.write_all(b"error: arguments\n");
-        return ExitCode::from(1);
-    };
-    let mut words = Vec::new(alloc);
-    for word in args.skip(1) {
-        if words.push(word).is_err() {
-            let _ = err.write_all(b"error: out of memory\n");
-            return ExitCode::from(1);
+    let words = match words(&rt, alloc) {
+        Ok(words) => words,
+        Err(error) if error.kind() == ErrorKind::OutOfMemory => {
+            return refused(&mut err, "error: out of memory\n");
         }
+        Err(_) => return refused(&mut err, "error: arguments\n"),
+    };
+    let Ok(mut out) = LineWriter::new(alloc, rt.stdout()) else {
+        return refused(&mut err, "error: out of memory\n");
+    };
+    let status = run(alloc, words.as_slice(), &mut out, &mut err);
+    if status == 0 && out.flush().is_err() {
+        return refused(&mut err, "error: output failed\n");
     }
-    ExitCode::from(run(alloc, words.as_slice(), &mut rt.stdout(), &mut err))
+    ExitCode::from(status)
+}
+
+fn words(rt: &HostRuntime, alloc: Global) -> io::Result<Vec<String>> {
+    let mut words = Vec::new(alloc);
+    for word in env::args(&(Arguments(rt), alloc))? {
+        words.push(word)?;
+    }
+    Ok(words)
 }
