@@ -1,6 +1,6 @@
 //! The program, over any two writers.
 ghost use Rattle.std.specs.Prelude.{◌≡◌, ◌↔◌, ◌≤◌, ◌++◌, IsOk, IfOk, IfErr, OnOk, None, Some, List};
-ghost use Rattle.std.specs.Prelude.{codes, ℕ};
+ghost use Rattle.std.specs.Prelude.{◌≢◌, codes, ℕ};
 ghost use Rattle.std.specs.Io.KnownBytes.{Appends, Keeps};
 ghost use Rattle.uri_commands.specs.Commands.{Command as Asked, Parse, Normalize, Resolve, Links};
 ghost use Rattle.uri_commands.specs.Commands.{IsCommand, Prints, kind_of, words_of, output_of};
@@ -164,6 +164,9 @@ fn links<O: Write>(
         (IsRefusalOf (Links base.now reference.now (texts others.now))) }
     ensures keeps { output_of (Links base.now reference.now (texts others.now)) ≡ None
         → Keeps (O.contents out.old) (O.contents out.new) }
+    // Lines are written once all is noted, so that want of memory leaves no line.
+    ensures kept { IfErr result (λ why.
+        why ≢ OutputFailed → Keeps (O.contents out.old) (O.contents out.new)) }
 {
     let noted = noted(alloc, base, reference, others)?;
     Ok(noted.write_lines(out)?)
