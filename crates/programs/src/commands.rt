@@ -304,6 +304,46 @@ fn says_that_the_output_failed(rt: HostRuntime) {
     equal(status.expect(&rt, "memory"), 0).expect(&rt, "status");
 }
 
+/// Whether the words have their answer where the output takes so many writes; else the output is
+/// said to have failed.
+fn is_answered<R: Abort>(rt: &R, alloc: Global, words: &[&str], writes: usize) -> bool {
+    let mut err = Vec::new(alloc);
+    let status = run_words(alloc, words, &mut Takes(writes), &mut err).expect(rt, "memory");
+    let line = if status == 0 {
+        ""
+    } else {
+        "error: output failed\n"
+    };
+    equal(err.as_slice(), line.as_bytes()).expect(rt, line);
+    equal((words, status <= 1), (words, true)).expect(rt, "status");
+    status == 0
+}
+
+/// Each write of each command fails in turn, up to a run in which none does.
+#[test]
+fn each_write_fails(rt: HostRuntime) {
+    let alloc = rt.alloc();
+    for &(words, _) in ANSWERED {
+        let mut is_done = false;
+        for writes in 0..100 {
+            is_done = is_done || is_answered(&rt, alloc, words, writes);
+        }
+        equal((words, is_done), (words, true)).expect(&rt, "an answer at last");
+    }
+    for &(words, _) in REFUSED {
+        for writes in 0..2 {
+            let status = run_words(alloc, words, &mut Vec::new(alloc), &mut Takes(writes));
+            equal(status.expect(&rt, "memory"), 1).expect(&rt, "status");
+        }
+    }
+    for &words in OTHERS {
+        for writes in 0..2 {
+            let status = run_words(alloc, words, &mut Vec::new(alloc), &mut Takes(writes));
+            equal(status.expect(&rt, "memory"), 2).expect(&rt, "status");
+        }
+    }
+}
+
 /// Words, and the status that they end with where the error output fails.
 const WITHOUT_ERRORS: &[(&[&str], u8)] = &[
     (&["parse", "uri-ref", "a"], 0),
