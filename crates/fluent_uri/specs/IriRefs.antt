@@ -1,3 +1,4 @@
+-- What an `IriRef` holds.
 use Rattle.std.specs.Prelude.{ℕ, List}
 use Rattle.uri_parts.specs.CoreTexts.{core_text}
 use Rattle.fluent_uri.specs.declared.iri_ref.IriRef.{IriRef}

@@ -7,8 +7,8 @@ pub use Rattle.uri_pct.specs.Decodes
 pub use Rattle.uri_pct.specs.Encoding
 pub use Rattle.uri_pct.specs.EStrings
 pub use Rattle.uri_pct.specs.EStrs
-pub use Rattle.uri_pct.specs.Fronts
 pub use Rattle.uri_pct.specs.Masks
+pub use Rattle.uri_pct.specs.PercentSigns
 pub use Rattle.uri_pct.specs.Pieces
 pub use Rattle.uri_pct.specs.Reading
 pub use Rattle.uri_pct.specs.Sets
@@ -28,7 +28,6 @@ pub use Rattle.uri_parts.specs.GrammarInWords
 pub use Rattle.uri_parts.specs.Hosts
 pub use Rattle.uri_parts.specs.HostTexts
 pub use Rattle.uri_parts.specs.PortNumbers
-pub use Rattle.uri_parts.specs.Positions
 pub use Rattle.uri_parts.specs.SchemePorts
 pub use Rattle.uri_parts.specs.Schemes
 pub use Rattle.uri_ops.specs.Conversions
@@ -37,11 +36,9 @@ pub use Rattle.uri_ops.specs.EncodedTargets
 pub use Rattle.uri_ascii.specs.Parses
 pub use Rattle.uri_ascii.specs.UriRefs
 pub use Rattle.uri_ascii.specs.Uris
-pub use Rattle.uri_ops.specs.ComponentSets
 pub use Rattle.uri_ops.specs.Dots
 pub use Rattle.uri_ops.specs.Meaning
 pub use Rattle.uri_ops.specs.Normal
-pub use Rattle.uri_ops.specs.NormalPaths
 pub use Rattle.uri_ops.specs.Normalizers
 pub use Rattle.uri_ops.specs.Ports
 pub use Rattle.uri_ops.specs.NormalTargets

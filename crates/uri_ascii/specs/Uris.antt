@@ -1,3 +1,4 @@
+-- What a `Uri` holds.
 use Rattle.std.specs.Prelude.{ℕ, List}
 use Rattle.uri_parts.specs.CoreTexts.{core_text}
 use Rattle.uri_ascii.specs.declared.uri.Uri.{Uri}

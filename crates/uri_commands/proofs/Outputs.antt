@@ -4,7 +4,9 @@ use Rattle.std.specs.Prelude.{IfErr, if◌then◌else◌}
 use Rattle.std.specs.Result.{IsErrAnd}
 use Rattle.fluent_uri.specs.Components.{components}
 use Rattle.fluent_uri.specs.Grammar.{IsOfKind, uri, uri_ref}
-use Rattle.uri_commands.specs.Commands.{Parse, Normalize, Resolve, Links, are_of_kind, kind_of, kind_of_base, kind_of_references, normal_form_of, target_text}
+use Rattle.uri_commands.specs.Commands.{Parse, Normalize, Resolve, Links, are_of_kind, kind_named}
+use Rattle.uri_commands.specs.Commands.{kind_of_base, kind_of_references, normal_form_of}
+use Rattle.uri_commands.specs.Commands.{target_text}
 use Rattle.uri_commands.specs.Lines.{component_lines}
 use Rattle.uri_commands.specs.Links.{link_lines}
 use Rattle.uri_commands.specs.Refusals.{IsRefusalOf}
@@ -14,16 +16,16 @@ use Rattle.uri_commands.specs.declared.refusal.Refusal.{Refusal}
 use Rattle.uri_commands.specs.declared.refusal.Refusal.TheVariants.{OutputFailed}
 use Rattle.uri_commands.proofs.Refusals.{refused_with, refused_as}
 
-pub parse_failed : {A : Type 0} (name : KindName) (text : List ℕ) (result : Result A Refusal) → IsOfKind (kind_of name) text
+pub parse_failed : {A : Type 0} (name : KindName) (text : List ℕ) (result : Result A Refusal) → IsOfKind (kind_named name) text
     → IsErrAnd result (λ why. why ≡ OutputFailed) → IfErr result (IsRefusalOf (Parse name text))
 parse_failed name text result is given =
     refused_with (IsRefusalOf (Parse name text)) result OutputFailed given
     (component_lines (components text), ap (λ b. if b then Some (component_lines (components text)) else None) is)
 
-pub normalize_failed : {A : Type 0} (name : KindName) (text : List ℕ) (result : Result A Refusal) → IsOfKind (kind_of name) text
+pub normalize_failed : {A : Type 0} (name : KindName) (text : List ℕ) (result : Result A Refusal) → IsOfKind (kind_named name) text
     → IfErr result (λ why. why ≡ OutputFailed) → IfErr result (IsRefusalOf (Normalize name text))
 normalize_failed name text result is given =
-    let lines = normal_form_of (kind_of name) text ++ codes "\n" in
+    let lines = normal_form_of (kind_named name) text ++ codes "\n" in
     refused_as (IsRefusalOf (Normalize name text)) result OutputFailed given
     (lines, ap (λ b. if b then Some lines else None) is)
 

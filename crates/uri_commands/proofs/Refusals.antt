@@ -5,7 +5,7 @@ use Rattle.std.specs.Result.{IsErrAnd}
 use Rattle.fluent_uri.specs.Errors.{IsErrorIn}
 use Rattle.fluent_uri.specs.Grammar.{Kind, IsOfKind}
 use Rattle.fluent_uri.specs.declared.ParseError.{ParseError}
-use Rattle.uri_commands.specs.Commands.{kind_of}
+use Rattle.uri_commands.specs.Commands.{kind_named}
 use Rattle.uri_commands.specs.Refusals.{IsErrorOf}
 use Rattle.uri_commands.specs.declared.command.KindName.{KindName}
 
@@ -19,11 +19,11 @@ refused_as P (Err x) e is p = subst P (sym is) p
 
 -- the refusal of a text, as it is told
 pub text_refused : {A B : Type 0} (P : B → Type 0) (told : ParseError → B) (name named : KindName) (text : List ℕ) (result : Result A B) (e : ParseError)
-    → ((x : ParseError) → IsErrorOf (kind_of name) text x → P (told x))
-    → name ≡ named → (IsOfKind (kind_of named) text → false ≡ true) → IsErrorIn text e → IsErrAnd result (λ x. x ≡ told e) → IfErr result P
+    → ((x : ParseError) → IsErrorOf (kind_named name) text x → P (told x))
+    → name ≡ named → (IsOfKind (kind_named named) text → false ≡ true) → IsErrorIn text e → IsErrAnd result (λ x. x ≡ told e) → IfErr result P
 text_refused P told name named text result e is same none err given =
     refused_with P result (told e) given
-    (is e (subst (λ k. IsErrorOf (kind_of k) text e) (sym same) (λ of_kind. cc (none of_kind), err)))
+    (is e (subst (λ k. IsErrorOf (kind_named k) text e) (sym same) (λ of_kind. cc (none of_kind), err)))
 
 -- the refusal of a text, as `map_err` tells it
 pub mapped_refused : {A B C : Type 0} (P : B → Type 0) (told : ParseError → B) (kind : Kind) (text : List ℕ) (parsed : Result A ParseError) (mapped : Result A B) (result : Result C B) (why : B)

@@ -1,3 +1,4 @@
+-- What is asked for by a command.
 use Rattle.uri_commands.specs.Commands.{Command, Parse, Normalize, Resolve, Links, texts}
 use Rattle.uri_commands.specs.declared.command.Command.{Command as Words}
 use Rattle.uri_commands.specs.declared.command.Command.TheVariants as words

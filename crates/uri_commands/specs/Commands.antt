@@ -17,11 +17,11 @@ use Rattle.uri_commands.specs.declared.command.BaseName.TheVariants as bases
 use Rattle.uri_commands.specs.declared.command.KindName.{KindName}
 use Rattle.uri_commands.specs.declared.command.KindName.TheVariants.{Uri, UriRef, Iri, IriRef}
 
-abbrev pub kind_of : KindName → Kind
-kind_of Uri = uri
-kind_of UriRef = uri_ref
-kind_of Iri = iri
-kind_of IriRef = iri_ref
+abbrev pub kind_named : KindName → Kind
+kind_named Uri = uri
+kind_named UriRef = uri_ref
+kind_named Iri = iri
+kind_named IriRef = iri_ref
 
 abbrev pub word_of_kind : KindName → List ℕ
 word_of_kind Uri = codes "uri"
@@ -72,9 +72,9 @@ are_of_kind kind texts = list_all (is_of_kind kind) texts
 -- what is printed for it, or that it is refused
 abbrev pub output_of : Command → Option (List ℕ)
 output_of (Parse name text) =
-    if is_of_kind (kind_of name) text then Some (component_lines (components text)) else None
+    if is_of_kind (kind_named name) text then Some (component_lines (components text)) else None
 output_of (Normalize name text) =
-    if is_of_kind (kind_of name) text then Some (normal_form_of (kind_of name) text ++ codes "\n")
+    if is_of_kind (kind_named name) text then Some (normal_form_of (kind_named name) text ++ codes "\n")
     else None
 output_of (Resolve name base reference) =
     if is_of_kind (kind_of_base name) base && is_of_kind (kind_of_references name) reference

@@ -1,6 +1,6 @@
 -- What is said of a text that the parser refuses, and of a reference that has no target.
 use Rattle.std.specs.Prelude.{ℕ, List, ◌++◌, codes, decimal}
-use Rattle.fluent_uri.specs.Errors.{index_of, kind_of as fault_of}
+use Rattle.fluent_uri.specs.Errors.{index_of, fault_of}
 use Rattle.fluent_uri.specs.declared.ParseError.{ParseError}
 use Rattle.fluent_uri.specs.declared.ParseErrorKind.{ParseErrorKind}
 use Rattle.fluent_uri.specs.declared.ParseErrorKind.TheVariants.{InvalidPctEncodedOctet}

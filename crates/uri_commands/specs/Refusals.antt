@@ -5,7 +5,7 @@ use Rattle.fluent_uri.specs.Errors.{IsErrorIn}
 use Rattle.fluent_uri.specs.Grammar.{Kind, IsOfKind, uri, uri_ref}
 use Rattle.fluent_uri.specs.Resolving.{IsRefusalFor}
 use Rattle.uri_commands.specs.Commands.{Command, Parse, Normalize, Resolve, Links, are_of_kind}
-use Rattle.uri_commands.specs.Commands.{kind_of, kind_of_base, kind_of_references, output_of}
+use Rattle.uri_commands.specs.Commands.{kind_named, kind_of_base, kind_of_references, output_of}
 use Rattle.uri_commands.specs.Messages.{error_text, resolve_error_text}
 use Rattle.uri_commands.specs.declared.refusal.Refusal.{Refusal}
 use Rattle.uri_commands.specs.declared.refusal.Refusal.TheVariants.{Text, Base, Reference, Target}
@@ -40,9 +40,9 @@ IsErrorOfFirst kind texts e = (n : ℕ) × (text : List ℕ)
 -- Why a command has no answer. A base is read before its references, all of them before any is
 -- resolved or noted.
 abbrev pub IsRefusalOf : Command → Refusal → Type 0
-IsRefusalOf (Parse name text) (Text e) = IsErrorOf (kind_of name) text e
-IsRefusalOf (Normalize name text) (Text e) = IsErrorOf (kind_of name) text e
-IsRefusalOf (Normalize name text) OutOfMemory = IsOfKind (kind_of name) text
+IsRefusalOf (Parse name text) (Text e) = IsErrorOf (kind_named name) text e
+IsRefusalOf (Normalize name text) (Text e) = IsErrorOf (kind_named name) text e
+IsRefusalOf (Normalize name text) OutOfMemory = IsOfKind (kind_named name) text
 IsRefusalOf (Resolve name base reference) (Base e) = IsErrorOf (kind_of_base name) base e
 IsRefusalOf (Resolve name base reference) (Reference e) =
     IsOfKind (kind_of_base name) base × IsErrorOf (kind_of_references name) reference e

@@ -1,7 +1,7 @@
 //! The normal form of a text of a kind (RFC 3986, section 6.2.2).
 ghost use Rattle.std.specs.Prelude.{◌≡◌, IfOk, IfErr, string_bytes};
 ghost use Rattle.fluent_uri.specs.Grammar.{IsOfKind};
-ghost use Rattle.uri_commands.specs.Commands.{Normalize, kind_of, normal_form_of};
+ghost use Rattle.uri_commands.specs.Commands.{Normalize, kind_named, normal_form_of};
 ghost use Rattle.uri_commands.specs.Refusals.{IsRefusalOf};
 
 use crate::command::KindName;
@@ -16,10 +16,10 @@ use std::alloc::Global;
 /// `Text` if it is not of the kind, `OutOfMemory` if memory is refused.
 #[tactic(auto, using(crate::proofs::NormalForms::normal_form_is))]
 pub fn normal_form(alloc: Global, kind: KindName, text: &str) -> Result<String, Refusal>
-    ensures of_kind { IfOk result (λ _. IsOfKind (kind_of kind) text.now) }
+    ensures of_kind { IfOk result (λ _. IsOfKind (kind_named kind) text.now) }
     ensures refused { IfErr result (IsRefusalOf (Normalize kind text.now)) }
     ensures normal { IfOk result (λ normal. string_bytes normal
-        ≡ normal_form_of (kind_of kind) text.now) }
+        ≡ normal_form_of (kind_named kind) text.now) }
 {
     Ok(match kind {
         KindName::Uri => Uri::<&str>::parse(text)?.normalize(alloc)?.into_string(),

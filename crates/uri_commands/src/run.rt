@@ -3,7 +3,7 @@ ghost use Rattle.std.specs.Prelude.{◌≡◌, ◌↔◌, ◌≤◌, ◌++◌, I
 ghost use Rattle.std.specs.Prelude.{◌≢◌, codes, ℕ};
 ghost use Rattle.std.specs.Io.KnownBytes.{Appends, Keeps};
 ghost use Rattle.uri_commands.specs.Commands.{Command as Asked, Parse, Normalize, Resolve, Links};
-ghost use Rattle.uri_commands.specs.Commands.{IsCommand, Prints, kind_of, words_of, output_of};
+ghost use Rattle.uri_commands.specs.Commands.{IsCommand, Prints, kind_named, words_of, output_of};
 ghost use Rattle.uri_commands.specs.Commands.{texts};
 ghost use Rattle.uri_commands.specs.Asked.{asked};
 ghost use Rattle.uri_commands.specs.Ends.{IsAnswered, IsRefused, Takes};
@@ -181,9 +181,9 @@ fn print_line<O: Write>(out: &mut O, text: &str) -> Result<(), Refusal>
 }
 
 fn read(kind: KindName, text: &str) -> Result<Texts<'_>, ParseError>
-    ensures accepts { IsOk result ↔ IsOfKind (kind_of kind) text.now }
+    ensures accepts { IsOk result ↔ IsOfKind (kind_named kind) text.now }
     ensures texts { IfOk result (λ texts. components_in texts ≡ components text.now) }
-    ensures error { IfErr result (IsErrorOf (kind_of kind) text.now) }
+    ensures error { IfErr result (IsErrorOf (kind_named kind) text.now) }
 {
     match kind {
         KindName::Uri => Ok(Texts::from(Uri::<&str>::parse(text)?)),

@@ -8,7 +8,7 @@ use Rattle.uri_pct.specs.Tokens.{print}
 use Rattle.uri_parts.specs.Components.{Components, marked, recompose}
 use Rattle.uri_parts.specs.Grammar.{Kind}
 use Rattle.uri_parts.specs.Hosts.{bracketed}
-use Rattle.uri_parts.specs.Authority.{AuthorityParts, authority_text}
+use Rattle.uri_parts.specs.Authority.{AuthorityParts, recompose_authority}
 use Rattle.uri_ops.specs.Target.{guarded}
 use Rattle.uri_ops.specs.Meaning.{HostMeaning, Address, FutureAddress, Name}
 use Rattle.uri_ops.specs.Meaning.{AuthorityMeaning, Meaning, authority_meaning}
@@ -27,7 +27,7 @@ normal_parts a = record {
 }
 
 abbrev pub normal_authority : AuthorityMeaning → List ℕ
-normal_authority a = authority_text (normal_parts a)
+normal_authority a = recompose_authority (normal_parts a)
 
 -- section 6.2.2.1: a scheme is in lower case
 abbrev pub normal_scheme : Option (List ℕ) → Option (List ℕ)

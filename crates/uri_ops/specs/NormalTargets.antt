@@ -13,7 +13,7 @@ use Rattle.uri_ops.specs.declared.resolve.ResolveError.{ResolveError}
 use Rattle.uri_ops.specs.declared.resolve.ResolveError.TheVariants as Of
 
 -- another text of the kind with the same meaning, such as the normal text
-pub record MeansTheSame (kind : Kind) (ports : PortFunction) (text other : List ℕ) : Type 0 where
+pub record HasMeaningOf (kind : Kind) (ports : PortFunction) (text other : List ℕ) : Type 0 where
   pub of_kind : IsTextOf kind other
   pub meaning : meaning_of kind ports other ≡ meaning_of kind ports text
 
@@ -37,15 +37,15 @@ IsRefusedFor base r Of.OutOfMemory = is_ok (resolution_of base r) ≡ true
 -- a target that means the same
 pub record IsTargetOfMeanings (kind of_reference : Kind)
     (base reference target : List ℕ) : Type 0 where
-  pub alike : (ports : PortFunction) (b r : List ℕ) → MeansTheSame kind ports base b
-      → MeansTheSame of_reference ports reference r → HasTargetMeaning kind ports b r target
+  pub alike : (ports : PortFunction) (b r : List ℕ) → HasMeaningOf kind ports base b
+      → HasMeaningOf of_reference ports reference r → HasTargetMeaning kind ports b r target
 
 -- the error for a base of the first kind and a reference of the second: any that mean the same are
 -- refused alike
 pub record IsErrorOfMeanings (kind of_reference : Kind) (base reference : List ℕ)
     (error : ResolveError) : Type 0 where
-  pub alike : (ports : PortFunction) (b r : List ℕ) → MeansTheSame kind ports base b
-      → MeansTheSame of_reference ports reference r
+  pub alike : (ports : PortFunction) (b r : List ℕ) → HasMeaningOf kind ports base b
+      → HasMeaningOf of_reference ports reference r
       → IsRefusedFor (components b) (components r) error
 
 -- there is a target, and this is its normal form
@@ -60,8 +60,8 @@ pub record IsNormalTarget (kind of_reference : Kind) (ports : PortFunction)
   -- it is the normal form of the target
   pub target : IsNormalFormOfTarget kind ports base reference normal
   -- it is that of the target of any base and reference that mean the same, too
-  pub swap : (b r : List ℕ) → MeansTheSame kind ports base b
-      → MeansTheSame of_reference ports reference r → IsNormalFormOfTarget kind ports b r normal
+  pub swap : (b r : List ℕ) → HasMeaningOf kind ports base b
+      → HasMeaningOf of_reference ports reference r → IsNormalFormOfTarget kind ports b r normal
 
 -- the error for a base of the first kind and a reference of the second
 pub record IsRefusedAlike (kind of_reference : Kind) (ports : PortFunction)
@@ -69,6 +69,6 @@ pub record IsRefusedAlike (kind of_reference : Kind) (ports : PortFunction)
   -- it says why there is no target, or that none could be held
   pub refusal : IsRefusalFor (components base) (components reference) error
   -- it says so of any base and reference that mean the same, too
-  pub swap : (b r : List ℕ) → MeansTheSame kind ports base b
-      → MeansTheSame of_reference ports reference r
+  pub swap : (b r : List ℕ) → HasMeaningOf kind ports base b
+      → HasMeaningOf of_reference ports reference r
       → IsRefusalFor (components b) (components r) error

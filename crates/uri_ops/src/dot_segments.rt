@@ -3,7 +3,7 @@ ghost use Rattle.std.specs.Prelude.{◌≡◌, ◌≤◌, ◌==◌, ◌||◌, �
 ghost use Rattle.std.specs.Prelude.{length, drop, take, string_bytes};
 ghost use Rattle.std.specs.String.Boundary.{IsSplitPoint};
 ghost use Rattle.uri_parts.specs.Appending.{Pushes};
-ghost use Rattle.uri_ops.specs.Places.{IsSlashOrAt};
+ghost use Rattle.uri_ops.specs.Models.Places.{IsSlashOrAt};
 ghost use Rattle.uri_ops.specs.Dots.{IsAbsolute, before_last_slash, has_slash, is_double_dot};
 ghost use Rattle.uri_ops.specs.Dots.{is_empty, is_single_dot, lacks_dot_segments};
 ghost use Rattle.uri_ops.specs.Dots.{remove_dot_segments, underflows};

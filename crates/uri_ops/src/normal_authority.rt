@@ -13,7 +13,7 @@ ghost use Rattle.uri_parts.specs.Schemes.{scheme_text};
 ghost use Rattle.uri_ops.specs.Meaning.{authority_meaning, host_meaning, port_meaning};
 ghost use Rattle.uri_ops.specs.Normal.{host_text, normal_authority, normal_part, normal_parts};
 ghost use Rattle.uri_ops.specs.NormalPorts.{default_of};
-ghost use Rattle.uri_ops.specs.Written.{parts_at};
+ghost use Rattle.uri_ops.specs.Models.Written.{parts_at};
 
 use crate::default_port::DefaultPort;
 use crate::reading::{push_component, push_lower, push_read_host};

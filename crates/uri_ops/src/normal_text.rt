@@ -18,7 +18,7 @@ ghost use Rattle.uri_ops.specs.Normal.{normal_parts, normal_scheme, normal_text}
 ghost use Rattle.uri_ops.specs.NormalPaths.{path_text, path_underflows};
 ghost use Rattle.uri_ops.specs.NormalPorts.{default_of};
 ghost use Rattle.uri_ops.specs.Target.{guarded};
-ghost use Rattle.uri_ops.specs.Written.{parts_at, written_at};
+ghost use Rattle.uri_ops.specs.Models.Written.{parts_at, written_at};
 
 use crate::default_port::DefaultPort;
 use crate::dot_segments::{may_have_dot_segments, push_kept_segments};

@@ -8,7 +8,7 @@ ghost use Rattle.uri_pct.specs.Reading.{read, read_tokens, lower_token};
 ghost use Rattle.uri_pct.specs.Tables.{set_of};
 ghost use Rattle.uri_pct.specs.Tokens.{tokens, print, IsValidFor};
 ghost use Rattle.uri_parts.specs.Appending.{Pushes};
-ghost use Rattle.uri_ops.specs.Readings.{cased};
+ghost use Rattle.uri_ops.specs.Models.Readings.{cased};
 
 use crate::formatting::encode_formatting;
 use std::alloc::{AllocError, Global};
@@ -30,7 +30,7 @@ struct Reading {
 }
 
 impl TakeParts for Reading {
-    ghost use Rattle.uri_ops.specs.Readings.{TookReading, took_nothing, took_on};
+    ghost use Rattle.uri_ops.specs.Models.Readings.{TookReading, took_nothing, took_on};
 
     ghost took = { TookReading };
 

@@ -7,7 +7,7 @@ use Rattle.uri_parts.specs.declared.positions.Positions.{Positions}
 use Rattle.uri_parts.specs.Components.{components}
 use Rattle.uri_parts.specs.Grammar.{Kind, first_segment_set, is_of_kind, one_of_four}
 use Rattle.uri_parts.specs.Positions.{AreAt, positions_of}
-use Rattle.uri_parts.specs.Reading.{read_positions, reads}
+use Rattle.uri_parts.specs.Models.Reading.{read_positions, reads}
 use Rattle.uri_parts.proofs.TextKinds.KindSets.{known_separates}
 use Rattle.uri_parts.proofs.Parsing.ReadPositions.{positions_read}
 use Rattle.uri_parts.proofs.TextKinds.Separations.{Separates}

@@ -1,3 +1,4 @@
+-- What a text has behind what was there.
 use Rattle.std.specs.Prelude.{◌≡◌, ℕ, List, ◌++◌, string_bytes}
 use Rattle.std.specs.declared.string.String.{String}
 

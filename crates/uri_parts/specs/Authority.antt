@@ -15,13 +15,13 @@ pub record AuthorityParts : Type 0 where
   pub port : Option (List ℕ)
 
 -- the text of three parts
-abbrev pub authority_text : AuthorityParts → List ℕ
-authority_text p = marked [] p.userinfo (codes "@") ++ (p.host ++ marked (codes ":") p.port [])
+abbrev pub recompose_authority : AuthorityParts → List ℕ
+recompose_authority p = marked [] p.userinfo (codes "@") ++ (p.host ++ marked (codes ":") p.port [])
 
 -- section 3.2 in its words, for the characters of userinfo and of registered names
 pub record IsAuthorityFor (users names : TableSet) (text : List ℕ)
     (p : AuthorityParts) : Type 0 where
-  pub whole : authority_text p ≡ text
+  pub whole : recompose_authority p ≡ text
   pub userinfo : IfSome p.userinfo (IsValidFor users)
   pub host : (h : HostKind) × IsHost names p.host h
   pub port : IfSome p.port (IsValidFor digit_set)
@@ -63,6 +63,6 @@ authority_parts text =
 unfoldable pub is_authority_for : TableSet → TableSet → List ℕ → Bool
 is_authority_for users names text =
     let p = authority_parts text in
-    bytes_eq (authority_text p) text
+    bytes_eq (recompose_authority p) text
     && (option_map_or (is_valid_for users) p.userinfo true
     && (is_host names p.host && option_map_or (is_valid_for digit_set) p.port true))

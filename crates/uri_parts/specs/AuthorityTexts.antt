@@ -1,3 +1,4 @@
+-- What an `Authority` holds: RFC 3986, section 3.2.
 use Rattle.std.specs.Prelude.{ℕ, List}
 use Rattle.uri_parts.specs.declared.component.Authority.{Authority}
 

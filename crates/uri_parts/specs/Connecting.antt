@@ -18,10 +18,10 @@ pub data Target : Type 0 where
   V6 : List ℕ → ℕ → Target
   Name : List ℕ → ℕ → Target
 
-abbrev pub target_of : SocketTarget → Target
-target_of (Of.V4 address port) = V4 (ipv4_octets address) port
-target_of (Of.V6 address port) = V6 (ipv6_segments address) port
-target_of (Of.Name name port) = Name (cow_text name) port
+abbrev pub socket_target_of : SocketTarget → Target
+socket_target_of (Of.V4 address port) = V4 (ipv4_octets address) port
+socket_target_of (Of.V6 address port) = V6 (ipv6_segments address) port
+socket_target_of (Of.Name name port) = Name (cow_text name) port
 
 -- section 2.1: the bytes of a name are those that it decodes to
 abbrev pub name_bytes : List ℕ → List ℕ
@@ -36,11 +36,11 @@ IsNameRefusal host OutOfMemory = ¬ (IsTrue (is_unencoded host))
 
 -- what is answered for a host of a kind, at a port
 abbrev pub IsAnswerFor : List ℕ → HostKind → ℕ → Result SocketTarget SocketError → Type 0
-IsAnswerFor host (Ipv4 octets) port r = IsOkAnd r (λ t. target_of t ≡ V4 octets port)
-IsAnswerFor host (Ipv6 segments) port r = IsOkAnd r (λ t. target_of t ≡ V6 segments port)
+IsAnswerFor host (Ipv4 octets) port r = IsOkAnd r (λ t. socket_target_of t ≡ V4 octets port)
+IsAnswerFor host (Ipv6 segments) port r = IsOkAnd r (λ t. socket_target_of t ≡ V6 segments port)
 IsAnswerFor host IpvFuture port r = r ≡ Err UnsupportedMechanism
 IsAnswerFor host RegName port r =
-    MatchResult r (λ t. (target_of t ≡ Name (name_bytes host) port) × IsUtf8 (name_bytes host))
+    MatchResult r (λ t. (socket_target_of t ≡ Name (name_bytes host) port) × IsUtf8 (name_bytes host))
     (IsNameRefusal host)
 
 -- a name is borrowed

@@ -1,3 +1,4 @@
+-- What a `Core` holds.
 use Rattle.std.specs.Prelude.{ℕ, List}
 use Rattle.uri_parts.specs.declared.core_text.Core.{Core}
 

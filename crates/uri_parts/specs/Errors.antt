@@ -1,7 +1,7 @@
 -- What a refusal of the parser tells.
 use Rattle.std.specs.Prelude.{◌≡◌, ℕ, ◌<◌, ◌-◌, List, ⊤, slice_index}
 use Rattle.std.specs.Str.{IsCharBoundary}
-use Rattle.uri_pct.specs.Fronts.{IsStrayPercent}
+use Rattle.uri_pct.specs.PercentSigns.{IsStrayPercent}
 use Rattle.uri_parts.specs.declared.error.ParseError.{ParseError}
 use Rattle.uri_parts.specs.declared.error.ParseErrorKind.{ParseErrorKind}
 use Rattle.uri_parts.specs.declared.error.ParseErrorKind.TheVariants.{InvalidPctEncodedOctet}
@@ -12,8 +12,8 @@ use Rattle.uri_pct.specs.Delimiters.{left_bracket}
 abbrev pub index_of : ParseError → ℕ
 index_of e = e.index
 
-abbrev pub kind_of : ParseError → ParseErrorKind
-kind_of e = e.kind
+abbrev pub fault_of : ParseError → ParseErrorKind
+fault_of e = e.kind
 
 -- what is wrong at the place: an IPv6 address is refused just behind its `[`
 abbrev pub IsFault : List ℕ → ParseErrorKind → ℕ → Type 0

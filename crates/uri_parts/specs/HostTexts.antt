@@ -1,3 +1,4 @@
+-- Which host a `HostOf` is: RFC 3986, section 3.2.2.
 use Rattle.std.specs.Prelude.{◌≡◌, ℕ, List, ⊤}
 use Rattle.uri_pct.specs.declared.pct_enc.EStr.{EStr}
 use Rattle.uri_pct.specs.EStrs.{text_of}

@@ -1,7 +1,6 @@
 pub mod Addresses
 pub mod Appending
 pub mod Authority
-pub mod AuthorityReading
 pub mod AuthorityTexts
 pub mod Components
 pub mod Connecting
@@ -10,13 +9,11 @@ pub mod Errors
 pub mod Fragments
 pub mod Grammar
 pub mod GrammarInWords
-pub mod Grammars
 pub mod Hosts
 pub mod HostTexts
-pub mod Literals
+pub mod KindTables
+pub mod Models
 pub mod PortNumbers
 pub mod Positions
-pub mod Readers
-pub mod Reading
 pub mod SchemePorts
 pub mod Schemes

@@ -1,3 +1,4 @@
+-- What a `Scheme` holds: RFC 3986, section 3.1.
 use Rattle.std.specs.Prelude.{ℕ, List}
 use Rattle.std.specs.Str.{str_to_ascii_lowercase}
 use Rattle.uri_parts.specs.declared.scheme.Scheme.{Scheme}

@@ -1,7 +1,7 @@
 //! How far an IPv6 address reads, whose numbers nobody asks for: RFC 4291, section 2.2.
 ghost use Rattle.std.specs.Net.Reader as numbers;
 ghost use Rattle.std.specs.Prelude.{◌≡◌, ◌≤◌, ◌<◌, IfSome, length, option_copied, option_map, true};
-ghost use Rattle.uri_parts.specs.Literals.{AreHexDigits, AreCounted};
+ghost use Rattle.uri_parts.specs.Models.Literals.{AreHexDigits, AreCounted};
 
 /// What follows this byte, if it is next.
 fn after_byte(text: &[u8], byte: u8) -> Option<&[u8]>

@@ -47,13 +47,13 @@ fn kind_text(kind: &ParseErrorKind) -> &'static str {
 }
 
 impl ParseError {
-    ghost use Rattle.uri_parts.specs.Errors.{index_of, kind_of};
+    ghost use Rattle.uri_parts.specs.Errors.{index_of, fault_of};
 
     /// The refusal of this kind at a byte offset.
     #[doc(hidden)]
     pub fn new(index: usize, kind: ParseErrorKind) -> Self
         ensures index { index_of result ≡ index }
-        ensures kind { kind_of result ≡ kind }
+        ensures kind { fault_of result ≡ kind }
     {
         ParseError { index, kind }
     }
@@ -76,7 +76,7 @@ impl ParseError {
     ///
     /// For `http://a b` it is `UnexpectedChar`.
     pub fn kind(&self) -> ParseErrorKind
-        ensures { result ≡ kind_of self.now }
+        ensures { result ≡ fault_of self.now }
     {
         self.kind
     }

@@ -1,9 +1,9 @@
 //! The kinds of references, as types.
 ghost use Rattle.std.specs.Prelude.{◌≡◌};
 ghost use Rattle.uri_pct.specs.Tables.{set_of};
-ghost use Rattle.uri_parts.specs.Grammars.{kind_of, segment_nz_nc_of};
+ghost use Rattle.uri_parts.specs.KindTables.{kind_of, segment_nz_nc_of};
 
-use crate::grammar::{Grammar, iri_grammar, uri_grammar};
+use crate::kind_tables::{KindTables, iri_tables, uri_tables};
 use uri_pct::encoder::{
     Encoder, Fragment, IFragment, IPath, IQuery, IRegName, IUserinfo, Path, PathEncoder, Query,
     RegName, Userinfo,
@@ -28,7 +28,7 @@ pub trait Kind {
     ghost kind: { grammar.Kind };
 
     /// The tables of its components, and whether it needs a scheme.
-    fn tables() -> Grammar
+    fn tables() -> KindTables
         ensures kind { kind_of result ≡ kind }
         ensures first_segment { segment_nz_nc_of result ≡ first_segment_set kind };
 
@@ -66,8 +66,8 @@ impl Kind for UriKind {
 
     ghost kind = { uri };
 
-    fn tables() -> Grammar {
-        uri_grammar(true)
+    fn tables() -> KindTables {
+        uri_tables(true)
     }
 
     ghost known = { refl };
@@ -104,8 +104,8 @@ impl Kind for UriRefKind {
 
     ghost kind = { uri_ref };
 
-    fn tables() -> Grammar {
-        uri_grammar(false)
+    fn tables() -> KindTables {
+        uri_tables(false)
     }
 
     ghost known = { refl };
@@ -142,8 +142,8 @@ impl Kind for IriKind {
 
     ghost kind = { iri };
 
-    fn tables() -> Grammar {
-        iri_grammar(true)
+    fn tables() -> KindTables {
+        iri_tables(true)
     }
 
     ghost known = { refl };
@@ -180,8 +180,8 @@ impl Kind for IriRefKind {
 
     ghost kind = { iri_ref };
 
-    fn tables() -> Grammar {
-        iri_grammar(false)
+    fn tables() -> KindTables {
+        iri_tables(false)
     }
 
     ghost known = { refl };

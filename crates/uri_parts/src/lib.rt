@@ -14,9 +14,9 @@ pub mod error;
 #[doc(hidden)]
 pub mod fragment;
 #[doc(hidden)]
-pub mod grammar;
-#[doc(hidden)]
 pub mod kind;
+#[doc(hidden)]
+pub mod kind_tables;
 #[doc(hidden)]
 pub mod laws;
 #[doc(hidden)]

@@ -7,8 +7,8 @@ ghost use Rattle.uri_pct.specs.Tables.{set_of};
 ghost use Rattle.uri_pct.specs.Tokens.{is_valid_for};
 ghost use Rattle.uri_parts.specs.Components.{starts};
 ghost use Rattle.uri_parts.specs.Hosts as Hosts;
-ghost use Rattle.uri_parts.specs.AuthorityReading.{is_literal};
-ghost use Rattle.uri_parts.specs.Literals.{IsLiteralRefusal, reads_literal, literal_length};
+ghost use Rattle.uri_parts.specs.Models.AuthorityReading.{is_literal};
+ghost use Rattle.uri_parts.specs.Models.Literals.{IsLiteralRefusal, reads_literal, literal_length};
 
 use crate::address_reader::after_ipv6;
 use crate::error::{ParseError, ParseErrorKind};
@@ -197,7 +197,7 @@ fn refusal(text: &str, start: usize) -> ParseError
 }
 
 /// Whether a text may stand between the brackets of a host.
-#[tactic(auto, unfolding(crate::specs::AuthorityReading::is_literal))]
+#[tactic(auto, unfolding(crate::specs::Models::AuthorityReading::is_literal))]
 pub(crate) fn is_literal(text: &str) -> bool
     ensures { result ≡ is_literal text.now }
 {

@@ -31,17 +31,17 @@ impl<'a> Copy for Reader<'a> {}
 
 impl<'a> Reader<'a> {
     ghost use Rattle.uri_pct.specs.Tables.{set_of};
-    ghost use Rattle.uri_pct.specs.Fronts.{front, after};
-    ghost use Rattle.uri_parts.specs.AuthorityReading.{begins_any};
+    ghost use Rattle.uri_pct.specs.Models.Fronts.{front, after};
+    ghost use Rattle.uri_parts.specs.Models.AuthorityReading.{begins_any};
     ghost use Rattle.uri_parts.specs.Components.{starts, has_authority};
     ghost use Rattle.uri_parts.specs.Errors.{IsErrorIn};
-    ghost use Rattle.uri_parts.specs.Reading.{is_end, is_stray};
-    ghost use Rattle.uri_parts.specs.Readers.{rest_of, text_of, place_of};
+    ghost use Rattle.uri_parts.specs.Models.Reading.{is_end, is_stray};
+    ghost use Rattle.uri_parts.specs.Models.Readers.{rest_of, reader_text, place_of};
 
     /// The text from its beginning.
     #[inline]
     pub fn new(text: &'a str) -> Self
-        ensures text { text_of result ≡ text.now }
+        ensures text { reader_text result ≡ text.now }
         ensures place { place_of result ≡ 0 }
         ensures rest { rest_of result ≡ text.now }
     {
@@ -52,7 +52,7 @@ impl<'a> Reader<'a> {
     #[inline]
     pub fn at(text: &'a str, position: usize) -> Self
         requires { IsCharBoundary text.now position }
-        ensures text { text_of result ≡ text.now }
+        ensures text { reader_text result ≡ text.now }
         ensures place { place_of result ≡ position }
         ensures rest { rest_of result ≡ drop position text.now }
     {
@@ -62,7 +62,7 @@ impl<'a> Reader<'a> {
     /// The whole text, what was read of it too.
     #[inline]
     pub fn text(&self) -> &'a str
-        ensures { result.now ≡ text_of self.now }
+        ensures { result.now ≡ reader_text self.now }
     {
         self.text
     }
@@ -71,7 +71,7 @@ impl<'a> Reader<'a> {
     #[inline]
     pub fn position(&self) -> usize
         ensures place { result ≡ place_of self.now }
-        ensures boundary { IsCharBoundary (text_of self.now) result }
+        ensures boundary { IsCharBoundary (reader_text self.now) result }
     {
         self.position
     }
@@ -79,7 +79,7 @@ impl<'a> Reader<'a> {
     /// Passes the longest front of the rest that the table allows.
     #[inline(always)]
     pub fn read(&mut self, table: &Table)
-        ensures text { text_of self.new ≡ text_of self.old }
+        ensures text { reader_text self.new ≡ reader_text self.old }
         ensures place { place_of self.new
             ≡ place_of self.old + front (set_of table.now) (rest_of self.old) }
         ensures rest { rest_of self.new ≡ after (set_of table.now) (rest_of self.old) }
@@ -104,14 +104,14 @@ impl<'a> Reader<'a> {
     #[tactic(auto, using(crate::proofs::Parsing::NextBytes::stray_fault, crate::proofs::Parsing::NextBytes::starts_at))]
     #[inline(always)]
     pub fn pass(&mut self, table: &Table) -> Result<(), ParseError>
-        ensures text { text_of self.new ≡ text_of self.old }
+        ensures text { reader_text self.new ≡ reader_text self.old }
         ensures place { OnOk result
             (place_of self.new ≡ place_of self.old + front (set_of table.now) (rest_of self.old)) }
         ensures rest { OnOk result
             (rest_of self.new ≡ after (set_of table.now) (rest_of self.old)) }
         ensures stray { is_ok result
             ≡ not (is_stray (set_of table.now) (after (set_of table.now) (rest_of self.old))) }
-        ensures err { IfErr result (IsErrorIn (text_of self.old)) }
+        ensures err { IfErr result (IsErrorIn (reader_text self.old)) }
     {
         let end = table.read(self.text, self.position);
         let bytes = self.text.as_bytes();
@@ -147,7 +147,7 @@ impl<'a> Reader<'a> {
     pub fn skip(&mut self, byte: u8) -> bool
         requires { byte < 128 }
         ensures value { result ≡ starts byte (rest_of self.old) }
-        ensures text { text_of self.new ≡ text_of self.old }
+        ensures text { reader_text self.new ≡ reader_text self.old }
         ensures place { place_of self.new
             ≡ (if result then place_of self.old + 1 else place_of self.old) }
         ensures rest { rest_of self.new
@@ -167,7 +167,7 @@ impl<'a> Reader<'a> {
     #[inline]
     pub fn skip_slashes(&mut self) -> bool
         ensures value { result ≡ has_authority (rest_of self.old) }
-        ensures text { text_of self.new ≡ text_of self.old }
+        ensures text { reader_text self.new ≡ reader_text self.old }
         ensures place { place_of self.new
             ≡ (if result then place_of self.old + 2 else place_of self.old) }
         ensures rest { rest_of self.new
@@ -186,7 +186,7 @@ impl<'a> Reader<'a> {
     /// The refusal of what is next.
     #[inline]
     pub fn unexpected(&self) -> ParseError
-        ensures { IsErrorIn (text_of self.now) result }
+        ensures { IsErrorIn (reader_text self.now) result }
     {
         ParseError::new(self.position, ParseErrorKind::UnexpectedChar)
     }

@@ -1,3 +1,4 @@
+-- What an item of `Decode` stands for: RFC 3986, section 2.1.
 use Rattle.uri_pct.specs.Chunks.{Chunk, Text, Byte}
 use Rattle.uri_pct.specs.declared.decode.DecodedChunk.{DecodedChunk}
 use Rattle.uri_pct.specs.declared.decode.DecodedChunk.TheVariants.{Unencoded, PctDecoded}

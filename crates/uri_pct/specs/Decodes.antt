@@ -1,3 +1,4 @@
+-- What a `Decode` still has to answer: RFC 3986, section 2.1.
 use Rattle.std.specs.Prelude.{ℕ, List}
 use Rattle.std.specs.List.{flat_map}
 use Rattle.uri_pct.specs.Chunks.{Chunk, chunk_bytes, chunks}

@@ -1,3 +1,4 @@
+-- What an `EString` holds.
 use Rattle.std.specs.Prelude.{ℕ, List, string_bytes}
 use Rattle.std.specs.String.{string_capacity}
 use Rattle.uri_pct.specs.declared.estring.EString.{EString}

@@ -1,10 +1,11 @@
 pub mod Delimiters
+pub mod Models
 pub mod Sets
 pub mod Tokens
-pub mod Fronts
 pub mod Masks
 pub mod Tables
 pub mod EStrs
+pub mod PercentSigns
 pub mod Pieces
 pub mod Reading
 pub mod Texts
@@ -14,8 +15,5 @@ pub mod DecodedChunks
 pub mod Decodes
 pub mod Parts
 pub mod Cows
-pub mod TakenBytes
 pub mod Encoding
 pub mod EStrings
-pub mod LaneMasks
-pub mod ByteRuns

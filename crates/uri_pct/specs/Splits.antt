@@ -1,3 +1,4 @@
+-- What a `Split` still has to answer.
 use Rattle.std.specs.Prelude.{ℕ, ◌==◌, List, [], Some, None}
 use Rattle.std.specs.List.{slice_split}
 use Rattle.uri_pct.specs.declared.split.Split.{Split}

@@ -1,3 +1,4 @@
+-- The set of characters that a `Table` stands for.
 use Rattle.std.specs.Prelude.{false}
 use Rattle.uri_pct.specs.Sets.{TableSet, plain}
 use Rattle.uri_pct.specs.Masks.{has_bit}

@@ -20,7 +20,7 @@ struct Bytes {
 }
 
 impl TakeParts for Bytes {
-    ghost use Rattle.uri_pct.specs.TakenBytes.{TookBytes, took_nothing, took_on};
+    ghost use Rattle.uri_pct.specs.Models.TakenBytes.{TookBytes, took_nothing, took_on};
 
     ghost took = { TookBytes };
 
@@ -49,7 +49,7 @@ struct LossyText {
 }
 
 impl TakeParts for LossyText {
-    ghost use Rattle.uri_pct.specs.TakenBytes.{TookText, lossy_nothing, lossy_on};
+    ghost use Rattle.uri_pct.specs.Models.TakenBytes.{TookText, lossy_nothing, lossy_on};
 
     ghost took = { TookText };
 

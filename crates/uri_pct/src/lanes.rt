@@ -3,9 +3,9 @@ ghost use Rattle.std.specs.Prelude.{◌≡◌, ◌+◌, ◌≤◌, ◌<◌, ◌/
 ghost use Rattle.std.specs.Prelude.{slice_index, nat_lt};
 ghost use Rattle.std.specs.Simd.Lanes.{mask_l, chunk};
 ghost use Rattle.std.specs.Int.{bit_at};
-ghost use Rattle.uri_pct.specs.ByteRuns.{IsRun, AreSpelt};
-ghost use Rattle.uri_pct.specs.Fronts.{has_digits};
-ghost use Rattle.uri_pct.specs.LaneMasks.{bytes_of_masks, bit_of};
+ghost use Rattle.uri_pct.specs.Models.ByteRuns.{IsRun, AreSpelt};
+ghost use Rattle.uri_pct.specs.PercentSigns.{has_digits};
+ghost use Rattle.uri_pct.specs.Models.LaneMasks.{bytes_of_masks, bit_of};
 ghost use Rattle.uri_pct.specs.Masks.{has_bit};
 
 use std::simd::prelude::*;

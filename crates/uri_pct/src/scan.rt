@@ -2,7 +2,8 @@
 ghost use Rattle.std.specs.Prelude.{◌≡◌, ◌<◌, ◌≤◌, ◌+◌, IsTrue, false, true, length, drop};
 ghost use Rattle.std.specs.Prelude.{slice_index};
 ghost use Rattle.std.specs.Str.{IsCharBoundary};
-ghost use Rattle.uri_pct.specs.Fronts.{front, has_digits, may_go_on};
+ghost use Rattle.uri_pct.specs.Models.Fronts.{front, may_go_on};
+ghost use Rattle.uri_pct.specs.PercentSigns.{has_digits};
 ghost use Rattle.uri_pct.specs.Tokens.{is_valid_for};
 
 use crate::lanes::{LANES, has, holds, run_end, spelt_length, words};
@@ -10,7 +11,7 @@ use crate::table::Table;
 use crate::utf8::char_at;
 
 /// Whether two hexadecimal digits stand behind the byte at `index`.
-#[tactic(auto, unfolding(crate::specs::Fronts::has_digits))]
+#[tactic(auto, unfolding(crate::specs::PercentSigns::has_digits))]
 fn begins_octet(bytes: &[u8], index: usize) -> bool
     requires { index < length bytes.now }
     ensures value { result ≡ has_digits bytes.now index }
@@ -92,7 +93,7 @@ impl Table {
     }
 
     /// Whether the table allows octets, or characters past ASCII, and the byte begins one.
-    #[tactic(auto, using(std::proofs::lemmas::Bool::Decides::nat_tests), unfolding(crate::specs::Fronts::may_go_on))]
+    #[tactic(auto, using(std::proofs::lemmas::Bool::Decides::nat_tests), unfolding(crate::specs::Models::Fronts::may_go_on))]
     #[inline(always)]
     fn may_go_on(&self, byte: u8) -> bool
         ensures { result ≡ may_go_on (set_of self.now) byte }

@@ -8,7 +8,7 @@ use Rattle.std.proofs.lemmas.List.Folds.{list_all-append}
 use Rattle.std.proofs.lemmas.Bool.{cases_Bool, cases_lt, cond-true, cond-false, and_parts, and_from, lt-ltb, both_ways, eqb-true}
 use Rattle.uri_pct.specs.Sets.{TableSet, LacksPercent, allows_past_ascii, digit_set, is_userinfo_char}
 use Rattle.uri_pct.specs.Tokens.{IsValidFor}
-use Rattle.uri_pct.specs.Fronts.{allows_first, begins_hex, first_char}
+use Rattle.uri_pct.specs.Models.Fronts.{allows_first, begins_hex, first_char}
 use Rattle.uri_pct.proofs.ValidTexts.Validity.{valid_from, is_valid_for-bytes, allows_first-past}
 use Rattle.uri_pct.proofs.Unicode.Characters.{hex_ascii}
 use Rattle.uri_parts.specs.Components.{Components, components, marked, recompose}

@@ -17,7 +17,8 @@ use Rattle.uri_pct.specs.Reading.{read, lower_token}
 use Rattle.uri_pct.proofs.ValidTexts.Cuts.{excludes}
 use Rattle.uri_parts.specs.Components.{marked}
 use Rattle.uri_parts.specs.Hosts.{HostKind, Ipv4, Ipv6, IpvFuture, RegName, IsHost, bracketed, host_kind, ipv4_value}
-use Rattle.uri_parts.specs.Authority.{AuthorityParts, IsAuthorityFor, KeepsApart, authority_parts, authority_text}
+use Rattle.uri_parts.specs.Authority.{AuthorityParts, IsAuthorityFor, KeepsApart, authority_parts}
+use Rattle.uri_parts.specs.Authority.{recompose_authority}
 use Rattle.uri_parts.specs.Grammar.{Kind, is_authority}
 use Rattle.uri_parts.proofs.Authorities.Authority.{is_authority_for-sound, is_authority_for-complete, authority_parts-only, names_outside}
 use Rattle.uri_parts.proofs.HostForms.Addresses.{is_address_char, is_address_text, address_text-ipv6}
@@ -115,8 +116,8 @@ module _ (names : TableSet) (w : IsComponentSet (codes "/?#[]@:") names) (apart 
 abbrev encoded_parts : AuthorityParts → AuthorityParts
 encoded_parts p = record { userinfo = option_map encoded_text p.userinfo; host = encoded_text p.host; port = option_map encoded_text p.port }
 
-authority_text-encoded : (p : AuthorityParts) → encoded_text (authority_text p) ≡ authority_text (encoded_parts p)
-authority_text-encoded p =
+recompose_authority-encoded : (p : AuthorityParts) → encoded_text (recompose_authority p) ≡ recompose_authority (encoded_parts p)
+recompose_authority-encoded p =
     let port = marked (codes ":") p.port [] in
     encoded-append (marked [] p.userinfo (codes "@")) (p.host ++ port)
     ∙ ap (λ x. x ++ encoded_text (p.host ++ port)) (marked_encoded [] (codes "@") p.userinfo refl refl)
@@ -168,7 +169,7 @@ module _ (kind : Kind) (sets : HasComponentSets kind) (a : List ℕ) (u : IsUtf8
 
   encoded_grammar : IsAuthorityFor (ascii_set users) (ascii_set names) (encoded_text a) (encoded_parts parts)
   encoded_grammar = record {
-    whole = sym (authority_text-encoded parts) ∙ ap encoded_text grammar.whole;
+    whole = sym (recompose_authority-encoded parts) ∙ ap encoded_text grammar.whole;
     userinfo = map_some parts.userinfo (λ x. is_part users x ≡ true) (IsValidFor (ascii_set users)) (λ x h. part_valid (ascii_set users) (encoded_text x) (part_encoded users sets.userinfo.octets x h)) user;
     host = host.host;
     port = subst (λ o. IfSome o (IsValidFor digit_set)) (sym (port_ascii parts.port utf8.port grammar.port)) grammar.port;

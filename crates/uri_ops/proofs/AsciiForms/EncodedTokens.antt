@@ -11,7 +11,7 @@ use Rattle.std.proofs.lemmas.List.Folds.{list_all-append}
 use Rattle.std.proofs.lemmas.Bool.{cases_Bool, cases_lt, agree_below_at, cond-true, cond-false, and_left, and_right, and_from, and_parts, eqb-true, ltb-true, lt-ltb, le-ltb}
 use Rattle.std.proofs.lemmas.Bool.Decides.{nat_tests}
 use Rattle.uri_pct.specs.Tokens.{Token, Char, Octet, tokens, tokens_of, token_bytes, bytes_of_token, is_pct_encoded, text_of_token}
-use Rattle.uri_pct.specs.Fronts.{begins_hex}
+use Rattle.uri_pct.specs.Models.Fronts.{begins_hex}
 use Rattle.uri_pct.proofs.Unicode.Characters.{bytes_of_char, is_high, lead}
 use Rattle.uri_ops.specs.Encoded.{encoded_byte, encoded_text}
 use Rattle.uri_ops.proofs.Meanings.PlainTexts.{ascii_from, utf8_ascii}

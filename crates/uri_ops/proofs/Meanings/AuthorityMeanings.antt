@@ -11,7 +11,8 @@ use Rattle.uri_pct.specs.Reading.{read}
 use Rattle.uri_pct.proofs.ValidTexts.Cuts.{excludes, of_each}
 use Rattle.uri_parts.specs.Components.{Lacks, marked}
 use Rattle.uri_parts.specs.Hosts.{HostKind, IsHost, host_kind}
-use Rattle.uri_parts.specs.Authority.{AuthorityParts, IsAuthorityFor, KeepsApart, authority_parts, authority_text}
+use Rattle.uri_parts.specs.Authority.{AuthorityParts, IsAuthorityFor, KeepsApart, authority_parts}
+use Rattle.uri_parts.specs.Authority.{recompose_authority}
 use Rattle.uri_parts.specs.Grammar.{Kind, is_authority}
 use Rattle.uri_parts.proofs.Authorities.Authority.{is_authority_for-sound, is_authority_for-complete, authority_parts-only, names_outside}
 use Rattle.uri_parts.proofs.HostForms.Futures.{lacks_append}
@@ -77,7 +78,7 @@ utf8_user : (userinfo : Option (List ℕ)) → IfSome userinfo IsUtf8 → IsUtf8
 utf8_user None u = IsUtf8-nil
 utf8_user (Some user) u = IsUtf8-append user (codes "@") u (utf8_ascii (codes "@") refl)
 
-utf8_text : (p : AuthorityParts) → PartsUtf8 p → IsUtf8 (authority_text p)
+utf8_text : (p : AuthorityParts) → PartsUtf8 p → IsUtf8 (recompose_authority p)
 utf8_text p u = IsUtf8-append (marked [] p.userinfo (codes "@")) (p.host ++ marked (codes ":") p.port []) (utf8_user p.userinfo u.userinfo) (IsUtf8-append p.host (marked (codes ":") p.port []) u.host (utf8_port p.port u.port))
 
 -- none of them has a mark that ends the authority
@@ -90,7 +91,7 @@ lacks_port None h = test_lacks (codes "/?#") [] refl
 lacks_port (Some digits) h =
     lacks_append (codes "/?#") (58 ∷ digits) [] (lacks_append (codes "/?#") (codes ":") digits (test_lacks (codes "/?#") (codes ":") refl) h) (test_lacks (codes "/?#") [] refl)
 
-pub lacks_text : (p : AuthorityParts) → IfSome p.userinfo (Lacks (codes "/?#")) → Lacks (codes "/?#") p.host → IfSome p.port (Lacks (codes "/?#")) → Lacks (codes "/?#") (authority_text p)
+pub lacks_text : (p : AuthorityParts) → IfSome p.userinfo (Lacks (codes "/?#")) → Lacks (codes "/?#") p.host → IfSome p.port (Lacks (codes "/?#")) → Lacks (codes "/?#") (recompose_authority p)
 lacks_text p user host port =
     lacks_append (codes "/?#") (marked [] p.userinfo (codes "@")) (p.host ++ marked (codes ":") p.port []) (lacks_user p.userinfo user)
     (lacks_append (codes "/?#") p.host (marked (codes ":") p.port []) host (lacks_port p.port port))
@@ -154,10 +155,10 @@ module _ (kind : Kind) (sets : HasComponentSets kind) (default : Option ℕ) (a 
     port = port_kept default parts.port IsUtf8 utf8.port;
   }
 
-  pub printed_utf8 : IsUtf8 (authority_text normal)
+  pub printed_utf8 : IsUtf8 (recompose_authority normal)
   printed_utf8 = utf8_text normal normal_utf8
 
-  normal_grammar : IsAuthorityFor users names (authority_text normal) normal
+  normal_grammar : IsAuthorityFor users names (recompose_authority normal) normal
   normal_grammar = record {
     whole = refl;
     userinfo = each_some normal.userinfo (λ x. is_part users x ≡ true) (IsValidFor users) (λ x h. part_valid users x h) normal_user;
@@ -165,13 +166,13 @@ module _ (kind : Kind) (sets : HasComponentSets kind) (default : Option ℕ) (a 
     port = port_kept default parts.port (IsValidFor digit_set) grammar.port;
   }
 
-  pub printed_meets : is_authority kind (authority_text normal) ≡ true
-  printed_meets = is_authority_for-complete users names apart (authority_text normal) normal printed_utf8 normal_grammar
+  pub printed_meets : is_authority kind (recompose_authority normal) ≡ true
+  printed_meets = is_authority_for-complete users names apart (recompose_authority normal) normal printed_utf8 normal_grammar
 
-  pub printed_parts : authority_parts (authority_text normal) ≡ normal
-  printed_parts = authority_parts-only users names apart (authority_text normal) normal printed_utf8 normal_grammar
+  pub printed_parts : authority_parts (recompose_authority normal) ≡ normal
+  printed_parts = authority_parts-only users names apart (recompose_authority normal) normal printed_utf8 normal_grammar
 
-  pub printed_bare : authority_meaning kind None (authority_text normal) ≡ authority_meaning kind default a
+  pub printed_bare : authority_meaning kind None (recompose_authority normal) ≡ authority_meaning kind default a
   printed_bare =
       let of_parts : AuthorityParts → AuthorityMeaning = λ p. record { userinfo = option_map (read users) p.userinfo; host = host_meaning names p.host (host_kind p.host); port = port_meaning None p.port } in
       let user_read = printed_read users (codes "/?#[]@") sets.userinfo parts.userinfo user in
@@ -183,7 +184,7 @@ module _ (kind : Kind) (sets : HasComponentSets kind) (default : Option ℕ) (a 
   user_outside : excludes users (codes "/?#") ≡ true
   user_outside = excludes_front (codes "/?#") (codes "[]@") users (ends_outside (codes "/?#[]@") users refl sets.userinfo.ends)
 
-  pub printed_lacks : Lacks (codes "/?#") (authority_text normal)
+  pub printed_lacks : Lacks (codes "/?#") (recompose_authority normal)
   printed_lacks =
       lacks_text normal (part_cut_at users (codes "/?#[]@") sets.userinfo (codes "/?#") user_outside normal.userinfo normal_user) host.lacks
       (both_some normal.port IsUtf8 (IsValidFor digit_set) (Lacks (codes "/?#")) (λ x v h. valid_lacks digit_set (codes "/?#") refl refl x v h) normal_utf8.port normal_grammar.port)

@@ -18,7 +18,7 @@ use Rattle.uri_pct.specs.Tokens.{Char, Octet, print}
 use Rattle.uri_pct.proofs.Unicode.CharacterPieces.{utf8_pieces-are}
 use Rattle.uri_pct.proofs.Unicode.Characters.{bytes_of_char, lead, is_high}
 use Rattle.uri_pct.proofs.EncodedTexts.Encodings.{text_as_pieces}
-use Rattle.uri_ops.specs.Readings.{cased}
+use Rattle.uri_ops.specs.Models.Readings.{cased}
 
 -- text that stands for itself
 pub print_chars : (cs : List ℕ) → print (map Char cs) ≡ encode_utf8_all cs

@@ -14,7 +14,7 @@ use Rattle.uri_pct.specs.Reading.{is_printable, read_piece, read_run, read_from,
 use Rattle.uri_pct.specs.Sets.{TableSet}
 use Rattle.uri_pct.specs.Tokens.{Token, Char, Octet, tokens, IsValidFor}
 use Rattle.uri_pct.proofs.ValidTexts.Allowed.{printable_valid}
-use Rattle.uri_ops.specs.Readings.{read_part, read_parts}
+use Rattle.uri_ops.specs.Models.Readings.{read_part, read_parts}
 
 module _ (set : TableSet) where
   -- the pieces of a run

@@ -11,7 +11,7 @@ use Rattle.uri_pct.specs.Sets.{TableSet}
 use Rattle.uri_pct.specs.Tables.{set_of}
 use Rattle.uri_pct.specs.Tokens.{Octet, Char, tokens, print, IsValidFor}
 use Rattle.uri_ops.specs.declared.reading.Reading.{Reading}
-use Rattle.uri_ops.specs.Readings.{TookReading, read_parts, cased}
+use Rattle.uri_ops.specs.Models.Readings.{TookReading, read_parts, cased}
 use Rattle.uri_ops.proofs.Meanings.Cased.{AllowsReadable, print_text, print_lower, cased_octets, text_read, text_read_lower}
 use Rattle.uri_ops.proofs.Meanings.ReadParts.{parts_of_run, read_parts-tokens}
 

@@ -20,7 +20,7 @@ use Rattle.uri_pct.proofs.Readings.Formatting.{ascii_formatting, never_literal-b
 use Rattle.uri_pct.proofs.Readings.Printing.{digits_of, chars_of_token, token_encodes, chars-print, IsUtf8-print}
 use Rattle.uri_pct.proofs.Readings.Reading.{printable-read_tokens}
 use Rattle.uri_ops.specs.Formatting.{written_char, written_text}
-use Rattle.uri_ops.specs.Readings.{cased}
+use Rattle.uri_ops.specs.Models.Readings.{cased}
 
 pub no_chars : (text : List ℕ) → length text ≡ 0 → chars text ≡ []
 no_chars text none = ap chars (nil_from_length text none) ∙ chars-nil

@@ -13,7 +13,7 @@ use Rattle.uri_ops.specs.Meaning.{authority_meaning, meaning_of}
 use Rattle.uri_ops.specs.Normal.{normal_authority, normal_components, normal_parts, normal_text}
 use Rattle.uri_ops.specs.Ports.{PortFunction}
 use Rattle.uri_ops.specs.Texts.{IsTextOf}
-use Rattle.uri_ops.specs.Written.{parts_at, written_at}
+use Rattle.uri_ops.specs.Models.Written.{parts_at, written_at}
 use Rattle.uri_ops.proofs.Meanings.AuthorityMeanings.{printed_parts}
 use Rattle.uri_ops.proofs.Normal.NormalTexts.{components-normal, parts_of}
 use Rattle.uri_ops.proofs.Normal.WrittenPlaces.{parts_cut}

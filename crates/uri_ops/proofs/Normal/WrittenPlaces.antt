@@ -3,7 +3,7 @@ use Rattle.std.proofs.Common.{◌≡◌, ℕ, ◌+◌, List, [], ◌∷◌, ◌+
 use Rattle.std.specs.Prelude.{codes, Option, Some, None}
 use Rattle.uri_parts.specs.declared.positions.AuthorityPositions.{AuthorityPositions}
 use Rattle.uri_parts.specs.declared.positions.Positions.{Positions}
-use Rattle.uri_parts.specs.Authority.{AuthorityParts, authority_parts, authority_text}
+use Rattle.uri_parts.specs.Authority.{AuthorityParts, authority_parts, recompose_authority}
 use Rattle.uri_parts.specs.Components.{Components, marked}
 use Rattle.uri_parts.specs.Positions.{authority_at, marked_length, positions_of}
 use Rattle.std.specs.Option.{option_and_then}
@@ -17,7 +17,7 @@ use Rattle.uri_ops.specs.Normal.{normal_authority, normal_components, normal_par
 use Rattle.uri_ops.specs.NormalPaths.{path_text}
 use Rattle.uri_ops.specs.Ports.{PortFunction}
 use Rattle.uri_ops.proofs.Normal.NormalPieces.{path_written}
-use Rattle.uri_ops.specs.Written.{parts_at, written_at}
+use Rattle.uri_ops.specs.Models.Written.{parts_at, written_at}
 
 length-behind : (part : Option (List ℕ)) (mark : ℕ) → length (marked [] part (mark ∷ [])) ≡ marked_length 1 part
 length-behind None mark = refl
@@ -35,13 +35,13 @@ parts_placed p o0 o1 o2 o3 e1 e2 e3 =
     let port = marked (codes ":") p.port [] in
     let n1 : length o1 ≡ length o0 + marked_length 1 p.userinfo = omega (arith, ap length e1, length-append o0 user, length-behind p.userinfo 64) in
     let n2 : length o2 ≡ length o0 + (marked_length 1 p.userinfo + length p.host) = omega (arith, n1, ap length e2, length-append o1 p.host) in
-    let n3 : length o3 ≡ length o0 + length (authority_text p) =
+    let n3 : length o3 ≡ length o0 + length (recompose_authority p) =
     omega (arith, n2, ap length e3, length-append o2 port, length-append user (p.host ++ port), length-append p.host port, length-behind p.userinfo 64) in
     λ i. record { start = length o0; host_start = n1 i; host_end = n2 i; end = n3 i }
 
 -- by its text, where that is cut into these parts
-pub parts_cut : (place : ℕ) (p : AuthorityParts) → authority_parts (authority_text p) ≡ p → parts_at place p ≡ authority_at place (authority_text p)
-parts_cut place p cut = ap (λ (q : AuthorityParts). let host = marked_length 1 q.userinfo in let x : AuthorityPositions = record { start = place; host_start = place + host; host_end = place + (host + length q.host); end = place + length (authority_text p) } in x) (sym cut)
+pub parts_cut : (place : ℕ) (p : AuthorityParts) → authority_parts (recompose_authority p) ≡ p → parts_at place p ≡ authority_at place (recompose_authority p)
+parts_cut place p cut = ap (λ (q : AuthorityParts). let host = marked_length 1 q.userinfo in let x : AuthorityPositions = record { start = place; host_start = place + host; host_end = place + (host + length q.host); end = place + length (recompose_authority p) } in x) (sym cut)
 
 from_zero : (part : Option (List ℕ)) → option_map (λ s. 0 + length s) part ≡ option_map length part
 from_zero None = refl

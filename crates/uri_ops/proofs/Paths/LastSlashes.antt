@@ -8,7 +8,7 @@ use Rattle.std.specs.Prelude.{codes, ◌==◌}
 use Rattle.std.specs.Str.{IsUtf8, IsCharBoundary}
 use Rattle.uri_parts.specs.Components.{IsRooted}
 use Rattle.uri_ops.specs.Dots.{is_empty, has_slash, is_double_dot, before_last_slash, last_segment, directory, IsAbsolute}
-use Rattle.uri_ops.specs.Places.{IsSlashOrAt}
+use Rattle.uri_ops.specs.Models.Places.{IsSlashOrAt}
 use Rattle.uri_ops.proofs.Paths.SlashedSegments.{any_slash, before_append, last_append}
 use Rattle.uri_ops.proofs.Tests.{true_of}
 

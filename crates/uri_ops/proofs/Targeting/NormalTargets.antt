@@ -8,7 +8,9 @@ use Rattle.uri_parts.specs.Grammar.{Kind}
 use Rattle.uri_ops.specs.ComponentSets.{HasComponentSets}
 use Rattle.uri_ops.specs.Meaning.{meaning_of}
 use Rattle.uri_ops.specs.Normal.{normal_text}
-use Rattle.uri_ops.specs.NormalTargets.{MeansTheSame, HasTargetMeaning, IsRefusedFor, IsTargetOfMeanings, IsErrorOfMeanings, IsNormalTarget, IsRefusedAlike}
+use Rattle.uri_ops.specs.NormalTargets.{HasMeaningOf, HasTargetMeaning, IsRefusedFor}
+use Rattle.uri_ops.specs.NormalTargets.{IsTargetOfMeanings, IsErrorOfMeanings, IsNormalTarget}
+use Rattle.uri_ops.specs.NormalTargets.{IsRefusedAlike}
 use Rattle.uri_ops.specs.Normalizers.{IsNormalForm}
 use Rattle.uri_ops.specs.Ports.{PortFunction}
 use Rattle.uri_ops.specs.References.{reference_kind, resolved_meaning}
@@ -82,25 +84,25 @@ error_alike allowed b r base reference Of.OutOfMemory f e h = e ∙ h
 
 module _ (kind of_reference : Kind) (sets : HasComponentSets kind) (needs : kind.needs_scheme ≡ true) (same : of_reference ≡ reference_kind kind) (ports : PortFunction)
     (base reference : List ℕ) (of_base : IsTextOf kind base) (of_ref : IsTextOf of_reference reference) where
-  resolve_alike : (b r : List ℕ) → MeansTheSame kind ports base b → MeansTheSame of_reference ports reference r → resolved_meaning kind ports b r ≡ resolved_meaning kind ports base reference
+  resolve_alike : (b r : List ℕ) → HasMeaningOf kind ports base b → HasMeaningOf of_reference ports reference r → resolved_meaning kind ports b r ≡ resolved_meaning kind ports base reference
   resolve_alike b r v w =
       let x = subst (λ k. IsTextOf k reference) same of_ref in
-      let y = subst (λ k. MeansTheSame k ports reference r) same w in
+      let y = subst (λ k. HasMeaningOf k ports reference r) same w in
       resolved_alike kind ports sets b base r reference needs v.of_kind of_base y.of_kind x v.meaning y.meaning
 
-  target_meaning : (b r target : List ℕ) → MeansTheSame kind ports base b → MeansTheSame of_reference ports reference r → resolution_of (components base) (components reference) ≡ Ok target → HasTargetMeaning kind ports b r target
+  target_meaning : (b r target : List ℕ) → HasMeaningOf kind ports base b → HasMeaningOf of_reference ports reference r → resolution_of (components base) (components reference) ≡ Ok target → HasTargetMeaning kind ports b r target
   target_meaning b r target v w e =
       let t = target_alike (meaning_of kind ports) (resolution_of (components b) (components r)) (resolution_of (components base) (components reference)) target (resolve_alike b r v w) e in
       (t.0, (t.1.0, t.1.1))
 
-  refusal_for : (b r : List ℕ) → MeansTheSame kind ports base b → MeansTheSame of_reference ports reference r → (z : Refusal)
+  refusal_for : (b r : List ℕ) → HasMeaningOf kind ports base b → HasMeaningOf of_reference ports reference r → (z : Refusal)
       → resolution_of (components base) (components reference) ≡ Err z → resolution_of (components b) (components r) ≡ Err z
   refusal_for b r v w z e = refusal_alike (meaning_of kind ports) (resolution_of (components b) (components r)) (resolution_of (components base) (components reference)) z (resolve_alike b r v w) e
 
-  ok_for : (b r : List ℕ) → MeansTheSame kind ports base b → MeansTheSame of_reference ports reference r → is_ok (resolution_of (components b) (components r)) ≡ is_ok (resolution_of (components base) (components reference))
+  ok_for : (b r : List ℕ) → HasMeaningOf kind ports base b → HasMeaningOf of_reference ports reference r → is_ok (resolution_of (components b) (components r)) ≡ is_ok (resolution_of (components base) (components reference))
   ok_for b r v w = ok_alike (meaning_of kind ports) (resolution_of (components b) (components r)) (resolution_of (components base) (components reference)) (resolve_alike b r v w)
 
-  refused_for : (allowed : Bool) (b r : List ℕ) (error : ResolveError) → MeansTheSame kind ports base b → MeansTheSame of_reference ports reference r → IsErrorFor allowed (components base) (components reference) error → IsRefusedFor (components b) (components r) error
+  refused_for : (allowed : Bool) (b r : List ℕ) (error : ResolveError) → HasMeaningOf kind ports base b → HasMeaningOf of_reference ports reference r → IsErrorFor allowed (components base) (components reference) error → IsRefusedFor (components b) (components r) error
   refused_for allowed b r error v w h = error_alike allowed (components b) (components r) (components base) (components reference) error (refusal_for b r v w) (ok_for b r v w) h
 
   pub normal_target : (target normal : List ℕ) → resolution_of (components base) (components reference) ≡ Ok target → IsNormalForm kind ports target normal → IsNormalTarget kind of_reference ports base reference normal

@@ -13,7 +13,9 @@ use Rattle.uri_pct.specs.Tokens.{is_valid_for, IsValidFor}
 use Rattle.uri_pct.proofs.ValidTexts.Cuts.{excludes}
 use Rattle.uri_parts.specs.Components.{Lacks, before_any, from_any, starts, marked, when}
 use Rattle.uri_parts.specs.Hosts.{HostKind, Ipv4, Ipv6, IpvFuture, RegName, IsHost, bracketed, host_kind, is_host}
-use Rattle.uri_parts.specs.Authority.{AuthorityParts, authority_text, IsAuthorityFor, KeepsApart, behind_userinfo, host_before, behind_host, authority_parts, is_authority_for}
+use Rattle.uri_parts.specs.Authority.{AuthorityParts, recompose_authority, IsAuthorityFor}
+use Rattle.uri_parts.specs.Authority.{KeepsApart, behind_userinfo, host_before, behind_host}
+use Rattle.uri_parts.specs.Authority.{authority_parts, is_authority_for}
 use Rattle.uri_parts.proofs.Splitting.Cuts.{cut-append, Begins, Lacks-cons}
 use Rattle.uri_parts.proofs.TextKinds.SpeltTexts.{utf8_apart, valid_lacks}
 use Rattle.uri_parts.proofs.HostForms.Futures.{ipv4_lacks, ipv6_lacks, ipv_future_lacks, lacks_append}
@@ -121,11 +123,11 @@ pub is_authority_for-sound : (users names : TableSet) (text : List ℕ) → is_a
 unfolding is_authority_for
 is_authority_for-sound users names text t =
     let p : AuthorityParts = authority_parts text in
-    let a = and_parts (bytes_eq (authority_text p) text) _ t in
+    let a = and_parts (bytes_eq (recompose_authority p) text) _ t in
     let b = and_parts (option_map_or (is_valid_for users) p.userinfo true) _ a.1 in
     let c = and_parts (is_host names p.host) _ b.1 in
     record {
-      whole = (bytes_eq-Decides (authority_text p) text).0 a.0;
+      whole = (bytes_eq-Decides (recompose_authority p) text).0 a.0;
       userinfo = valid_to_some users p.userinfo b.0;
       host = (host_kind p.host, is_host-sound names p.host c.0);
       port = valid_to_some digit_set p.port c.1;
@@ -209,8 +211,8 @@ module _ (users names : TableSet) (apart : KeepsApart users names) where
   is_authority_for-complete text p u h =
       let utf8 = utf8_parts p.userinfo p.port p.host (subst IsUtf8 (sym h.whole) u) in
       let found = is_host-complete names apart.names_percent names_outside p.host h.host.0 utf8.host h.host.1 in
-      let passes = λ (q : AuthorityParts). bytes_eq (authority_text q) text && (option_map_or (is_valid_for users) q.userinfo true && (is_host names q.host && option_map_or (is_valid_for digit_set) q.port true)) in
+      let passes = λ (q : AuthorityParts). bytes_eq (recompose_authority q) text && (option_map_or (is_valid_for users) q.userinfo true && (is_host names q.host && option_map_or (is_valid_for digit_set) q.port true)) in
       subst (λ q. passes q ≡ true) (sym (authority_parts-only text p u h))
-      (and_from _ _ ((bytes_eq-Decides (authority_text p) text).1 h.whole)
+      (and_from _ _ ((bytes_eq-Decides (recompose_authority p) text).1 h.whole)
       (and_from _ _ (valid_from_some users p.userinfo h.userinfo)
       (and_from _ _ found.test (valid_from_some digit_set p.port h.port))))

@@ -13,14 +13,15 @@ use Rattle.uri_parts.specs.Components.{marked}
 use Rattle.std.specs.Str.{chars}
 use Rattle.uri_parts.specs.Components.{starts}
 use Rattle.uri_parts.specs.Hosts.{is_host, host_kind, name_kind, literal_kind, literal_of, ipv4_value, ipv6_value}
-use Rattle.uri_parts.specs.Authority.{AuthorityParts, authority_text, authority_parts, is_authority_for}
+use Rattle.uri_parts.specs.Authority.{AuthorityParts, recompose_authority, authority_parts}
+use Rattle.uri_parts.specs.Authority.{is_authority_for}
 use Rattle.uri_parts.specs.Positions.{host_start_of, host_end_of, marked_length}
 use Rattle.uri_parts.proofs.Splitting.Places.{range-between, get-seam, after_mark}
 use Rattle.std.proofs.lemmas.List.{drop-drop}
 
 -- what the test of an authority says of its parts
 pub record Holds (users names : TableSet) (text : List ℕ) : Type 0 where
-  pub whole : authority_text (authority_parts text) ≡ text
+  pub whole : recompose_authority (authority_parts text) ≡ text
   pub userinfo : option_map_or (is_valid_for users) (authority_parts text).userinfo true ≡ true
   pub host : is_host names (authority_parts text).host ≡ true
   pub port : option_map_or (is_valid_for digit_set) (authority_parts text).port true ≡ true
@@ -29,10 +30,10 @@ pub holds : (users names : TableSet) (text : List ℕ) → is_authority_for user
 unfolding is_authority_for
 holds users names text t =
     let p : AuthorityParts = authority_parts text in
-    let a = and_parts (bytes_eq (authority_text p) text) _ t in
+    let a = and_parts (bytes_eq (recompose_authority p) text) _ t in
     let b = and_parts (option_map_or (is_valid_for users) p.userinfo true) _ a.1 in
     let c = and_parts (is_host names p.host) _ b.1 in
-    record { whole = (bytes_eq-Decides (authority_text p) text).0 a.0; userinfo = b.0; host = c.0; port = c.1 }
+    record { whole = (bytes_eq-Decides (recompose_authority p) text).0 a.0; userinfo = b.0; host = c.0; port = c.1 }
 
 before_ascii : (front rest : List ℕ) (c : ℕ) → c < 128 → IsCharBoundary (front ++ (c ∷ rest)) (length front)
 before_ascii front rest c ascii =

@@ -6,14 +6,18 @@ use Rattle.std.proofs.lemmas.Bool.{cases_Bool, cond-true, cond-false, and_left, 
 use Rattle.std.proofs.lemmas.Bool.Decides.{nat_tests}
 use Rattle.uri_pct.specs.Sets.{TableSet, digit_set}
 use Rattle.uri_pct.specs.Tokens.{is_valid_for}
-use Rattle.uri_pct.specs.Fronts.{front, after}
+use Rattle.uri_pct.specs.Models.Fronts.{front, after}
 use Rattle.uri_pct.proofs.ValidTexts.Cuts.{to_mark, ascii_marks, cut, front_zero_mark}
 use Rattle.uri_pct.proofs.ValidTexts.Fronts.{front-char, front-within}
 use Rattle.uri_parts.specs.declared.positions.AuthorityPositions.{AuthorityPositions}
 use Rattle.uri_parts.specs.Components.{before_any, from_any, starts, Lacks}
 use Rattle.uri_parts.specs.Positions.{authority_at, host_start_of, host_end_of, marked_length}
 use Rattle.uri_parts.specs.Authority.{authority_parts, host_before}
-use Rattle.uri_parts.specs.AuthorityReading.{port_length, name_length, finds_name, host_end, host_length, finds_host, more_user, user_length, passes_user, host_place, from_host, finds_other, finds_authority, other_length, found_length, other_authority, found_authority}
+use Rattle.uri_parts.specs.Models.AuthorityReading.{port_length, name_length, finds_name, host_end}
+use Rattle.uri_parts.specs.Models.AuthorityReading.{host_length, finds_host, more_user, user_length}
+use Rattle.uri_parts.specs.Models.AuthorityReading.{passes_user, host_place, from_host, finds_other}
+use Rattle.uri_parts.specs.Models.AuthorityReading.{finds_authority, other_length, found_length}
+use Rattle.uri_parts.specs.Models.AuthorityReading.{other_authority, found_authority}
 use Rattle.uri_parts.specs.Grammar.{Kind}
 use Rattle.uri_parts.proofs.Authorities.Authority.{cut-none}
 use Rattle.uri_parts.proofs.Authorities.AuthorityCuts.{length-before, behind, behind_mark}

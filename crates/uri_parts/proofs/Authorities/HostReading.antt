@@ -9,14 +9,16 @@ use Rattle.std.proofs.lemmas.Bool.{cases_Bool, cond-true, cond-false, and_left, 
 use Rattle.std.proofs.lemmas.Bool.Decides.{nat_tests}
 use Rattle.uri_pct.specs.Sets.{TableSet, LacksPercent, IsSubset, digit_set, reg_name_set, ipv_future_set, is_one_of}
 use Rattle.uri_pct.specs.Tokens.{is_valid_for}
-use Rattle.uri_pct.specs.Fronts.{front_from, front, after}
+use Rattle.uri_pct.specs.Models.Fronts.{front_from, front, after}
 use Rattle.uri_pct.proofs.ValidTexts.Cuts.{to_mark, excludes, ascii_marks, AreAscii, mark_boundary, cut, valid_where_read, front_zero_mark}
 use Rattle.uri_pct.proofs.ValidTexts.Fronts.{front-char}
 use Rattle.uri_parts.specs.Components.{before_any, from_any, starts, Lacks}
 use Rattle.uri_parts.specs.Hosts.{ipv4_value, ipv6_value, is_ipv_future, bracketed}
-use Rattle.uri_parts.specs.Literals.{reads_literal, literal_length}
+use Rattle.uri_parts.specs.Models.Literals.{reads_literal, literal_length}
 use Rattle.uri_parts.specs.Authority.{host_before}
-use Rattle.uri_parts.specs.AuthorityReading.{is_literal, begins_any, port_length, name_length, finds_name, host_end, host_length, passes_host, finds_host}
+use Rattle.uri_parts.specs.Models.AuthorityReading.{is_literal, begins_any, port_length}
+use Rattle.uri_parts.specs.Models.AuthorityReading.{name_length, finds_name, host_end, host_length}
+use Rattle.uri_parts.specs.Models.AuthorityReading.{passes_host, finds_host}
 use Rattle.uri_parts.specs.Grammar.{Kind}
 use Rattle.uri_parts.proofs.HostForms.Addresses.{ipv4_value-sound, ipv6_value-sound}
 use Rattle.uri_parts.proofs.Authorities.Authority.{host_cut, lacks_nil, lacks_at_bracketed}

@@ -6,7 +6,7 @@ use Rattle.std.proofs.NetLemmas.Options.{map_some}
 use Rattle.std.proofs.NetLemmas.Ipv4.{read_ipv4_sound}
 use Rattle.std.specs.Net.Addr.{segments_of}
 use Rattle.std.specs.Net.Reader.{Segments, read_segments, read_byte, read_ipv6, read_separator, read_ipv4_if, read_segment}
-use Rattle.uri_parts.specs.Literals.{AreCounted}
+use Rattle.uri_parts.specs.Models.Literals.{AreCounted}
 
 map_none : {A B : Type 0} (f : A → B) (o : Option A) → option_map f o ≡ None → o ≡ None
 map_none f None e = refl

@@ -9,7 +9,7 @@ use Rattle.std.proofs.NetLemmas.Options.{map_some}
 use Rattle.std.proofs.NetLemmas.Ipv6.{EndsGroups, read_ipv6_complete, read_ipv6_sound}
 use Rattle.uri_parts.specs.Components.{starts, before_any, from_any}
 use Rattle.uri_parts.specs.Hosts.{ipv6_value, is_ipv_future}
-use Rattle.uri_parts.specs.Literals.{reads_literal, literal_length}
+use Rattle.uri_parts.specs.Models.Literals.{reads_literal, literal_length}
 use Rattle.uri_parts.proofs.Splitting.Cuts.{Begins, IsCut-any, cut-append}
 use Rattle.uri_parts.proofs.HostForms.Addresses.{ipv6_value-complete, ipv6_value-sound}
 use Rattle.uri_parts.proofs.HostForms.Futures.{ipv6_lacks}

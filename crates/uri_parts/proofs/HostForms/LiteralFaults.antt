@@ -7,7 +7,7 @@ use Rattle.uri_parts.specs.declared.error.ParseErrorKind.{ParseErrorKind}
 use Rattle.uri_parts.specs.declared.error.ParseErrorKind.TheVariants.{InvalidPctEncodedOctet, UnexpectedChar, InvalidIpv6Addr}
 use Rattle.uri_parts.specs.Components.{starts}
 use Rattle.uri_parts.specs.Errors.{IsErrorIn, IsFault}
-use Rattle.uri_parts.specs.Literals.{IsLiteralRefusal, IsLiteralFault}
+use Rattle.uri_parts.specs.Models.Literals.{IsLiteralRefusal, IsLiteralFault}
 
 first_is : (mark : ℕ) (text : List ℕ) → starts mark text ≡ true → get_or text 0 0 ≡ mark
 first_is mark [] e = absurd (false≢true e)

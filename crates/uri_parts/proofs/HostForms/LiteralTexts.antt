@@ -13,8 +13,8 @@ use Rattle.uri_pct.specs.Sets.{is_one_of, hexdig_set, ipv_future_set}
 use Rattle.uri_pct.specs.Tokens.{is_valid_for}
 use Rattle.uri_parts.specs.Components.{starts, before_any, from_any}
 use Rattle.uri_parts.specs.Hosts.{ipv6_value, is_ipv_future, is_future_address}
-use Rattle.uri_parts.specs.AuthorityReading.{is_literal}
-use Rattle.uri_parts.specs.Literals.{literal_before, reads_literal, literal_length}
+use Rattle.uri_parts.specs.Models.AuthorityReading.{is_literal}
+use Rattle.uri_parts.specs.Models.Literals.{literal_before, reads_literal, literal_length}
 
 same_test : (mark c : ℕ) → eqb c mark ≡ is_one_of (mark ∷ []) c
 same_test mark c = grind (arith, nat_tests)

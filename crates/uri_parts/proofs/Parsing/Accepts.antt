@@ -9,7 +9,8 @@ use Rattle.uri_pct.specs.Tokens.{is_valid_for}
 use Rattle.uri_pct.proofs.ValidTexts.Cuts.{ascii_marks, from_mark, other_len}
 use Rattle.uri_parts.specs.Components.{before_any, from_any, starts, when, after_query}
 use Rattle.uri_parts.specs.Grammar.{Kind, if_some}
-use Rattle.uri_parts.specs.Reading.{reads_after, is_end, reads_fragment, reads_end, reads_path}
+use Rattle.uri_parts.specs.Models.Reading.{reads_after, is_end, reads_fragment, reads_end}
+use Rattle.uri_parts.specs.Models.Reading.{reads_path}
 use Rattle.uri_parts.proofs.Parsing.ReadingStops.{piece, utf8_from, utf8_tail}
 use Rattle.uri_parts.proofs.TextKinds.Separations.{Separates}
 use Rattle.uri_pct.proofs.ValidTexts.Fronts.{none_read}

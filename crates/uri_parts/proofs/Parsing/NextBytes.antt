@@ -5,11 +5,12 @@ use Rattle.std.proofs.lemmas.List.{drop_more, drop_all, drop-drop}
 use Rattle.std.specs.Prelude.{codes}
 use Rattle.std.proofs.lemmas.Bool.Decides.{nat_tests}
 use Rattle.uri_pct.specs.Sets.{TableSet, is_one_of}
-use Rattle.uri_pct.specs.Fronts.{front, after, IsStrayPercent}
+use Rattle.uri_pct.specs.Models.Fronts.{front, after}
+use Rattle.uri_pct.specs.PercentSigns.{IsStrayPercent}
 use Rattle.uri_pct.proofs.ValidTexts.Fronts.{front-after, stray-digits}
 use Rattle.uri_parts.specs.Components.{starts}
-use Rattle.uri_parts.specs.AuthorityReading.{begins_any}
-use Rattle.uri_parts.specs.Reading.{is_end}
+use Rattle.uri_parts.specs.Models.AuthorityReading.{begins_any}
+use Rattle.uri_parts.specs.Models.Reading.{is_end}
 
 pub starts_at : (mark i : ℕ) (text : List ℕ) → starts mark (drop i text) ≡ (ltb i (length text) && eqb (get_or text i 0) mark)
 starts_at mark i text = ⊎_elim

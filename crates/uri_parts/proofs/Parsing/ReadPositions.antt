@@ -5,7 +5,7 @@ use Rattle.std.specs.Char.{is_ascii_alphabetic}
 use Rattle.std.specs.Str.{IsUtf8}
 use Rattle.std.proofs.lemmas.Bool.{cases_Bool, cond-true, cond-false, and_left, and_from, and_parts, ne_eqb, both_ways, not_from_false, false_from_ne_true}
 use Rattle.uri_pct.specs.Sets.{TableSet, LacksPercent, is_one_of, scheme_set}
-use Rattle.uri_pct.specs.Fronts.{front, after}
+use Rattle.uri_pct.specs.Models.Fronts.{front, after}
 use Rattle.uri_pct.proofs.ValidTexts.Cuts.{to_mark, excludes, ascii_marks}
 use Rattle.uri_pct.proofs.ValidTexts.Fronts.{front-within}
 use Rattle.uri_parts.specs.declared.positions.Positions.{Positions}
@@ -13,8 +13,12 @@ use Rattle.uri_parts.specs.declared.positions.AuthorityPositions.{AuthorityPosit
 use Rattle.uri_parts.specs.Components.{before_any, from_any, starts, has_authority, has_scheme, after_authority, components, when}
 use Rattle.uri_parts.specs.Positions.{positions_of, marked_length, authority_at}
 use Rattle.uri_parts.specs.Grammar.{Kind}
-use Rattle.uri_parts.specs.AuthorityReading.{finds_authority, found_length}
-use Rattle.uri_parts.specs.Reading.{is_stray, reads_fragment, reads_end, reads_path, reads_authority, reads_relative, reads_hier, reads_schemeless, reads, query_end_at, path_positions, authority_positions, hier_positions, relative_positions, schemeless_positions, read_positions}
+use Rattle.uri_parts.specs.Models.AuthorityReading.{finds_authority, found_length}
+use Rattle.uri_parts.specs.Models.Reading.{is_stray, reads_fragment, reads_end, reads_path}
+use Rattle.uri_parts.specs.Models.Reading.{reads_authority, reads_relative, reads_hier}
+use Rattle.uri_parts.specs.Models.Reading.{reads_schemeless, reads, query_end_at, path_positions}
+use Rattle.uri_parts.specs.Models.Reading.{authority_positions, hier_positions, relative_positions}
+use Rattle.uri_parts.specs.Models.Reading.{schemeless_positions, read_positions}
 use Rattle.uri_parts.proofs.Parsing.ReadingStops.{stop_cases, utf8_from, utf8_past, utf8_slashes}
 use Rattle.uri_parts.proofs.Authorities.AuthorityCuts.{length-before}
 use Rattle.uri_parts.proofs.TextKinds.Separations.{Separates}

@@ -7,11 +7,11 @@ use Rattle.std.proofs.lemmas.List.Sums.{prefix_len-le-length, prefix_len_passes}
 use Rattle.std.proofs.lemmas.Bool.{and_left, and_right, and_parts, eq-eqb, eqb-true, ne_eqb, not-true, cases_eq, false≢true}
 use Rattle.uri_pct.specs.Sets.{TableSet, LacksPercent, is_one_of}
 use Rattle.uri_pct.specs.Tokens.{is_valid_for}
-use Rattle.uri_pct.specs.Fronts.{front, after}
+use Rattle.uri_pct.specs.Models.Fronts.{front, after}
 use Rattle.uri_pct.proofs.ValidTexts.Cuts.{AreAscii, to_mark, excludes, mark_percent, mark_boundary, from_mark, cut, front_le_mark}
 use Rattle.uri_pct.proofs.ValidTexts.Fronts.{front-after}
 use Rattle.uri_parts.specs.Components.{before_any, from_any, starts, has_authority}
-use Rattle.uri_parts.specs.Reading.{is_stray, reads_after}
+use Rattle.uri_parts.specs.Models.Reading.{is_stray, reads_after}
 
 pub utf8_from : (marks bs : List ℕ) → AreAscii marks → IsUtf8 bs → IsUtf8 (from_any marks bs)
 utf8_from marks bs ascii u = IsUtf8-drop bs _ u (mark_boundary marks ascii bs)

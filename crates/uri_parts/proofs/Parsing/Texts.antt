@@ -6,11 +6,12 @@ use Rattle.std.specs.Str.{IsUtf8}
 use Rattle.std.proofs.lemmas.Bool.{cases_Bool, cond-true, cond-false, and_left, and_right, and_from, and_parts, eq-eqb, eqb-true, ne_eqb, not_from_true, not_from_false, not-true, both_ways, false≢true, false_from_ne_true, or_left}
 use Rattle.uri_pct.specs.Sets.{TableSet, is_one_of, scheme_set}
 use Rattle.uri_pct.specs.Tokens.{is_valid_for}
-use Rattle.uri_pct.specs.Fronts.{front, after}
+use Rattle.uri_pct.specs.Models.Fronts.{front, after}
 use Rattle.uri_pct.proofs.ValidTexts.Cuts.{ascii_marks, to_mark, cut, front_zero_mark}
 use Rattle.uri_parts.specs.Components.{before_any, from_any, starts, has_authority, has_scheme, after_scheme, after_authority, components, when}
 use Rattle.uri_parts.specs.Grammar.{Kind, if_some, is_scheme, is_authority, has_colon_first, is_of_kind}
-use Rattle.uri_parts.specs.Reading.{reads_path, reads_authority, reads_relative, reads_hier, reads_schemeless, reads}
+use Rattle.uri_parts.specs.Models.Reading.{reads_path, reads_authority, reads_relative, reads_hier}
+use Rattle.uri_parts.specs.Models.Reading.{reads_schemeless, reads}
 use Rattle.uri_parts.proofs.Parsing.ReadingStops.{utf8_from, utf8_past, utf8_slashes}
 use Rattle.uri_parts.proofs.TextKinds.Separations.{Separates}
 use Rattle.uri_parts.proofs.Parsing.Accepts.{fragment_ok, end_ok, path_lemma}

@@ -6,8 +6,8 @@ use Rattle.std.proofs.lemmas.Bool.{cases_Bool, cond-true, and_left}
 use Rattle.uri_pct.specs.Sets.{TableSet}
 use Rattle.uri_parts.specs.Components.{before_any, from_any, has_authority, after_authority, when}
 use Rattle.uri_parts.specs.Grammar.{Kind, if_some, is_authority}
-use Rattle.uri_parts.specs.AuthorityReading.{found_length, finds_authority}
-use Rattle.uri_parts.specs.Reading.{reads_path, reads_authority, reads_hier}
+use Rattle.uri_parts.specs.Models.AuthorityReading.{found_length, finds_authority}
+use Rattle.uri_parts.specs.Models.Reading.{reads_path, reads_authority, reads_hier}
 use Rattle.uri_parts.proofs.Authorities.AuthorityCuts.{length-before}
 use Rattle.uri_parts.proofs.Authorities.FoundAuthorities.{accepts, is_found}
 use Rattle.uri_parts.proofs.TextKinds.Separations.{Separates}

@@ -78,16 +78,16 @@ LiesAt-behind_mark text before part behind c start end whole at_start at_end asc
 abbrev pub scheme_text : Option (List ℕ) → List ℕ
 scheme_text scheme = marked [] scheme (codes ":")
 
-abbrev pub authority_text : Option (List ℕ) → List ℕ
-authority_text authority = marked (codes "//") authority []
+abbrev pub marked_authority : Option (List ℕ) → List ℕ
+marked_authority authority = marked (codes "//") authority []
 
 length-scheme_text : (scheme : Option (List ℕ)) → length (scheme_text scheme) ≡ marked_length 1 scheme
 length-scheme_text None = refl
 length-scheme_text (Some s) = omega (arith, length-append s (codes ":"))
 
-length-authority_text : (authority : Option (List ℕ)) → length (authority_text authority) ≡ marked_length 2 authority
-length-authority_text None = refl
-length-authority_text (Some a) = omega (arith, length-append a [])
+length-marked_authority : (authority : Option (List ℕ)) → length (marked_authority authority) ≡ marked_length 2 authority
+length-marked_authority None = refl
+length-marked_authority (Some a) = omega (arith, length-append a [])
 
 length-query_text : (query : Option (List ℕ)) → length (marked (codes "?") query []) ≡ marked_length 1 query
 length-query_text None = refl
@@ -108,7 +108,7 @@ pub hash_mark : (text : List ℕ) → Begins (codes "#") text → Begins (codes 
 hash_mark text begins = Begins-more (codes "#") (codes ":/?#") text (λ c e. grind (arith, nat_tests)) begins
 
 -- the authority
-authority_lies : (text : List ℕ) (scheme : Option (List ℕ)) (a path behind : List ℕ) → text ≡ scheme_text scheme ++ (authority_text (Some a) ++ (path ++ behind)) → IsUtf8 text
+authority_lies : (text : List ℕ) (scheme : Option (List ℕ)) (a path behind : List ℕ) → text ≡ scheme_text scheme ++ (marked_authority (Some a) ++ (path ++ behind)) → IsUtf8 text
     → IsRooted path → Begins (codes "?#") behind → LiesAt text (marked_length 1 scheme + 2) (marked_length 1 scheme + 2 + length a) (Some a)
 authority_lies text scheme a path behind whole utf8 rooted begins =
     let front : List ℕ = scheme_text scheme ++ (47 ∷ []) in
@@ -119,7 +119,7 @@ authority_lies text scheme a path behind whole utf8 rooted begins =
     (any_mark (path ++ behind) (Begins-rooted path behind rooted begins))
 
 -- the path
-path_starts : (text : List ℕ) (scheme authority : Option (List ℕ)) (path behind : List ℕ) → text ≡ scheme_text scheme ++ (authority_text authority ++ (path ++ behind)) → IsUtf8 text
+path_starts : (text : List ℕ) (scheme authority : Option (List ℕ)) (path behind : List ℕ) → text ≡ scheme_text scheme ++ (marked_authority authority ++ (path ++ behind)) → IsUtf8 text
     → IfSome authority (λ a. IsRooted path) → Begins (codes "?#") behind → IsCharBoundary text (marked_length 1 scheme + marked_length 2 authority)
 path_starts text scheme (Some a) path behind whole utf8 rooted begins =
     let n : marked_length 1 scheme + 2 + length a ≡ marked_length 1 scheme + marked_length 2 (Some a) = omega arith in
@@ -131,26 +131,26 @@ path_starts text (Some s) None path behind whole utf8 rooted begins =
     let n : length s + 1 ≡ 1 + length s + 0 = omega arith in
     subst (IsCharBoundary text) n (rw joined (after_mark s (path ++ behind) 58 (omega arith) valid))
 
-path_lies : (text : List ℕ) (scheme authority : Option (List ℕ)) (path behind : List ℕ) → text ≡ scheme_text scheme ++ (authority_text authority ++ (path ++ behind)) → IsUtf8 text
+path_lies : (text : List ℕ) (scheme authority : Option (List ℕ)) (path behind : List ℕ) → text ≡ scheme_text scheme ++ (marked_authority authority ++ (path ++ behind)) → IsUtf8 text
     → IfSome authority (λ a. IsRooted path) → Begins (codes "?#") behind
     → LiesAt text (marked_length 1 scheme + marked_length 2 authority) (marked_length 1 scheme + marked_length 2 authority + length path) (Some path)
 path_lies text scheme authority path behind whole utf8 rooted begins =
     let start : ℕ = marked_length 1 scheme + marked_length 2 authority in
-    let front : List ℕ = scheme_text scheme ++ authority_text authority in
-    let joined : text ≡ front ++ (path ++ behind) = whole ∙ sym (append_assoc (scheme_text scheme) (authority_text authority) (path ++ behind)) in
-    let n : start ≡ length front = omega (arith, length-append (scheme_text scheme) (authority_text authority), length-scheme_text scheme, length-authority_text authority) in
+    let front : List ℕ = scheme_text scheme ++ marked_authority authority in
+    let joined : text ≡ front ++ (path ++ behind) = whole ∙ sym (append_assoc (scheme_text scheme) (marked_authority authority) (path ++ behind)) in
+    let n : start ≡ length front = omega (arith, length-append (scheme_text scheme) (marked_authority authority), length-scheme_text scheme, length-marked_authority authority) in
     LiesAt-between text front path behind start (start + length path) joined n refl (path_starts text scheme authority path behind whole utf8 rooted begins) (end_mark behind begins)
 
 -- the text up to the end of the path
 abbrev pub hierarchy_text : Option (List ℕ) → Option (List ℕ) → List ℕ → List ℕ
-hierarchy_text scheme authority path = (scheme_text scheme ++ authority_text authority) ++ path
+hierarchy_text scheme authority path = (scheme_text scheme ++ marked_authority authority) ++ path
 
 length-hierarchy_text : (scheme authority : Option (List ℕ)) (path : List ℕ) → length (hierarchy_text scheme authority path) ≡ marked_length 1 scheme + marked_length 2 authority + length path
-length-hierarchy_text scheme authority path = omega (arith, length-append (scheme_text scheme ++ authority_text authority) path, length-append (scheme_text scheme) (authority_text authority), length-scheme_text scheme, length-authority_text authority)
+length-hierarchy_text scheme authority path = omega (arith, length-append (scheme_text scheme ++ marked_authority authority) path, length-append (scheme_text scheme) (marked_authority authority), length-scheme_text scheme, length-marked_authority authority)
 
-hierarchy-append : (scheme authority : Option (List ℕ)) (path behind : List ℕ) → scheme_text scheme ++ (authority_text authority ++ (path ++ behind)) ≡ hierarchy_text scheme authority path ++ behind
+hierarchy-append : (scheme authority : Option (List ℕ)) (path behind : List ℕ) → scheme_text scheme ++ (marked_authority authority ++ (path ++ behind)) ≡ hierarchy_text scheme authority path ++ behind
 hierarchy-append scheme authority path behind =
-    sym (append_assoc (scheme_text scheme) (authority_text authority) (path ++ behind)) ∙ sym (append_assoc (scheme_text scheme ++ authority_text authority) path behind)
+    sym (append_assoc (scheme_text scheme) (marked_authority authority) (path ++ behind)) ∙ sym (append_assoc (scheme_text scheme ++ marked_authority authority) path behind)
 
 -- a query behind the end of the path
 query_lies : (text hierarchy q behind : List ℕ) → text ≡ hierarchy ++ (marked (codes "?") (Some q) [] ++ behind) → IsUtf8 text → Begins (codes "#") behind

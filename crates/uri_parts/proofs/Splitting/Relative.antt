@@ -7,12 +7,12 @@ use Rattle.std.proofs.lemmas.List.{drop-drop}
 use Rattle.std.proofs.lemmas.Bool.{cases_Bool, cond-true, cond-false, and_left, and_right, and_parts, eqb-true, not_from_true, not-false, both_ways, false≢true, and_cases, false_from_ne_true, or_left}
 use Rattle.std.proofs.lemmas.Bool.Decides.{nat_tests}
 use Rattle.uri_pct.specs.Sets.{TableSet, LacksPercent, is_one_of, scheme_set}
-use Rattle.uri_pct.specs.Fronts.{front_from, front, after, allows_first, begins_hex}
+use Rattle.uri_pct.specs.Models.Fronts.{front_from, front, after, allows_first, begins_hex}
 use Rattle.uri_pct.proofs.ValidTexts.Cuts.{to_mark, excludes, front_zero_mark, front_cons, other_len, mark_len}
 use Rattle.uri_pct.proofs.ValidTexts.Fronts.{front-after, front-within, none_read}
 use Rattle.uri_parts.specs.Components.{before_any, from_any, starts, has_scheme}
 use Rattle.uri_parts.specs.Grammar.{Kind, has_colon_first}
-use Rattle.uri_parts.specs.Reading.{is_stray, reads_end, reads_path, reads_relative}
+use Rattle.uri_parts.specs.Models.Reading.{is_stray, reads_end, reads_path, reads_relative}
 use Rattle.uri_parts.proofs.Parsing.ReadingStops.{stop_cases}
 use Rattle.uri_parts.proofs.TextKinds.Separations.{Separates}
 use Rattle.uri_parts.proofs.Parsing.Accepts.{end_stuck}

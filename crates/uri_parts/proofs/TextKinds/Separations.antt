@@ -2,7 +2,7 @@
 use Rattle.std.proofs.Common.{◌≡◌, ℕ, true, false, List}
 use Rattle.std.specs.Prelude.{codes}
 use Rattle.uri_pct.specs.Sets.{TableSet, LacksPercent, IsSubset, is_one_of, scheme_set, digit_set, reg_name_set}
-use Rattle.uri_pct.specs.Fronts.{allows_first}
+use Rattle.uri_pct.specs.Models.Fronts.{allows_first}
 use Rattle.uri_pct.proofs.ValidTexts.Cuts.{excludes}
 use Rattle.uri_parts.specs.Grammar.{Kind}
 

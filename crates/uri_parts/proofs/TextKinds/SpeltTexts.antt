@@ -7,7 +7,7 @@ use Rattle.std.proofs.lemmas.List.{take_all}
 use Rattle.std.proofs.lemmas.Bool.{and_parts, eqb-true, not-true}
 use Rattle.uri_pct.specs.Sets.{TableSet, LacksPercent, is_one_of}
 use Rattle.uri_pct.specs.Tokens.{is_valid_for}
-use Rattle.uri_pct.specs.Fronts.{front}
+use Rattle.uri_pct.specs.Models.Fronts.{front}
 use Rattle.uri_pct.proofs.ValidTexts.Cuts.{to_mark, excludes, of_each, front_le_mark, valid_where_read}
 use Rattle.uri_parts.specs.Components.{Lacks, before_any}
 use Rattle.uri_parts.proofs.Splitting.Cuts.{IsCut-any}

@@ -6,7 +6,7 @@ use Rattle.std.specs.Str.{IsUtf8}
 use Rattle.std.proofs.lemmas.List.{append-nil}
 use Rattle.uri_pct.specs.Parts.{Part, Plain, pieces_of}
 use Rattle.uri_pct.specs.Pieces.{is_well_formed, bytes_of_pieces, lossy_piece, utf8_pieces}
-use Rattle.uri_pct.specs.TakenBytes.{TookBytes, TookText}
+use Rattle.uri_pct.specs.Models.TakenBytes.{TookBytes, TookText}
 use Rattle.uri_pct.specs.declared.decode_text.Bytes.{Bytes}
 use Rattle.uri_pct.specs.declared.decode_text.LossyText.{LossyText}
 use Rattle.uri_pct.specs.Chunks.{widest_set}

@@ -3,8 +3,8 @@ use Rattle.std.proofs.Common.{◌≡◌, ℕ, zero, suc, ◌+◌, ◌-◌, ◌<�
 use Rattle.std.specs.Str.{IsUtf8, IsCharBoundary}
 use Rattle.std.proofs.lemmas.Str.{IsCharBoundary-after_ascii}
 use Rattle.uri_pct.specs.Sets.{TableSet, LacksPercent}
-use Rattle.uri_pct.specs.Fronts.{front}
-use Rattle.uri_pct.specs.ByteRuns.{IsRun}
+use Rattle.uri_pct.specs.Models.Fronts.{front}
+use Rattle.uri_pct.specs.Models.ByteRuns.{IsRun}
 use Rattle.uri_pct.proofs.ValidTexts.Fronts.{front-char}
 
 module _ (set : TableSet) (lacks : LacksPercent set) (ascii : (b : ℕ) → set.ascii b ≡ true → b < 128) (bs : List ℕ) (u : IsUtf8 bs) (start : ℕ) (here : IsCharBoundary bs start) where

@@ -13,7 +13,7 @@ use Rattle.std.proofs.lemmas.Grind.{get_or_default_zero}
 use Rattle.std.proofs.Math.ListN.{get_or-map}
 use Rattle.uri_pct.specs.Masks.{has_bit}
 use Rattle.uri_pct.proofs.TableSets.Masks.{has_low_bit, has_high_bit, has_no_bit}
-use Rattle.uri_pct.specs.LaneMasks.{bytes_of_masks, bit_of}
+use Rattle.uri_pct.specs.Models.LaneMasks.{bytes_of_masks, bit_of}
 
 -- byte j of a number has its bits from 8 * j on
 digit : (n x j : ℕ) → j < n → get_or (digits_l (2 ^ 8) n x) j 0 ≡ x / 2 ^ (8 * j) % 2 ^ 8

@@ -8,7 +8,7 @@ use Rattle.std.proofs.lemmas.Simd.{bit_mask_l, mask_l-lt, get_or-chunk, length-c
 use Rattle.std.proofs.lemmas.Bool.{cases_lt}
 use Rattle.std.proofs.lemmas.List.{get_or_default, length-map}
 use Rattle.std.proofs.Math.ListN.{get_or-map}
-use Rattle.uri_pct.specs.ByteRuns.{IsRun}
+use Rattle.uri_pct.specs.Models.ByteRuns.{IsRun}
 
 -- bit k of the mask is set where the byte at i + k does not pass, for w bytes
 pub record LaneMarks (test : ℕ → Bool) (bs : List ℕ) (i w mask : ℕ) : Type 0 where

@@ -5,8 +5,8 @@ use Rattle.std.specs.Char.{is_ascii_hexdigit}
 use Rattle.std.proofs.lemmas.Nat.{or_lt}
 use Rattle.std.proofs.lemmas.Nat.Bits.{bit_at_and, bit_at_above}
 use Rattle.std.proofs.lemmas.Bool.{cases_lt, both_ways, eqb-true, eq-eqb, and_from, or_from, or_parts}
-use Rattle.uri_pct.specs.Fronts.{has_digits}
-use Rattle.uri_pct.specs.ByteRuns.{AreSpelt}
+use Rattle.uri_pct.specs.PercentSigns.{has_digits}
+use Rattle.uri_pct.specs.Models.ByteRuns.{AreSpelt}
 use Rattle.uri_pct.specs.Masks.{has_bit}
 use Rattle.uri_pct.proofs.TableSets.Masks.{or_test, without_test}
 use Rattle.uri_pct.proofs.TableSets.Constants.{hexdig_table}

@@ -8,7 +8,7 @@ use Rattle.std.proofs.lemmas.Bool.Decides.{nat_tests}
 use Rattle.std.proofs.lemmas.List.{get_or-drop, length-drop}
 use Rattle.std.proofs.lemmas.Str.{IsUtf8-drop, IsCharBoundary-past_char, drop_past_char}
 use Rattle.uri_pct.specs.Sets.{TableSet, allows_past_ascii, is_ucschar}
-use Rattle.uri_pct.specs.Fronts.{front}
+use Rattle.uri_pct.specs.Models.Fronts.{front}
 use Rattle.uri_pct.proofs.ValidTexts.Fronts.{front-past-at}
 use Rattle.uri_pct.proofs.TableSets.Ranges.{is_low_ucschar, ucschar_low}
 

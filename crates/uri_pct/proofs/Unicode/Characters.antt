@@ -7,7 +7,7 @@ use Rattle.std.specs.Str.{encode_utf8_all, all_scalars, continuation_len}
 use Rattle.std.proofs.lemmas.Str.{chars-encodes, encode_ascii}
 use Rattle.std.proofs.lemmas.Bool.{cases_lt, cond-true, cond-false, and_left, and_from, lt-ltb, le-ltb}
 use Rattle.std.proofs.lemmas.Bool.Decides.{nat_tests}
-use Rattle.uri_pct.specs.Fronts.{begins_hex, first_char}
+use Rattle.uri_pct.specs.Models.Fronts.{begins_hex, first_char}
 
 -- a byte that is not ASCII
 abbrev pub is_high : ℕ → Bool

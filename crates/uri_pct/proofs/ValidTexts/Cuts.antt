@@ -11,7 +11,7 @@ use Rattle.std.proofs.lemmas.Bool.{not-false, or_cases, cases_lt, cases_Bool, co
 use Rattle.std.proofs.lemmas.Bool.Decides.{nat_tests}
 use Rattle.uri_pct.specs.Sets.{TableSet, LacksPercent, is_one_of}
 use Rattle.uri_pct.specs.Tokens.{is_valid_for}
-use Rattle.uri_pct.specs.Fronts.{begins_hex, first_char, allows_first, front_from, front}
+use Rattle.uri_pct.specs.Models.Fronts.{begins_hex, first_char, allows_first, front_from, front}
 use Rattle.uri_pct.proofs.Unicode.Characters.{bytes_of_char, is_high}
 use Rattle.uri_pct.proofs.ValidTexts.Validity.{valid_from, valid_cons, is_valid_for-bytes, allows_first-ascii}
 

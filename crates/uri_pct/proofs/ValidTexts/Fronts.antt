@@ -6,7 +6,9 @@ use Rattle.std.proofs.lemmas.Str.{length-encode, chars_past_char, IsUtf8-drop}
 use Rattle.std.proofs.lemmas.List.{at_drop_more, get_or-drop, drop_all}
 use Rattle.std.proofs.lemmas.Bool.{cases_Bool, cases_lt, cond-true, cond-false, and_from, and_left, and_right, and_parts, or_left, or_right, or_cases, or_from, or_parts, eq-eqb, eqb-true, ne_eqb, lt-ltb, le-ltb, both_ways}
 use Rattle.uri_pct.specs.Sets.{TableSet, LacksPercent, IsSubset, allows_past_ascii}
-use Rattle.uri_pct.specs.Fronts.{begins_hex, first_char, allows_first, front_from, front, after, has_digits, may_go_on}
+use Rattle.uri_pct.specs.Models.Fronts.{begins_hex, first_char, allows_first, front_from, front}
+use Rattle.uri_pct.specs.Models.Fronts.{after, may_go_on}
+use Rattle.uri_pct.specs.PercentSigns.{has_digits}
 use Rattle.uri_pct.proofs.Unicode.Characters.{bytes_of_char, hex_ascii}
 use Rattle.uri_pct.proofs.ValidTexts.Validity.{allows_first-ascii, allows_first-past}
 use Rattle.uri_pct.proofs.ValidTexts.Cuts.{front_cons}

@@ -7,7 +7,7 @@ use Rattle.std.proofs.lemmas.Bool.{cases_Bool, cases_lt, cond-true, cond-false, 
 use Rattle.std.proofs.lemmas.List.{append-nil, drop-drop, drop_all, map-append}
 use Rattle.std.proofs.lemmas.Str.{encode_ascii, length-encode, IsUtf8-drop}
 use Rattle.uri_pct.specs.Sets.{TableSet, allows, allows_past_ascii}
-use Rattle.uri_pct.specs.Fronts.{front_from, front}
+use Rattle.uri_pct.specs.Models.Fronts.{front_from, front}
 use Rattle.uri_pct.specs.Tokens.{Octet, print}
 use Rattle.uri_pct.specs.Encoding.{encode_char, encode_text, IsEncodedBy}
 use Rattle.uri_pct.proofs.Unicode.Characters.{lead, bytes_of_char}

@@ -5,8 +5,9 @@ use Rattle.std.specs.Str.{IsUtf8, IsCharBoundary}
 use Rattle.std.proofs.lemmas.Str.{IsCharBoundary-after_ascii}
 use Rattle.std.proofs.lemmas.Bool.{cases_Bool, cases_lt, and_parts, both_ways, false_from_ne_true}
 use Rattle.uri_pct.specs.Sets.{TableSet, LacksPercent}
-use Rattle.uri_pct.specs.Fronts.{front, has_digits}
-use Rattle.uri_pct.specs.ByteRuns.{AreSpelt}
+use Rattle.uri_pct.specs.Models.Fronts.{front}
+use Rattle.uri_pct.specs.PercentSigns.{has_digits}
+use Rattle.uri_pct.specs.Models.ByteRuns.{AreSpelt}
 use Rattle.uri_pct.proofs.ValidTexts.Fronts.{front-char, front-octet, digits-ascii}
 
 -- bytes and octets that are lanes from i on, of which octets begin where `oct` tells

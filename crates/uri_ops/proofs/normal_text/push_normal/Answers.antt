@@ -10,7 +10,7 @@ use Rattle.uri_ops.specs.Meaning.{authority_meaning}
 use Rattle.uri_ops.specs.Normal.{normal_authority, normal_parts}
 use Rattle.uri_ops.specs.NormalPaths.{path_text}
 use Rattle.uri_ops.specs.NormalPorts.{default_of}
-use Rattle.uri_ops.specs.Written.{parts_at}
+use Rattle.uri_ops.specs.Models.Written.{parts_at}
 use Rattle.uri_ops.proofs.Normal.WrittenPlaces.{normal_placed}
 use Rattle.uri_ops.proofs.Builders.BuilderGrowth.{string_length}
 use Rattle.uri_ops.proofs.Normal.NormalPieces.{normal_written, some_twice}

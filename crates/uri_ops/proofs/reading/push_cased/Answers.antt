@@ -5,7 +5,7 @@ use Rattle.std.proofs.lemmas.Str.{IsCharBoundary-at_seam}
 use Rattle.uri_pct.specs.Reading.{read_tokens}
 use Rattle.uri_pct.specs.Tables.{set_of}
 use Rattle.uri_pct.specs.Tokens.{tokens, print}
-use Rattle.uri_ops.specs.Readings.{cased}
+use Rattle.uri_ops.specs.Models.Readings.{cased}
 use Rattle.uri_ops.proofs.Meanings.WrittenFormatting.{IsUtf8-cased, written_behind, written_cased, unwritten_cased}
 use Rattle.uri_ops.proofs.reading.push_cased.Goals as goal
 

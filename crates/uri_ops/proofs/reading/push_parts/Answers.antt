@@ -2,7 +2,7 @@ use Rattle.std.proofs.Common.{ap, subst, string_bytes}
 use Rattle.std.proofs.lemmas.Result.{on_ok_weaker}
 use Rattle.uri_pct.specs.Parts.{parts}
 use Rattle.uri_ops.specs.declared.reading.Reading.{Reading}
-use Rattle.uri_ops.specs.Readings.{TookReading}
+use Rattle.uri_ops.specs.Models.Readings.{TookReading}
 use Rattle.uri_ops.proofs.Meanings.TakenReadings.{taken_whole}
 use Rattle.uri_ops.proofs.reading.push_parts.Goals as goal
 

@@ -1,5 +1,5 @@
 use Rattle.std.proofs.Common.{sym, ◌∙◌}
-use Rattle.uri_parts.specs.Grammars.{kind_of, segment_nz_nc_of}
+use Rattle.uri_parts.specs.KindTables.{kind_of, segment_nz_nc_of}
 use Rattle.uri_parts.proofs.Theorems.{answered, whole_positions, whole_read}
 use Rattle.uri_parts.proofs.parse.parse.Goals as goal
 

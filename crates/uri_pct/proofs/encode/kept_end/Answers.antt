@@ -1,5 +1,5 @@
 use Rattle.std.proofs.Common.{◌≡◌, ◌+◌, drop, ap, ◌∙◌}
-use Rattle.uri_pct.specs.Fronts.{front}
+use Rattle.uri_pct.specs.Models.Fronts.{front}
 use Rattle.uri_pct.specs.Tables.{set_of}
 use Rattle.uri_pct.proofs.ValidTexts.KeptFronts.{plain_set, kept_from, refused_behind}
 use Rattle.uri_pct.proofs.encode.kept_end.Goals as goal

@@ -1,7 +1,7 @@
 use Rattle.std.proofs.Common.{◌≡◌, ◌∙◌, ap, subst, sym, map, replicate, length, List, ℕ, bit_and, w8}
 use Rattle.std.proofs.lemmas.Simd.{zip2_splat, SwzOk, swz_l}
 use Rattle.std.specs.Simd.Lanes.{zip2}
-use Rattle.uri_pct.specs.LaneMasks.{bit_of}
+use Rattle.uri_pct.specs.Models.LaneMasks.{bit_of}
 use Rattle.uri_pct.proofs.LaneScans.LaneMasks.{swizzles, looked_up, bit_place, bit_there, bit_list}
 use Rattle.uri_pct.proofs.lanes.bits_for.Goals as goal
 

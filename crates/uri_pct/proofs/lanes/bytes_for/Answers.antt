@@ -3,7 +3,7 @@ use Rattle.std.proofs.lemmas.Nat.{and_mask}
 use Rattle.std.proofs.lemmas.List.{length-map}
 use Rattle.std.proofs.lemmas.Simd.{zip2_splat, SwzOk, swz_l, map-map}
 use Rattle.std.specs.Simd.Lanes.{zip2}
-use Rattle.uri_pct.specs.LaneMasks.{bytes_of_masks}
+use Rattle.uri_pct.specs.Models.LaneMasks.{bytes_of_masks}
 use Rattle.uri_pct.proofs.LaneScans.LaneMasks.{swizzles, looked_up, byte_place, byte_there}
 use Rattle.uri_pct.proofs.lanes.bytes_for.Goals as goal
 

@@ -3,7 +3,7 @@ use Rattle.std.specs.Prelude.{slice_index}
 use Rattle.std.specs.Int.{bit_at, bit_not}
 use Rattle.std.specs.Simd.Lanes.{mask_l, chunk}
 use Rattle.std.proofs.lemmas.Simd.{bitmask_splat, length-chunk}
-use Rattle.uri_pct.specs.Fronts.{has_digits}
+use Rattle.uri_pct.specs.PercentSigns.{has_digits}
 use Rattle.uri_pct.proofs.LaneScans.LaneRuns.{marks_of_load, LaneMarks}
 use Rattle.uri_pct.specs.Masks.{has_bit}
 use Rattle.uri_pct.proofs.LaneScans.LaneBits.{percent_lane, percents_below}

@@ -1,6 +1,6 @@
 use Rattle.std.proofs.Common.{◌≡◌, ◌<◌, ◌∙◌, true, get_or, slice_index, arith, ap, subst, sym}
 use Rattle.std.proofs.lemmas.Str.{IsCharBoundary-after_ascii}
-use Rattle.uri_pct.specs.ByteRuns.{IsRun}
+use Rattle.uri_pct.specs.Models.ByteRuns.{IsRun}
 use Rattle.uri_pct.specs.Masks.{has_bit}
 use Rattle.uri_pct.specs.Tables.{set_of}
 use Rattle.uri_pct.proofs.LaneScans.AsciiRuns.{run_read}

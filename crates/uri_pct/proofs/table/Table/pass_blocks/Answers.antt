@@ -1,7 +1,7 @@
 use Rattle.std.proofs.Common.{◌≡◌, ◌≤◌, ◌+◌, ◌∙◌, ℕ, List, true, length, drop, subst, arith}
 use Rattle.std.specs.Str.{IsUtf8, IsCharBoundary}
-use Rattle.uri_pct.specs.ByteRuns.{AreSpelt}
-use Rattle.uri_pct.specs.Fronts.{front}
+use Rattle.uri_pct.specs.Models.ByteRuns.{AreSpelt}
+use Rattle.uri_pct.specs.Models.Fronts.{front}
 use Rattle.uri_pct.specs.Masks.{has_bit}
 use Rattle.uri_pct.specs.Tables.{set_of}
 use Rattle.uri_pct.specs.declared.table.Table.{Table}

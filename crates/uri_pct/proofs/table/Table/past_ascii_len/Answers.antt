@@ -3,7 +3,7 @@ use Rattle.std.specs.Prelude.{slice_index}
 use Rattle.std.specs.Int.{is_in_range}
 use Rattle.std.specs.Str.{IsCharBoundary}
 use Rattle.std.proofs.lemmas.Bool.{and_parts, cond-false}
-use Rattle.uri_pct.specs.Fronts.{front}
+use Rattle.uri_pct.specs.Models.Fronts.{front}
 use Rattle.uri_pct.specs.Tables.{set_of}
 use Rattle.uri_pct.proofs.ValidTexts.Fronts.{front-past-at}
 use Rattle.uri_pct.proofs.TableSets.LeadBytes.{two_read, three_read, char_read, lead_range}

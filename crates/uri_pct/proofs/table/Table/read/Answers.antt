@@ -1,5 +1,5 @@
 use Rattle.std.proofs.Common.{◌≡◌, ◌+◌, ◌<◌, ◌≤◌, ◌∙◌, false, length, drop, get_or, arith, sym}
-use Rattle.uri_pct.specs.Fronts.{front}
+use Rattle.uri_pct.specs.Models.Fronts.{front}
 use Rattle.uri_pct.specs.Tables.{set_of}
 use Rattle.uri_pct.proofs.ValidTexts.Fronts.{front-end, front-done}
 use Rattle.uri_pct.proofs.TableSets.Percent.{lacks_percent}

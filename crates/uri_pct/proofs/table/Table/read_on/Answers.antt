@@ -1,7 +1,8 @@
 use Rattle.std.proofs.Common.{◌≡◌, ◌+◌, ◌<◌, true, false, length, drop, get_or, arith, rules, ◌&&◌, sym, ◌∙◌, ap}
 use Rattle.std.proofs.lemmas.Bool.{and_left, and_right, ne_eqb}
 use Rattle.std.proofs.lemmas.Str.{IsCharBoundary-after_ascii}
-use Rattle.uri_pct.specs.Fronts.{front, has_digits}
+use Rattle.uri_pct.specs.Models.Fronts.{front}
+use Rattle.uri_pct.specs.PercentSigns.{has_digits}
 use Rattle.uri_pct.specs.Tables.{set_of}
 use Rattle.uri_pct.proofs.ValidTexts.Fronts.{front-end, front-char, front-stop, front-stray}
 use Rattle.uri_pct.proofs.TableSets.Percent.{lacks_percent}

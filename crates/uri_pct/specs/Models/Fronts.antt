@@ -1,5 +1,5 @@
 -- How far a text is spelt by what a set allows, read byte by byte.
-use Rattle.std.specs.Prelude.{◌≡◌, ◌<◌, length, false, ℕ, zero, suc, ◌+◌, Bool, not, ◌&&◌, ◌||◌}
+use Rattle.std.specs.Prelude.{ℕ, zero, suc, ◌+◌, Bool, not, ◌&&◌, ◌||◌}
 use Rattle.std.specs.Prelude.{◌==◌, nat_lt, List, [], ◌∷◌, drop, slice_index, if◌then◌else◌}
 use Rattle.std.specs.Char.{is_ascii_hexdigit}
 use Rattle.std.specs.Str.{chars, continuation_len}
@@ -36,17 +36,6 @@ front set text = front_from set 0 text
 -- what is left behind it
 abbrev pub after : TableSet → List ℕ → List ℕ
 after set text = drop (front set text) text
-
--- two hexadecimal digits stand behind the place
-unfoldable pub has_digits : List ℕ → ℕ → Bool
-has_digits text i =
-    is_ascii_hexdigit (slice_index text (i + 1)) && is_ascii_hexdigit (slice_index text (i + 2))
-
--- a `%` that two hexadecimal digits do not follow stands there
-pub record IsStrayPercent (text : List ℕ) (i : ℕ) : Type 0 where
-  pub inside : i < length text
-  pub percent : slice_index text i ≡ percent_sign
-  pub stray : has_digits text i ≡ false
 
 -- the set allows octets, or characters past ASCII, and the byte begins one
 unfoldable pub may_go_on : TableSet → ℕ → Bool

@@ -3,11 +3,11 @@
 use Rattle.std.specs.Prelude.{ℕ, ◌+◌, Bool, true, ◌&&◌, ◌||◌, List, [], ◌∷◌, drop, codes, is_some}
 use Rattle.std.specs.Prelude.{if◌then◌else◌}
 use Rattle.uri_pct.specs.Sets.{digit_set, is_one_of}
-use Rattle.uri_pct.specs.Fronts.{front, after}
+use Rattle.uri_pct.specs.Models.Fronts.{front, after}
 use Rattle.uri_parts.specs.Components.{starts}
 use Rattle.uri_parts.specs.Grammar.{Kind}
 use Rattle.uri_parts.specs.Hosts.{ipv6_value, is_ipv_future}
-use Rattle.uri_parts.specs.Literals.{reads_literal, literal_length}
+use Rattle.uri_parts.specs.Models.Literals.{reads_literal, literal_length}
 use Rattle.uri_parts.specs.declared.positions.AuthorityPositions.{AuthorityPositions}
 use Rattle.uri_pct.specs.Delimiters.{at_sign, colon, left_bracket}
 

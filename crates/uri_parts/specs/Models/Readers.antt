@@ -1,13 +1,14 @@
+-- Where a `Reader` stands in its text.
 use Rattle.std.specs.Prelude.{ℕ, List, drop}
 use Rattle.uri_parts.specs.declared.parse.BeforePath.{BeforePath}
 use Rattle.uri_parts.specs.declared.positions.Positions.{Positions}
 use Rattle.uri_parts.specs.declared.reader.Reader.{Reader}
 use Rattle.uri_parts.specs.Grammar.{Kind}
-use Rattle.uri_parts.specs.Reading.{path_positions}
+use Rattle.uri_parts.specs.Models.Reading.{path_positions}
 
 -- the text that is read
-abbrev pub text_of : Reader → List ℕ
-text_of r = r.text.now
+abbrev pub reader_text : Reader → List ℕ
+reader_text r = r.text.now
 
 -- how many bytes were read
 abbrev pub place_of : Reader → ℕ

@@ -2,7 +2,7 @@
 use Rattle.std.specs.Prelude.{ℕ, ◌+◌, length, Option, option_map}
 use Rattle.uri_parts.specs.declared.positions.AuthorityPositions.{AuthorityPositions}
 use Rattle.uri_parts.specs.declared.positions.Positions.{Positions}
-use Rattle.uri_parts.specs.Authority.{AuthorityParts, authority_text}
+use Rattle.uri_parts.specs.Authority.{AuthorityParts, recompose_authority}
 use Rattle.uri_parts.specs.Components.{Components}
 use Rattle.uri_parts.specs.Positions.{marked_length, positions_of}
 
@@ -14,7 +14,7 @@ parts_at place p =
       start = place;
       host_start = place + host;
       host_end = place + (host + length p.host);
-      end = place + length (authority_text p);
+      end = place + length (recompose_authority p);
     }
 
 -- components whose authority has these parts

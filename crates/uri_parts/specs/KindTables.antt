@@ -1,10 +1,11 @@
+-- The kind that the tables of the code stand for.
 use Rattle.uri_pct.specs.Sets.{TableSet}
 use Rattle.uri_pct.specs.Tables.{set_of}
 use Rattle.uri_parts.specs.Grammar.{Kind}
-use Rattle.uri_parts.specs.declared.grammar.Grammar.{Grammar}
+use Rattle.uri_parts.specs.declared.kind_tables.KindTables.{KindTables}
 
 -- the kind whose sets the tables stand for
-abbrev pub kind_of : Grammar → Kind
+abbrev pub kind_of : KindTables → Kind
 kind_of g = record {
   userinfo = set_of g.userinfo;
   reg_name = set_of g.reg_name;
@@ -15,5 +16,5 @@ kind_of g = record {
 }
 
 -- the characters of a first segment that holds no colon: RFC 3986, section 3.3
-abbrev pub segment_nz_nc_of : Grammar → TableSet
+abbrev pub segment_nz_nc_of : KindTables → TableSet
 segment_nz_nc_of g = set_of g.segment_nz_nc

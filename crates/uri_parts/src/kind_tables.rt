@@ -3,7 +3,7 @@ ghost use Rattle.std.specs.Prelude.{◌≡◌};
 ghost use Rattle.uri_pct.specs.Sets.{segment_nz_nc_set, isegment_nz_nc_set};
 ghost use Rattle.uri_pct.specs.Tables.{set_of};
 ghost use Rattle.uri_parts.specs.Grammar.{uri_ref, iri_ref};
-ghost use Rattle.uri_parts.specs.Grammars.{kind_of};
+ghost use Rattle.uri_parts.specs.KindTables.{kind_of};
 
 use uri_pct::encoder::{
     Encoder, Fragment, IFragment, IPath, IQuery, IRegName, IUserinfo, Path, Query, RegName,
@@ -14,7 +14,7 @@ use uri_pct::table::{ISEGMENT_NZ_NC, SEGMENT_NZ_NC, Table};
 /// The tables that tell the kinds apart, and whether a scheme is needed.
 #[doc(hidden)]
 #[derive(Clone, Copy)]
-pub struct Grammar {
+pub struct KindTables {
     pub userinfo: Table,
     pub reg_name: Table,
     pub path: Table,
@@ -29,11 +29,11 @@ pub struct Grammar {
 /// (section 4.1).
 #[tactic(auto, using(uri_pct::proofs::TableSets::Constants::segment_nz_nc_table))]
 #[doc(hidden)]
-pub fn uri_grammar(needs_scheme: bool) -> Grammar
+pub fn uri_tables(needs_scheme: bool) -> KindTables
     ensures kind { kind_of result ≡ record uri_ref { needs_scheme = needs_scheme } }
     ensures segment { set_of result.segment_nz_nc ≡ segment_nz_nc_set }
 {
-    Grammar {
+    KindTables {
         userinfo: Userinfo::table(),
         reg_name: RegName::table(),
         path: Path::table(),
@@ -48,11 +48,11 @@ pub fn uri_grammar(needs_scheme: bool) -> Grammar
 /// 2.2).
 #[tactic(auto, using(uri_pct::proofs::TableSets::Constants::isegment_nz_nc_table))]
 #[doc(hidden)]
-pub fn iri_grammar(needs_scheme: bool) -> Grammar
+pub fn iri_tables(needs_scheme: bool) -> KindTables
     ensures kind { kind_of result ≡ record iri_ref { needs_scheme = needs_scheme } }
     ensures segment { set_of result.segment_nz_nc ≡ isegment_nz_nc_set }
 {
-    Grammar {
+    KindTables {
         userinfo: IUserinfo::table(),
         reg_name: IRegName::table(),
         path: IPath::table(),

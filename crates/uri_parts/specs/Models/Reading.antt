@@ -3,8 +3,8 @@ use Rattle.std.specs.Prelude.{ℕ, ◌+◌, Bool, true, false, not, ◌&&◌, �
 use Rattle.std.specs.Prelude.{[], ◌∷◌, drop, slice_index, Option, Some, None, if◌then◌else◌}
 use Rattle.std.specs.Char.{is_ascii_alphabetic}
 use Rattle.uri_pct.specs.Sets.{TableSet, scheme_set}
-use Rattle.uri_pct.specs.Fronts.{front, after}
-use Rattle.uri_parts.specs.AuthorityReading.{finds_authority, found_length, found_authority}
+use Rattle.uri_pct.specs.Models.Fronts.{front, after}
+use Rattle.uri_parts.specs.Models.AuthorityReading.{finds_authority, found_length, found_authority}
 use Rattle.uri_parts.specs.Components.{starts, has_authority}
 use Rattle.uri_parts.specs.Grammar.{Kind}
 use Rattle.uri_parts.specs.declared.positions.Positions.{Positions}

@@ -1,0 +1,5 @@
+-- What the code does on its way, as functions of a text. No public contract says it by these.
+pub mod Drafts
+pub mod Places
+pub mod Readings
+pub mod Written
