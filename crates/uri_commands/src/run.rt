@@ -37,8 +37,8 @@ pub struct Ended {
 
 /// Does what the words ask for, and answers the exit status.
 ///
-/// 0: `out` got the answer. 1: it is refused, or `out` failed, and `err` got `error: `, why, and a
-/// newline. 2: the words are no command, and `err` got the usage line. A failing `err` changes no
+/// 0: `out` got the answer. 1: it is refused, memory is, or `out` failed, and `err` got `error: `,
+/// why, and a newline; `out` got nothing, unless it failed. 2: the words are no command, and `err` got the usage line. A failing `err` changes no
 /// status; it got a front of the line, and nothing else.
 pub fn run<O: Write, E: Write>(alloc: Global, words: &[String], out: &mut O, err: &mut E) -> u8
     ensures answered { result ≡ 0 → IsAnswered (texts words.now) (O.contents out.old)
@@ -49,6 +49,7 @@ pub fn run<O: Write, E: Write>(alloc: Global, words: &[String], out: &mut O, err
     ensures status { result ≤ 2 }
     ensures told { result ≡ 1 → (command : Asked) × (why : Refusal)
         × (texts words.now ≡ words_of command) × IsRefusalOf command why
+        × (why ≢ OutputFailed → Keeps (O.contents out.old) (O.contents out.new))
         × AppendsFront (E.contents err.old) (E.contents err.new) (error_line why) }
     ensures usage_told { result ≡ 2
         → AppendsFront (E.contents err.old) (E.contents err.new) usage_line }
@@ -73,6 +74,7 @@ pub fn execute<O: Write, E: Write>(
     ensures status { result.status ≤ 2 }
     ensures told { result.status ≡ 1 → (command : Asked) × (why : Refusal)
         × (texts words.now ≡ words_of command) × IsRefusalOf command why
+        × (why ≢ OutputFailed → Keeps (O.contents out.old) (O.contents out.new))
         × Takes (E.contents err.old) (E.contents err.new) (error_line why) result.told }
     ensures usage_told { result.status ≡ 2
         → Takes (E.contents err.old) (E.contents err.new) usage_line result.told }
@@ -99,6 +101,8 @@ fn answer<O: Write>(alloc: Global, command: Command<'_>, out: &mut O) -> Result<
     ensures refused { IfErr result (IsRefusalOf (asked command.entry)) }
     ensures keeps { output_of (asked command.entry) ≡ None
         → Keeps (O.contents out.old) (O.contents out.new) }
+    ensures kept { IfErr result (λ why.
+        why ≢ OutputFailed → Keeps (O.contents out.old) (O.contents out.new)) }
 {
     match command {
         Command::Parse(kind, text) => parse(kind, text, out),
@@ -114,6 +118,8 @@ fn parse<O: Write>(kind: KindName, text: &str, out: &mut O) -> Result<(), Refusa
     ensures refused { IfErr result (IsRefusalOf (Parse kind text.now)) }
     ensures keeps { output_of (Parse kind text.now) ≡ None
         → Keeps (O.contents out.old) (O.contents out.new) }
+    ensures kept { IfErr result (λ why.
+        why ≢ OutputFailed → Keeps (O.contents out.old) (O.contents out.new)) }
 {
     Ok(read(kind, text)?.write_lines(out)?)
 }
@@ -129,6 +135,8 @@ fn normalize<O: Write>(
     ensures refused { IfErr result (IsRefusalOf (Normalize kind text.now)) }
     ensures keeps { output_of (Normalize kind text.now) ≡ None
         → Keeps (O.contents out.old) (O.contents out.new) }
+    ensures kept { IfErr result (λ why.
+        why ≢ OutputFailed → Keeps (O.contents out.old) (O.contents out.new)) }
 {
     let normal = normal_form(alloc, kind, text)?;
     print_line(out, normal.as_str())
@@ -146,6 +154,8 @@ fn resolve<O: Write>(
     ensures refused { IfErr result (IsRefusalOf (Resolve kind base.now reference.now)) }
     ensures keeps { output_of (Resolve kind base.now reference.now) ≡ None
         → Keeps (O.contents out.old) (O.contents out.new) }
+    ensures kept { IfErr result (λ why.
+        why ≢ OutputFailed → Keeps (O.contents out.old) (O.contents out.new)) }
 {
     let target = target(alloc, kind, base, reference)?;
     print_line(out, target.as_str())
@@ -164,7 +174,6 @@ fn links<O: Write>(
         (IsRefusalOf (Links base.now reference.now (texts others.now))) }
     ensures keeps { output_of (Links base.now reference.now (texts others.now)) ≡ None
         → Keeps (O.contents out.old) (O.contents out.new) }
-    // Lines are written once all is noted, so that want of memory leaves no line.
     ensures kept { IfErr result (λ why.
         why ≢ OutputFailed → Keeps (O.contents out.old) (O.contents out.new)) }
 {
