@@ -15,7 +15,8 @@ use Rattle.fluent_uri.specs.Target.{Refusal, resolution_of}
 one_target : (r : Result (List ℕ) Refusal) (t u : List ℕ) → r ≡ Ok t → r ≡ Ok u → t ≡ u
 one_target r t u e f = cc
 
-normal_means : (kind : Kind) (ports : PortFunction) (text normal : List ℕ) → IsTextOf kind normal → IsNormalForm kind ports text normal → HasMeaningOf kind ports text normal
+normal_means : (kind : Kind) (ports : PortFunction) (text normal : List ℕ) → IsTextOf kind normal
+    → IsNormalForm kind ports text normal → HasMeaningOf kind ports text normal
 normal_means kind ports text normal w h = record { of_kind = w; meaning = h.meaning }
 
 -- a text that has the meaning of a target is normalised to what the target is

@@ -16,13 +16,15 @@ use Rattle.uri_commands.specs.declared.refusal.Refusal.{Refusal}
 use Rattle.uri_commands.specs.declared.refusal.Refusal.TheVariants.{OutputFailed}
 use Rattle.uri_commands.proofs.Refusals.{refused_with, refused_as}
 
-pub parse_failed : {A : Type 0} (name : KindName) (text : List ℕ) (result : Result A Refusal) → IsOfKind (kind_named name) text
+pub parse_failed : {A : Type 0} (name : KindName) (text : List ℕ) (result : Result A Refusal)
+    → IsOfKind (kind_named name) text
     → IsErrAnd result (λ why. why ≡ OutputFailed) → IfErr result (IsRefusalOf (Parse name text))
 parse_failed name text result is given =
     refused_with (IsRefusalOf (Parse name text)) result OutputFailed given
     (component_lines (components text), ap (λ b. if b then Some (component_lines (components text)) else None) is)
 
-pub normalize_failed : {A : Type 0} (name : KindName) (text : List ℕ) (result : Result A Refusal) → IsOfKind (kind_named name) text
+pub normalize_failed : {A : Type 0} (name : KindName) (text : List ℕ) (result : Result A Refusal)
+    → IsOfKind (kind_named name) text
     → IfErr result (λ why. why ≡ OutputFailed) → IfErr result (IsRefusalOf (Normalize name text))
 normalize_failed name text result is given =
     let lines = normal_form_of (kind_named name) text ++ codes "\n" in

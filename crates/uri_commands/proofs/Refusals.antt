@@ -18,9 +18,11 @@ refused_as P (Ok a) e is p = tt
 refused_as P (Err x) e is p = subst P (sym is) p
 
 -- the refusal of a text, as it is told
-pub text_refused : {A B : Type 0} (P : B → Type 0) (told : ParseError → B) (name named : KindName) (text : List ℕ) (result : Result A B) (e : ParseError)
+pub text_refused : {A B : Type 0} (P : B → Type 0) (told : ParseError → B)
+    (name named : KindName) (text : List ℕ) (result : Result A B) (e : ParseError)
     → ((x : ParseError) → IsErrorOf (kind_named name) text x → P (told x))
-    → name ≡ named → (IsOfKind (kind_named named) text → false ≡ true) → IsErrorIn text e → IsErrAnd result (λ x. x ≡ told e) → IfErr result P
+    → name ≡ named → (IsOfKind (kind_named named) text → false ≡ true) → IsErrorIn text e
+    → IsErrAnd result (λ x. x ≡ told e) → IfErr result P
 text_refused P told name named text result e is same none err given =
     refused_with P result (told e) given
     (is e (subst (λ k. IsErrorOf (kind_named k) text e) (sym same) (λ of_kind. cc (none of_kind), err)))

@@ -1,4 +1,5 @@
--- What the code does on its way, as functions of a text. No public contract says it by these.
+-- What the code does on its way, as functions of a text. Of public contracts only those of the
+-- builder rest on these: `Drafts` says which parts its text holds.
 pub mod Drafts
 pub mod Places
 pub mod Readings
