@@ -20,32 +20,52 @@ normal_means : (kind : Kind) (ports : PortFunction) (text normal : List ℕ) →
 normal_means kind ports text normal w h = record { of_kind = w; meaning = h.meaning }
 
 -- a text that has the meaning of a target is normalised to what the target is
-same_normal : (kind : Kind) (ports : PortFunction) (base reference target text m n : List ℕ) → HasTargetMeaning kind ports base reference text → resolution_of (components base) (components reference) ≡ Ok target
+same_normal : (kind : Kind) (ports : PortFunction) (base reference target text m n : List ℕ)
+    → HasTargetMeaning kind ports base reference text
+    → resolution_of (components base) (components reference) ≡ Ok target
     → IsNormalForm kind ports text n → IsNormalForm kind ports target m → n ≡ m
 same_normal kind ports base reference target text m n t e v w =
     let same = one_target (resolution_of (components base) (components reference)) t.0 target t.1.0 e in
     v.text.text ∙ ap normal_text (sym t.1.1 ∙ ap (meaning_of kind ports) same) ∙ sym w.text.text
 
-pub same_normal_form : (kind of_reference : Kind) (ports : PortFunction) (base reference given target b r held other n m : List ℕ) → IsTextOf kind b → IsTextOf of_reference r → given ≡ base → held ≡ b
-    → IsTargetOfMeanings kind of_reference given reference target → IsNormalForm kind ports base b → IsNormalForm of_reference ports reference r
-    → resolution_of (components held) (components r) ≡ Ok other → IsNormalForm kind ports target n → IsNormalForm kind ports other m → n ≡ m
-same_normal_form kind of_reference ports base reference given target b r held other n m of_b of_r d f alike v w e x y =
+-- the normal form of a target is that of the target of the normal forms
+pub same_normal_form : (kind of_reference : Kind) (ports : PortFunction)
+    (base reference given target b r held other n m : List ℕ)
+    → IsTextOf kind b → IsTextOf of_reference r → given ≡ base → held ≡ b
+    → IsTargetOfMeanings kind of_reference given reference target
+    → IsNormalForm kind ports base b → IsNormalForm of_reference ports reference r
+    → resolution_of (components held) (components r) ≡ Ok other
+    → IsNormalForm kind ports target n → IsNormalForm kind ports other m → n ≡ m
+same_normal_form kind of_reference ports base reference given target b r held other n m of_b of_r
+    d f alike v w e x y =
     let a = subst (λ t. IsTargetOfMeanings kind of_reference t reference target) d alike in
-    let t = a.alike ports b r (normal_means kind ports base b of_b v) (normal_means of_reference ports reference r of_r w) in
-    same_normal kind ports b r other target m n t (subst (λ t. resolution_of (components t) (components r) ≡ Ok other) f e) x y
+    let means = normal_means kind ports base b of_b v in
+    let reference_means = normal_means of_reference ports reference r of_r w in
+    let resolved = subst (λ t. resolution_of (components t) (components r) ≡ Ok other) f e in
+    same_normal kind ports b r other target m n (a.alike ports b r means reference_means) resolved
+    x y
 
 -- the normal form of a text is that of another one with its meaning
-with_meaning : (kind : Kind) (ports : PortFunction) (text other normal : List ℕ) → meaning_of kind ports other ≡ meaning_of kind ports text → IsNormalForm kind ports text normal → IsNormalForm kind ports other normal
+with_meaning : (kind : Kind) (ports : PortFunction) (text other normal : List ℕ)
+    → meaning_of kind ports other ≡ meaning_of kind ports text
+    → IsNormalForm kind ports text normal → IsNormalForm kind ports other normal
 with_meaning kind ports text other normal e h = record {
   text = record { text = h.text.text ∙ ap normal_text (sym e) };
   meaning = h.meaning ∙ sym e;
   same = λ u w. let both = h.same u w in (λ d. e ∙ both.0 d, λ d. both.1 (sym e ∙ d));
 }
 
-pub normal_form_of_target : (kind of_reference : Kind) (ports : PortFunction) (base reference b r held target normal : List ℕ) → IsTextOf kind base → IsTextOf of_reference reference → held ≡ b
-    → IsNormalForm kind ports base b → IsNormalForm of_reference ports reference r → IsTargetOfMeanings kind of_reference held r target → IsNormalForm kind ports target normal
+-- the normal form of the target of normal forms is one of the target
+pub normal_form_of_target : (kind of_reference : Kind) (ports : PortFunction)
+    (base reference b r held target normal : List ℕ)
+    → IsTextOf kind base → IsTextOf of_reference reference → held ≡ b
+    → IsNormalForm kind ports base b → IsNormalForm of_reference ports reference r
+    → IsTargetOfMeanings kind of_reference held r target → IsNormalForm kind ports target normal
     → IsNormalFormOfTarget kind ports base reference normal
-normal_form_of_target kind of_reference ports base reference b r held target normal of_base of_ref e v w alike x =
+normal_form_of_target kind of_reference ports base reference b r held target normal of_base of_ref
+    e v w alike x =
     let a = subst (λ t. IsTargetOfMeanings kind of_reference t r target) e alike in
-    let t = a.alike ports base reference (record { of_kind = of_base; meaning = sym v.meaning }) (record { of_kind = of_ref; meaning = sym w.meaning }) in
+    let means = record { of_kind = of_base; meaning = sym v.meaning } in
+    let reference_means = record { of_kind = of_ref; meaning = sym w.meaning } in
+    let t = a.alike ports base reference means reference_means in
     (t.0, (t.1.0, with_meaning kind ports target t.0 normal t.1.1 x))

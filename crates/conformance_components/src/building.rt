@@ -1,3 +1,4 @@
+//! What is built of parts, and what is refused (RFC 3986, section 5.3).
 use checks::{equal, prints};
 use fluent_uri::build::state::FragmentEnd;
 use fluent_uri::build::{BuildError, Builder};

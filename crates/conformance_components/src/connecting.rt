@@ -1,3 +1,4 @@
+//! Default ports, ports as numbers, and where an authority is reached (RFC 3986, section 3.2).
 use checks::{equal, prints};
 use fluent_uri::component::{Authority, Scheme, SocketError, SocketTarget};
 use fluent_uri::pct_enc::CowStr;

@@ -1,3 +1,4 @@
+//! Values of one kind as another, and octets for characters past ASCII (RFC 3987, section 3.1).
 use checks::{equal, prints};
 use fluent_uri::{ConvertError, Iri, IriRef, Uri, UriRef};
 use std::alloc::AllocError;

@@ -1,3 +1,4 @@
+//! Values with another fragment and without one (RFC 3986, section 3.5).
 use checks::equal;
 use fluent_uri::pct_enc::EStr;
 use fluent_uri::pct_enc::encoder::{Encoder, Fragment, IFragment};

@@ -1,3 +1,5 @@
+//! Texts that an encoder allows, what they decode to, and what is cut from them (RFC 3986, section
+//! 2.1).
 use crate::owned_encoding::{Nothing, Octets, Private, valid};
 use checks::{equal, prints};
 use fluent_uri::UriRef;

@@ -1,3 +1,4 @@
+//! The characters of each table, and tables that are combined (RFC 3986, appendix A).
 use checks::equal;
 use fluent_uri::pct_enc::{Table, table};
 use std::process::Abort;

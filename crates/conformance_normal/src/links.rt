@@ -1,3 +1,4 @@
+//! Links that are registered by the normal forms of their targets.
 use checks::equal;
 use fluent_uri::normalize::{DefaultPort, Normalizer};
 use fluent_uri::resolve::ResolveError;

@@ -1,3 +1,4 @@
+//! Normal forms, and what is refused (RFC 3986, section 6.2; RFC 3987, section 5.3.2).
 use checks::{equal, prints};
 use fluent_uri::component::{HostOf, Scheme};
 use fluent_uri::normalize::{DefaultPort, NormalizeError, Normalizer};

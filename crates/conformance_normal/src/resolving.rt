@@ -1,3 +1,4 @@
+//! Targets and what is refused: the examples of RFC 3986, section 5.4, and others.
 use checks::{equal, prints};
 use fluent_uri::normalize::Normalizer;
 use fluent_uri::resolve::{ResolveError, Resolver};

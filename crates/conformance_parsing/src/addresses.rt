@@ -1,3 +1,4 @@
+//! How addresses and authorities print, and how addresses are ordered (RFC 5952, section 4).
 use checks::{equal, prints};
 use fluent_uri::UriRef;
 use fluent_uri::component::HostOf;

@@ -1,7 +1,7 @@
 //! What the original answers, replayed.
 mod recorded;
 
-use self::recorded::Row;
+use self::recorded::{Row, accepted, refused};
 use checks::equal;
 use fluent_uri::component::{Authority, Scheme};
 use fluent_uri::pct_enc::EStr;
@@ -112,40 +112,40 @@ fn replays<R: Abort>(rt: &R, alloc: Global, kind: Kind, rows: &[Row]) {
 
 #[test]
 fn uris_that_are_accepted(rt: HostRuntime) {
-    replays(&rt, rt.alloc(), Kind::Uri, recorded::URI_ACCEPTED);
+    replays(&rt, rt.alloc(), Kind::Uri, accepted::URI);
 }
 
 #[test]
 fn refused_uris(rt: HostRuntime) {
-    replays(&rt, rt.alloc(), Kind::Uri, recorded::URI_REFUSED);
+    replays(&rt, rt.alloc(), Kind::Uri, refused::URI);
 }
 
 #[test]
 fn uri_references_that_are_accepted(rt: HostRuntime) {
-    replays(&rt, rt.alloc(), Kind::UriRef, recorded::URI_REF_ACCEPTED);
+    replays(&rt, rt.alloc(), Kind::UriRef, accepted::URI_REF);
 }
 
 #[test]
 fn refused_uri_references(rt: HostRuntime) {
-    replays(&rt, rt.alloc(), Kind::UriRef, recorded::URI_REF_REFUSED);
+    replays(&rt, rt.alloc(), Kind::UriRef, refused::URI_REF);
 }
 
 #[test]
 fn iris_that_are_accepted(rt: HostRuntime) {
-    replays(&rt, rt.alloc(), Kind::Iri, recorded::IRI_ACCEPTED);
+    replays(&rt, rt.alloc(), Kind::Iri, accepted::IRI);
 }
 
 #[test]
 fn refused_iris(rt: HostRuntime) {
-    replays(&rt, rt.alloc(), Kind::Iri, recorded::IRI_REFUSED);
+    replays(&rt, rt.alloc(), Kind::Iri, refused::IRI);
 }
 
 #[test]
 fn iri_references_that_are_accepted(rt: HostRuntime) {
-    replays(&rt, rt.alloc(), Kind::IriRef, recorded::IRI_REF_ACCEPTED);
+    replays(&rt, rt.alloc(), Kind::IriRef, accepted::IRI_REF);
 }
 
 #[test]
 fn refused_iri_references(rt: HostRuntime) {
-    replays(&rt, rt.alloc(), Kind::IriRef, recorded::IRI_REF_REFUSED);
+    replays(&rt, rt.alloc(), Kind::IriRef, refused::IRI_REF);
 }

@@ -1,3 +1,4 @@
+//! The components of texts that are accepted, and the refusals of others with their places.
 use checks::{equal, prints};
 use fluent_uri::ParseErrorKind::{InvalidIpv6Addr, InvalidPctEncodedOctet, UnexpectedChar};
 use fluent_uri::component::{Authority, Scheme};

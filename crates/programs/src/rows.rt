@@ -1,4 +1,5 @@
-//! What `vectors` prints for rows that hold and for rows that differ, and the status that it ends with.
+//! What `vectors` prints for rows that hold and for rows that differ, and the status that it ends
+//! with.
 use crate::writers::Takes;
 use checks::equal;
 use fluent_uri::ParseErrorKind::UnexpectedChar;

@@ -74,7 +74,8 @@ abbrev pub output_of : Command → Option (List ℕ)
 output_of (Parse name text) =
     if is_of_kind (kind_named name) text then Some (component_lines (components text)) else None
 output_of (Normalize name text) =
-    if is_of_kind (kind_named name) text then Some (normal_form_of (kind_named name) text ++ codes "\n")
+    if is_of_kind (kind_named name) text
+    then Some (normal_form_of (kind_named name) text ++ codes "\n")
     else None
 output_of (Resolve name base reference) =
     if is_of_kind (kind_of_base name) base && is_of_kind (kind_of_references name) reference

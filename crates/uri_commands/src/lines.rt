@@ -44,7 +44,8 @@ impl<'a> From<UriRef<&'a str>> for Texts<'a> {
     ghost use Rattle.fluent_uri.specs.UriRefs.{uri_ref_text};
     ghost use Rattle.uri_commands.specs.Texts.{components_in};
 
-    ghost from_gives = { λ reference texts. components_in texts ≡ components (uri_ref_text reference) };
+    ghost from_gives = { λ reference texts.
+        components_in texts ≡ components (uri_ref_text reference) };
 
     fn from(uri_ref: UriRef<&'a str>) -> Texts<'a> {
         Texts {
@@ -82,7 +83,8 @@ impl<'a> From<IriRef<&'a str>> for Texts<'a> {
     ghost use Rattle.fluent_uri.specs.IriRefs.{iri_ref_text};
     ghost use Rattle.uri_commands.specs.Texts.{components_in};
 
-    ghost from_gives = { λ reference texts. components_in texts ≡ components (iri_ref_text reference) };
+    ghost from_gives = { λ reference texts.
+        components_in texts ≡ components (iri_ref_text reference) };
 
     fn from(iri_ref: IriRef<&'a str>) -> Texts<'a> {
         Texts {

@@ -1,4 +1,5 @@
-//! What references come to, which are noted one after the other against a base: `links BASE REF...`.
+//! What references come to, which are noted one after the other against a base: `links BASE
+//! REF...`.
 ghost use Rattle.std.specs.Prelude.{◌≡◌, ◌≢◌, ◌<◌, ◌∷◌, ◌++◌, ℕ, List, IfOk, IfErr, OnOk, All};
 ghost use Rattle.std.specs.Prelude.{length, map, true, codes};
 ghost use Rattle.std.specs.Io.KnownBytes.{Appends};

@@ -38,8 +38,9 @@ pub struct Ended {
 /// Does what the words ask for, and answers the exit status.
 ///
 /// 0: `out` got the answer. 1: it is refused, memory is, or `out` failed, and `err` got `error: `,
-/// why, and a newline; `out` got nothing, unless it failed. 2: the words are no command, and `err` got the usage line. A failing `err` changes no
-/// status; it got a front of the line, and nothing else.
+/// why, and a newline; `out` got nothing, unless it failed. 2: the words are no command, and `err`
+/// got the usage line. A failing `err` changes no status; it got a front of the line, and nothing
+/// else.
 pub fn run<O: Write, E: Write>(alloc: Global, words: &[String], out: &mut O, err: &mut E) -> u8
     ensures answered { result ≡ 0 → IsAnswered (texts words.now) (O.contents out.old)
         (O.contents out.new) (E.contents err.old) (E.contents err.new) }

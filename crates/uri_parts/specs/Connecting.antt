@@ -40,7 +40,8 @@ IsAnswerFor host (Ipv4 octets) port r = IsOkAnd r (λ t. socket_target_of t ≡ 
 IsAnswerFor host (Ipv6 segments) port r = IsOkAnd r (λ t. socket_target_of t ≡ V6 segments port)
 IsAnswerFor host IpvFuture port r = r ≡ Err UnsupportedMechanism
 IsAnswerFor host RegName port r =
-    MatchResult r (λ t. (socket_target_of t ≡ Name (name_bytes host) port) × IsUtf8 (name_bytes host))
+    MatchResult r
+    (λ t. (socket_target_of t ≡ Name (name_bytes host) port) × IsUtf8 (name_bytes host))
     (IsNameRefusal host)
 
 -- a name is borrowed

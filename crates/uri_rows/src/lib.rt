@@ -1,4 +1,5 @@
-//! Stored rows of texts and of what `fluent_uri` must answer for them, and their run over any writer.
+//! Stored rows of texts and of what `fluent_uri` must answer for them, and their run over any
+//! writer.
 #![tactic(auto)]
 
 pub mod ask;

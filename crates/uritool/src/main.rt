@@ -1,5 +1,5 @@
-//! Generic URIs and IRIs on the command line: `uritool parse KIND TEXT`, `uritool normalize KIND TEXT`,
-//! `uritool resolve uri|iri BASE REF` and `uritool links BASE REF...`.
+//! Generic URIs and IRIs on the command line: `uritool parse KIND TEXT`, `uritool normalize KIND
+//! TEXT`, `uritool resolve uri|iri BASE REF` and `uritool links BASE REF...`.
 #![tactic(auto)]
 
 use std::alloc::Global;
