@@ -65,7 +65,9 @@ pub normal_form_of_target : (kind of_reference : Kind) (ports : PortFunction)
 normal_form_of_target kind of_reference ports base reference b r held target normal of_base of_ref
     e v w alike x =
     let a = subst (λ t. IsTargetOfMeanings kind of_reference t r target) e alike in
-    let means = record { of_kind = of_base; meaning = sym v.meaning } in
-    let reference_means = record { of_kind = of_ref; meaning = sym w.meaning } in
+    let means : HasMeaningOf kind ports b base
+    = record { of_kind = of_base; meaning = sym v.meaning } in
+    let reference_means : HasMeaningOf of_reference ports r reference
+    = record { of_kind = of_ref; meaning = sym w.meaning } in
     let t = a.alike ports base reference means reference_means in
     (t.0, (t.1.0, with_meaning kind ports target t.0 normal t.1.1 x))

@@ -8,7 +8,6 @@ pub use Rattle.uri_pct.specs.Encoding
 pub use Rattle.uri_pct.specs.EStrings
 pub use Rattle.uri_pct.specs.EStrs
 pub use Rattle.uri_pct.specs.Masks
-pub use Rattle.uri_pct.specs.PercentSigns
 pub use Rattle.uri_pct.specs.Pieces
 pub use Rattle.uri_pct.specs.Reading
 pub use Rattle.uri_pct.specs.Sets

@@ -1,4 +1,3 @@
-pub mod Tests
 pub mod Paths
 pub mod Meanings
 pub mod Normal

@@ -2,6 +2,7 @@
 ghost use Rattle.std.specs.Prelude.{◌≡◌, ◌↔◌, ◌≤◌, ◌++◌, ◌||◌, ℕ, List, [], true, false, length};
 ghost use Rattle.std.specs.Prelude.{is_some};
 ghost use Rattle.std.specs.Str.{IsUtf8};
+ghost use Rattle.uri_pct.specs.Delimiters.{number_sign};
 ghost use Rattle.uri_pct.specs.Sets.{TableSet, LacksPercent, IsSubset, unreserved_set};
 ghost use Rattle.uri_pct.specs.Tokens.{print, IsValidFor};
 ghost use Rattle.uri_pct.specs.Reading.{read};
@@ -147,7 +148,8 @@ pub fn targets_have_the_components_put_into_them()
 #[tactic(auto, using(crate::proofs::Targeting::Targets::fragment_only))]
 pub fn opaque_bases_take_fragments_alone()
     ensures { (reference : List ℕ)
-        → is_fragment_only (components reference) ≡ (is_empty reference || starts 35 reference) }
+        → is_fragment_only (components reference)
+        ≡ (is_empty reference || starts number_sign reference) }
 {}
 
 /// The texts of the four kinds are those that the RFCs' words spell: a split into components, each

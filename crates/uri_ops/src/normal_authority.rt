@@ -34,11 +34,13 @@ pub fn push_authority<U: Encoder, R: Encoder, P: DefaultPort>(
     ports: &P,
     out: &mut String,
 ) -> Result<AuthorityPositions, AllocError>
-    ensures text { let default = default_of (P.port_of ports.now) (option_map scheme_text scheme.entry) in
+    ensures text { let default = default_of (P.port_of ports.now)
+        (option_map scheme_text scheme.entry) in
         (kind : Kind) → kind.userinfo ≡ U.set → kind.reg_name ≡ R.set
         → OnOk result (Pushes out.old out.new
         (normal_authority (authority_meaning kind default (authority_text authority.entry)))) }
-    ensures places { let default = default_of (P.port_of ports.now) (option_map scheme_text scheme.entry) in
+    ensures places { let default = default_of (P.port_of ports.now)
+        (option_map scheme_text scheme.entry) in
         (kind : Kind) → kind.userinfo ≡ U.set → kind.reg_name ≡ R.set
         → IfOk result (λ places. places ≡ parts_at (length (string_bytes out.old))
         (normal_parts (authority_meaning kind default (authority_text authority.entry)))) }

@@ -62,11 +62,13 @@ fn push_marked_authority<U: Encoder, R: Encoder, P: DefaultPort>(
     ports: &P,
     out: &mut String,
 ) -> Result<Option<AuthorityPositions>, AllocError>
-    ensures text { let default = default_of (P.port_of ports.now) (option_map scheme_text scheme.entry) in
+    ensures text { let default = default_of (P.port_of ports.now)
+        (option_map scheme_text scheme.entry) in
         (kind : Kind) → kind.userinfo ≡ U.set → kind.reg_name ≡ R.set
         → OnOk result (Pushes out.old out.new
         (marked_authority kind default (option_map authority_text authority.entry))) }
-    ensures places { let default = default_of (P.port_of ports.now) (option_map scheme_text scheme.entry) in
+    ensures places { let default = default_of (P.port_of ports.now)
+        (option_map scheme_text scheme.entry) in
         (kind : Kind) → kind.userinfo ≡ U.set → kind.reg_name ≡ R.set
         → IfOk result (λ places. places
         ≡ option_map (λ a. parts_at (length (string_bytes out.old) + 2)

@@ -5,6 +5,7 @@
 ghost use Rattle.std.specs.Prelude.{◌≡◌, ◌≤◌, ◌+◌, drop, length, true, IfErr, IfOk, IfSome, OnOk};
 ghost use Rattle.std.specs.Prelude.{is_ok, is_some};
 ghost use Rattle.std.specs.Str.{IsCharBoundary};
+ghost use Rattle.uri_pct.specs.Delimiters.{at_sign, left_bracket};
 ghost use Rattle.uri_pct.specs.Models.Fronts.{front};
 ghost use Rattle.uri_pct.specs.Tables.{set_of};
 ghost use Rattle.uri_parts.specs.Models.AuthorityReading.{port_length, name_length, finds_name};
@@ -114,7 +115,7 @@ fn name_fault(start: Reader<'_>, end: Reader<'_>, tables: &KindTables) -> ParseE
 /// Passes an address in brackets, of which the `[` is next.
 #[tactic(auto, using(crate::proofs::HostForms::LiteralFaults::literal_error))]
 fn pass_literal(reader: &mut Reader<'_>) -> Result<(), ParseError>
-    requires { starts 91 (rest_of reader.old) ≡ true }
+    requires { starts left_bracket (rest_of reader.old) ≡ true }
     ensures accepts { is_ok result ≡ reads_literal (drop 1 (rest_of reader.old)) }
     ensures text { reader_text reader.new ≡ reader_text reader.old }
     ensures place { OnOk result (place_of reader.new
@@ -161,7 +162,7 @@ fn find_host(reader: &mut Reader<'_>, tables: &KindTables) -> Result<usize, Pars
 #[inline(always)]
 fn pass_userinfo(reader: &mut Reader<'_>, tables: &KindTables) -> Result<(), ParseError>
     ensures accepts { let rest = rest_of reader.old in
-        is_ok result ≡ starts 64 (drop (more_user (kind_of tables.now) rest) rest) }
+        is_ok result ≡ starts at_sign (drop (more_user (kind_of tables.now) rest) rest) }
     ensures text { reader_text reader.new ≡ reader_text reader.old }
     ensures place { OnOk result (place_of reader.new
         ≡ place_of reader.old + (more_user (kind_of tables.now) (rest_of reader.old) + 1)) }

@@ -1,3 +1,4 @@
+pub mod Tests
 pub mod TableSets
 pub mod LaneScans
 pub mod ValidTexts

@@ -2,6 +2,7 @@
 ghost use Rattle.std.specs.Prelude.{◌≡◌, ◌<◌, ◌^◌, ◌==◌, IsTrue, IfOk, IsOkAnd, length};
 ghost use Rattle.std.specs.List.{position_or_len};
 ghost use Rattle.uri_pct.specs.Chunks.{widest_set};
+ghost use Rattle.uri_pct.specs.Delimiters.{percent_sign};
 ghost use Rattle.uri_pct.specs.Texts.{is_unencoded};
 ghost use Rattle.uri_pct.specs.Tokens.{IsValidFor};
 
@@ -43,7 +44,7 @@ pub struct Decode<'a> {
 /// It stands apart, so that an octet, which needs no search, is read without a call.
 #[inline(never)]
 fn unencoded_len(text: &str) -> usize
-    ensures { result ≡ position_or_len (λ b. b == 37) text.now }
+    ensures { result ≡ position_or_len (λ b. b == percent_sign) text.now }
 {
     match text.split_once('%') {
         Some((before, _)) => before.len(),

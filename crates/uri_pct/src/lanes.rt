@@ -3,6 +3,7 @@ ghost use Rattle.std.specs.Prelude.{◌≡◌, ◌+◌, ◌≤◌, ◌<◌, ◌/
 ghost use Rattle.std.specs.Prelude.{slice_index, nat_lt};
 ghost use Rattle.std.specs.Simd.Lanes.{mask_l, chunk};
 ghost use Rattle.std.specs.Int.{bit_at};
+ghost use Rattle.uri_pct.specs.Delimiters.{percent_sign};
 ghost use Rattle.uri_pct.specs.Models.ByteRuns.{IsRun, AreSpelt};
 ghost use Rattle.uri_pct.specs.PercentSigns.{has_digits};
 ghost use Rattle.uri_pct.specs.Models.LaneMasks.{bytes_of_masks, bit_of};
@@ -115,7 +116,7 @@ pub fn ascii_end(bytes: &[u8], start: usize) -> usize
 fn octet_starts(bytes: &[u8], at: usize) -> u64
     requires { at + LANES ≤ length bytes.now }
     ensures { (k : ℕ) → bit_at result k ≡ 1 → (k + 3 ≤ 16)
-        × (slice_index bytes.now (at + k) ≡ 37) × (has_digits bytes.now (at + k) ≡ true) }
+        × (slice_index bytes.now (at + k) ≡ percent_sign) × (has_digits bytes.now (at + k) ≡ true) }
 {
     let percents = u8x16::from_slice(&bytes[at..])
         .simd_eq(u8x16::splat(b'%'))

@@ -2,6 +2,7 @@
 ghost use Rattle.std.specs.Prelude.{◌≡◌, ◌==◌, IsTrue, IfSome, MatchOption, true, drop, is_some};
 ghost use Rattle.std.specs.Prelude.{length, ◌<◌, ◌^◌};
 ghost use Rattle.std.specs.List.{slice_split, join_with_byte, AllPass};
+ghost use Rattle.uri_pct.specs.Delimiters.{slash};
 ghost use Rattle.uri_pct.specs.Sets.{is_reserved};
 ghost use Rattle.uri_pct.specs.Texts.{lacks, is_absolute, IsFirstCut, IsLastCut};
 
@@ -165,7 +166,7 @@ impl<'a, E: PathEncoder> EStr<'a, E> {
     pub fn segments_if_absolute(self) -> Option<Split<'a, E>>
         ensures absolute { is_some result ≡ is_absolute (text_of self.entry) }
         ensures segments { IfSome result
-            (λ s. pieces_left s ≡ slice_split (λ b. b == 47) (drop 1 (text_of self.entry))) }
+            (λ s. pieces_left s ≡ slice_split (λ b. b == slash) (drop 1 (text_of self.entry))) }
         ensures fits { IfSome result (λ s. length (pieces_left s) < 2 ^ 64) }
     {
         if self.is_rootless() {

@@ -18,7 +18,8 @@ impl DefaultPort for OnePort<'_> {
     ghost use Rattle.std.specs.Cmp.Lexicographic.{pointwise};
     ghost use Rattle.fluent_uri.specs.Schemes.{lowered_scheme};
 
-    ghost port_of = { λ ports scheme. if pointwise ◌==◌ (lowered_scheme ports.scheme) scheme then Some ports.port else None };
+    ghost port_of = { λ ports scheme.
+        if pointwise ◌==◌ (lowered_scheme ports.scheme) scheme then Some ports.port else None };
 
     fn default_port(&self, scheme: Scheme<'_>) -> Option<u16> {
         if self.scheme == scheme {

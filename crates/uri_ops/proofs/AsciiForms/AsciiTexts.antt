@@ -27,7 +27,7 @@ use Rattle.uri_ops.proofs.Meanings.HostMeanings.{plain_future, future_chars}
 use Rattle.uri_ops.proofs.Meanings.AuthorityMeanings.{utf8_parts}
 use Rattle.uri_ops.proofs.Meanings.AllowedParts.{is_part, part_utf8, part_valid}
 use Rattle.uri_ops.proofs.Meanings.TextParts.{AreParts}
-use Rattle.uri_ops.proofs.Tests.{each_some, both_some}
+use Rattle.uri_pct.proofs.Tests.{each_some, both_some}
 use Rattle.uri_ops.proofs.Normal.NormalTexts.{parts_of}
 use Rattle.uri_ops.proofs.AsciiForms.EncodedAuthorities.{plain_ascii, bracketed_ascii, address_ascii, dotted_ascii}
 use Rattle.uri_ops.proofs.AsciiForms.EncodedMeanings.{scheme_plain}

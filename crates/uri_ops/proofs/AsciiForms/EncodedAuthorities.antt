@@ -24,18 +24,19 @@ use Rattle.uri_parts.proofs.Authorities.Authority.{is_authority_for-sound, is_au
 use Rattle.uri_parts.proofs.HostForms.Addresses.{is_address_char, is_address_text, address_text-ipv6}
 use Rattle.uri_parts.proofs.HostForms.Hosts.{is_host-sound, lacks_starts, utf8_bracketed}
 use Rattle.uri_parts.proofs.TextKinds.SpeltTexts.{valid_lacks}
+use Rattle.uri_parts.proofs.HostForms.Futures.{ipv4_digits}
 use Rattle.uri_ops.specs.ComponentSets.{IsComponentSet, HasComponentSets}
 use Rattle.uri_ops.specs.Encoded.{encoded_text, ascii_set, ascii_kind}
 use Rattle.uri_ops.specs.Meaning.{AuthorityMeaning, Name, host_meaning, port_meaning, authority_meaning}
 use Rattle.uri_ops.proofs.Meanings.AllowedParts.{is_part, part_from, part_utf8, part_valid}
 use Rattle.uri_ops.proofs.Meanings.PlainTexts.{is_plain_char, valid_plain}
-use Rattle.uri_ops.proofs.Meanings.HostMeanings.{plain_addresses, plain_future, future_chars, ipv4_chars, name_meaning, at_name}
+use Rattle.uri_ops.proofs.Meanings.HostMeanings.{plain_addresses, plain_future, future_chars, name_meaning, at_name}
 use Rattle.uri_ops.proofs.Meanings.AuthorityMeanings.{PartsUtf8, utf8_parts, keeps_apart}
 use Rattle.uri_ops.proofs.AsciiForms.EncodedTokens.{IsUtf8-encoded}
 use Rattle.uri_ops.proofs.AsciiForms.EncodedReadings.{part_encoded, read-encoded}
 use Rattle.uri_ops.proofs.AsciiForms.EncodedPaths.{encoded-append, encoded-ascii, starts_encoded}
 use Rattle.uri_ops.proofs.AsciiForms.EncodedComponents.{marked_encoded}
-use Rattle.uri_ops.proofs.Tests.{both_some}
+use Rattle.uri_pct.proofs.Tests.{both_some}
 
 -- the sets of the URIs that go with a kind of IRIs
 ascii_component : (marks : List ℕ) (set : TableSet) → IsComponentSet marks set → IsComponentSet marks (ascii_set set)
@@ -72,7 +73,7 @@ address_ascii text e = plain_ascii is_address_char text (plain_addresses text e)
 
 pub dotted_ascii : (text octets : List ℕ) → IsDotted text octets → list_all (λ c. ltb c 128) text ≡ true
 dotted_ascii text octets h =
-    list_all-from_AllPass (λ c. ltb c 128) text (All-weaker IsDigitOrDot (λ c. ltb c 128 ≡ true) below text (ipv4_chars text octets h))
+    list_all-from_AllPass (λ c. ltb c 128) text (All-weaker IsDigitOrDot (λ c. ltb c 128 ≡ true) below text (ipv4_digits text octets h))
   where
     below : (c : ℕ) → IsDigitOrDot c → ltb c 128 ≡ true
     below c (inl range) = grind (arith, nat_tests)

@@ -10,7 +10,7 @@ use Rattle.uri_ops.specs.Dots.{is_empty}
 use Rattle.uri_ops.specs.Encoded.{encoded_text}
 use Rattle.uri_ops.proofs.Meanings.TextParts.{AreUtf8, utf8_before, scheme_ascii, components_utf8}
 use Rattle.uri_ops.proofs.AsciiForms.EncodedPaths.{encoded-append, encoded-nil, encoded-ascii, Lacks-encoded, starts_encoded, empty_encoded, has_authority_encoded, cut_encoded}
-use Rattle.uri_ops.proofs.Tests.{true_of}
+use Rattle.uri_pct.proofs.Tests.{true_of}
 use Rattle.uri_ops.proofs.Paths.DotRuns.{some_length}
 
 abbrev pub encoded_components : Components → Components

@@ -26,7 +26,7 @@ use Rattle.uri_ops.proofs.Targeting.TargetTexts.{absent}
 use Rattle.uri_ops.proofs.AsciiForms.EncodedPaths.{encoded-append, starts_encoded, empty_encoded, utf8_slashed, underflows_encoded, directory_encoded, cleaned_encoded, guarded_encoded}
 use Rattle.uri_ops.proofs.AsciiForms.EncodedComponents.{encoded_components, recompose-encoded, components-encoded}
 use Rattle.uri_ops.proofs.Targeting.RefusalOrder.{outcome, outcome_map, same_outcome, accepted}
-use Rattle.uri_ops.proofs.Tests.{none_map, some_map}
+use Rattle.uri_pct.proofs.Tests.{none_map, some_map}
 
 -- a merged path in UTF-8
 utf8_join_behind : (s : List ℕ) (rest : List (List ℕ)) → Passes is_utf8 (s ∷ rest) → IsUtf8 (s ++ slashed rest)

@@ -15,6 +15,9 @@ use Rattle.uri_pct.specs.Models.Fronts.{begins_hex}
 use Rattle.uri_pct.proofs.Unicode.Characters.{bytes_of_char, is_high, lead}
 use Rattle.uri_ops.specs.Encoded.{encoded_byte, encoded_text}
 use Rattle.uri_ops.proofs.Meanings.PlainTexts.{ascii_from, utf8_ascii}
+use Rattle.uri_pct.proofs.TableSets.Constants.{hexdigit_past}
+use Rattle.uri_pct.proofs.EncodedTexts.Encodings.{octets_bytes}
+use Rattle.uri_pct.proofs.ValidTexts.Validity.{not_escape}
 
 -- the digits of a byte are two hexadecimal digits of its value
 abbrev are_digits : ℕ → Bool
@@ -151,9 +154,6 @@ octets_first (b ∷ bs) cs e =
     let p = and_parts (is_byte b) (list_all is_byte bs) e in
     ap tokens_of (append_assoc (octet_text b) (flat_map octet_text bs) cs) ∙ octet_first b (flat_map octet_text bs ++ cs) p.0 ∙ ap (λ ts. Octet b ∷ ts) (octets_first bs cs p.1)
 
-hex_past : (b : ℕ) → 128 ≤ b → is_ascii_hexdigit b ≡ false
-hex_past b h = grind (arith, nat_tests)
-
 percent_first : (c : ℕ) (cs : List ℕ) → 128 ≤ c → get_or (encoded_chars (c ∷ cs)) 0 0 ≡ 37
 unfolding encoded_chars
 percent_first c cs h =
@@ -164,7 +164,7 @@ unfolding encoded_chars
 hex_first [] = refl
 hex_first (c ∷ cs) = ⊎_elim
     (λ h. ap (λ t. is_ascii_hexdigit (get_or (t ++ encoded_chars cs) 0 0)) (cond-true _ _ _ (lt-ltb c 128 h)))
-    (λ h. ap is_ascii_hexdigit (percent_first c cs h) ∙ sym (hex_past c h))
+    (λ h. ap is_ascii_hexdigit (percent_first c cs h) ∙ sym (hexdigit_past c h))
     (cases_lt c 128)
 
 begins_hex-encoded : (cs : List ℕ) → begins_hex (encoded_chars cs) ≡ begins_hex cs
@@ -173,7 +173,7 @@ begins_hex-encoded [] = refl
 begins_hex-encoded (c ∷ cs) = ⊎_elim
     (λ h. ap (λ t. is_ascii_hexdigit (get_or (t ++ encoded_chars cs) 0 0) && is_ascii_hexdigit (get_or (t ++ encoded_chars cs) 1 0)) (cond-true _ _ _ (lt-ltb c 128 h))
     ∙ ap (λ t. is_ascii_hexdigit c && t) (hex_first cs))
-    (λ h. and_left _ _ (ap is_ascii_hexdigit (percent_first c cs h)) ∙ sym (and_left _ _ (hex_past c h)))
+    (λ h. and_left _ _ (ap is_ascii_hexdigit (percent_first c cs h)) ∙ sym (and_left _ _ (hexdigit_past c h)))
     (cases_lt c 128)
 
 -- a character that begins no octet
@@ -196,10 +196,6 @@ char_token c cs s e ih =
 opened : (c h l : ℕ) → is_pct_encoded c h l ≡ true → (eqb c 37 && (is_ascii_hexdigit h && is_ascii_hexdigit l)) ≡ true
 unfolding is_pct_encoded
 opened c h l e = e
-
-closed : (c h l : ℕ) (rest : List ℕ) → is_pct_encoded c h l ≡ false → (eqb c 37 && begins_hex (h ∷ l ∷ rest)) ≡ false
-unfolding is_pct_encoded begins_hex
-closed c h l rest e = e
 
 no_digits : (cs : List ℕ) → cs ≡ [] → begins_hex cs ≡ false
 unfolding begins_hex
@@ -244,7 +240,7 @@ tokens_encoded (c ∷ h ∷ l ∷ rest) s =
     let r = and_parts _ (all_scalars rest) q.1 in
     ⊎_elim
     (λ e. octet_token c h l rest e (tokens_encoded rest r.1))
-    (λ e. char_token c (h ∷ l ∷ rest) s (closed c h l rest e) (tokens_encoded (h ∷ l ∷ rest) p.1))
+    (λ e. char_token c (h ∷ l ∷ rest) s (not_escape c h l rest e) (tokens_encoded (h ∷ l ∷ rest) p.1))
     (cases_Bool (is_pct_encoded c h l))
 
 pub tokens-encoded : (text : List ℕ) → IsUtf8 text → tokens (encoded_text text) ≡ flat_map encoded_token (tokens text)
@@ -255,16 +251,11 @@ tokens-encoded text u =
     ∙ tokens_encoded u.0 u.1.0
     ∙ ap (λ cs. flat_map encoded_token (tokens_of cs)) (sym (ap chars same ∙ chars-encodes u.0 u.1.0))
 
--- they stand for the same bytes
-octet_bytes : (bytes : List ℕ) → token_bytes (map Octet bytes) ≡ bytes
-octet_bytes [] = refl
-octet_bytes (b ∷ rest) = ap (λ x. b ∷ x) (octet_bytes rest)
-
 bytes_of_encoded : (t : Token) → token_bytes (encoded_token t) ≡ bytes_of_token t
 bytes_of_encoded (Octet value) = refl
 bytes_of_encoded (Char c) = ⊎_elim
     (λ e. ap token_bytes (cond-true _ _ _ e) ∙ append-nil (encode_utf8 c))
-    (λ e. ap token_bytes (cond-false _ _ _ e) ∙ octet_bytes (encode_utf8 c))
+    (λ e. ap token_bytes (cond-false _ _ _ e) ∙ octets_bytes (encode_utf8 c))
     (cases_Bool (ltb c 128))
 
 bytes_encoded : (ts : List Token) → token_bytes (flat_map encoded_token ts) ≡ token_bytes ts

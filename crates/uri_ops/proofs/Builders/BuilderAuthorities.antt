@@ -23,8 +23,9 @@ use Rattle.uri_ops.specs.HostParts.{IsHostText}
 use Rattle.uri_ops.proofs.Meanings.AuthorityMeanings.{keeps_apart, lacks_text, utf8_parts}
 use Rattle.uri_ops.proofs.Meanings.ComponentEnds.{ends_outside, excludes_front}
 use Rattle.uri_ops.proofs.Meanings.HostMeanings.{lacks_bracketed, slash_outside}
-use Rattle.uri_ops.proofs.Tests.{both_some}
+use Rattle.uri_pct.proofs.Tests.{both_some}
 use Rattle.uri_ops.proofs.Meanings.PlainTexts.{utf8_ascii}
+use Rattle.uri_ops.proofs.Paths.DotRuns.{none_length}
 
 pub authority_utf8 : (kind : Kind) (text : List ℕ) → is_authority_text kind text ≡ true → IsUtf8 text
 unfolding is_authority_text
@@ -51,10 +52,6 @@ no_port p e = none p.port e
     none : (o : Option (List ℕ)) → is_none o ≡ true → o ≡ None
     none None e = refl
     none (Some x) e = absurd (false≢true e)
-
-no_host : (host : List ℕ) → is_empty host ≡ true → host ≡ []
-no_host [] e = refl
-no_host (c ∷ host) e = absurd (false≢true e)
 
 -- a text with these parts is an authority, and these are its parts
 pub record HasParts (kind : Kind) (text : List ℕ) (p : AuthorityParts) : Type 0 where
@@ -86,7 +83,7 @@ module _ (kind : Kind) (sets : HasComponentSets kind) where
       let both = and_parts (is_empty p.host) (takes_port a) t in
       let old = sound a e in
       let U : List ℕ = marked [] p.userinfo (codes "@") in
-      let bare : U ++ [] ≡ a = sym (λ i. U ++ (no_host p.host both.0 i ++ marked (codes ":") (no_port p both.1 i) [])) ∙ old.whole in
+      let bare : U ++ [] ≡ a = sym (λ i. U ++ (none_length p.host both.0 i ++ marked (codes ":") (no_port p both.1 i) [])) ∙ old.whole in
       has_parts (a ++ host) (record { userinfo = p.userinfo; host = host; port = None }) (IsUtf8-append a host (authority_utf8 kind a e) h.utf8) (record {
         whole = ap (λ t. U ++ t) (append-nil host) ∙ ap (λ t. t ++ host) (sym (append-nil U) ∙ bare);
         userinfo = old.userinfo;

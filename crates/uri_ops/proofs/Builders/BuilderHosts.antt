@@ -20,10 +20,11 @@ use Rattle.uri_parts.specs.Hosts.{Ipv4, Ipv6, IsIpv4Text, IsIpv6Text, bracketed,
 use Rattle.uri_parts.proofs.HostForms.Addresses.{address_text-ipv6}
 use Rattle.uri_parts.proofs.HostForms.Hosts.{is_host-sound, lacks_starts}
 use Rattle.uri_parts.proofs.TextKinds.SpeltTexts.{valid_lacks}
+use Rattle.uri_parts.proofs.HostForms.Futures.{ipv4_digits}
 use Rattle.uri_ops.specs.BuilderParts.{is_text_for}
 use Rattle.uri_ops.specs.HostParts.{IsHostText}
 use Rattle.uri_ops.proofs.Builders.BuilderDrafts.{text_from}
-use Rattle.uri_ops.proofs.Meanings.HostMeanings.{name_passes, ipv4_chars, utf8_address, utf8_in_brackets}
+use Rattle.uri_ops.proofs.Meanings.HostMeanings.{name_passes, utf8_address, utf8_in_brackets}
 use Rattle.uri_ops.proofs.Meanings.AllowedParts.{part_utf8, part_valid}
 use Rattle.uri_ops.proofs.Meanings.PlainTexts.{is_plain_char, part_plain, utf8_plain}
 
@@ -38,7 +39,7 @@ dotted_ascii c (inr dot) = grind (arith, nat_tests)
 pub ipv4_host : (names : TableSet) (text octets : List ℕ) → IsIpv4Text text octets → IsHostText names text
 ipv4_host names text octets h = record {
   utf8 = utf8_plain any_ascii text
-      (list_all-from_AllPass (is_plain_char any_ascii) text (All-weaker IsDigitOrDot (λ c. is_plain_char any_ascii c ≡ true) (λ c d. dotted_ascii c d) text (ipv4_chars text octets h)));
+      (list_all-from_AllPass (is_plain_char any_ascii) text (All-weaker IsDigitOrDot (λ c. is_plain_char any_ascii c ≡ true) (λ c d. dotted_ascii c d) text (ipv4_digits text octets h)));
   host = (Ipv4 octets, h);
 }
 

@@ -28,9 +28,10 @@ use Rattle.uri_ops.proofs.Builders.BuilderAuthorities.{authority_lacks, authorit
 use Rattle.uri_ops.proofs.Builders.Drafting.{rules_of}
 use Rattle.uri_ops.proofs.Meanings.ComponentEnds.{ends_outside, excludes_front, no_scheme}
 use Rattle.uri_ops.proofs.Meanings.AllowedParts.{is_part, part_from, part_nil, part_utf8, part_valid}
-use Rattle.uri_ops.proofs.Tests.{true_of}
+use Rattle.uri_pct.proofs.Tests.{true_of}
 use Rattle.uri_ops.proofs.Meanings.TextParts.{AreParts, parts_meet}
 use Rattle.uri_ops.proofs.Normal.NormalComponents.{some_first}
+use Rattle.uri_parts.proofs.Splitting.Places.{rooted_of}
 
 text_part : (set : TableSet) (x : List ℕ) → is_text_for set x ≡ true → is_part set x ≡ true
 unfolding is_text_for
@@ -182,10 +183,6 @@ module _ (kind : Kind) (sets : HasComponentSets kind) (p : BuilderParts) (rules 
       let pass = let_pass p.scheme p.authority (unwrap_or p.path []) (sym (refused_first p) ∙ e) in
       let same = components-recompose (parts_text p) (as_components p) (is_split needs pass) in
       record { of_kind = ap (are_components kind) same ∙ parts_meet kind (as_components p) (are_parts needs pass); components = same }
-
-rooted_of : (authority : Option (List ℕ)) (path : List ℕ) → IfSome authority (λ a. Lacks (codes "/?#") a × IsRooted path) → IfSome authority (λ a. IsRooted path)
-rooted_of None path h = tt
-rooted_of (Some a) path h = h.1
 
 weaker : (s n r : Bool) → (s || (not n && r)) ≡ true → (s || r) ≡ true
 weaker true n r h = refl

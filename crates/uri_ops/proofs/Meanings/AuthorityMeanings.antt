@@ -29,7 +29,7 @@ use Rattle.uri_ops.proofs.Paths.PathCharacters.{test_lacks}
 use Rattle.uri_ops.proofs.Meanings.ComponentEnds.{ends_outside, excludes_front}
 use Rattle.uri_ops.proofs.Meanings.HostMeanings.{IsHostOf, host_printed}
 use Rattle.uri_ops.proofs.Normal.NormalComponents.{KeepsAuthorities, printed_part, printed_read, part_cut_at}
-use Rattle.uri_ops.proofs.Tests.{both_some, each_some}
+use Rattle.uri_pct.proofs.Tests.{both_some, each_some}
 
 -- fewer marks are lacked too
 some_end : (set : TableSet) (marks : List ℕ) → list_any set.ascii marks ≡ false → list_all (λ c. not (set.ascii c)) marks ≡ true

@@ -19,6 +19,7 @@ use Rattle.uri_pct.proofs.Unicode.CharacterPieces.{utf8_pieces-are}
 use Rattle.uri_pct.proofs.Unicode.Characters.{bytes_of_char, lead, is_high}
 use Rattle.uri_pct.proofs.EncodedTexts.Encodings.{text_as_pieces}
 use Rattle.uri_ops.specs.Models.Readings.{cased}
+use Rattle.uri_pct.proofs.Readings.Formatting.{lower_octets, past_same}
 
 -- text that stands for itself
 pub print_chars : (cs : List ℕ) → print (map Char cs) ≡ encode_utf8_all cs
@@ -28,26 +29,22 @@ print_chars (c ∷ cs) = ap (λ x. encode_utf8 c ++ x) (print_chars cs)
 pub print_text : (text : List ℕ) → IsUtf8 text → print (map Char (chars text)) ≡ text
 print_text text u = print_chars (chars text) ∙ encodes-chars text u
 
--- the bytes of a character in lower case
-high_same : (b : ℕ) → 128 ≤ b → to_ascii_lowercase b ≡ b
-high_same b h = grind (arith, nat_tests)
-
 high_bytes : (bytes : List ℕ) → list_all is_high bytes ≡ true → map to_ascii_lowercase bytes ≡ bytes
 high_bytes [] e = refl
 high_bytes (b ∷ bytes) e =
     let p = and_parts (is_high b) (list_all is_high bytes) e in
-    ap (λ x. x ∷ map to_ascii_lowercase bytes) (high_same b (leb-true 128 b p.0)) ∙ ap (λ x. b ∷ x) (high_bytes bytes p.1)
+    ap (λ x. x ∷ map to_ascii_lowercase bytes) (past_same b (leb-true 128 b p.0)) ∙ ap (λ x. b ∷ x) (high_bytes bytes p.1)
 
 high_char : (c : ℕ) → 128 ≤ c → map to_ascii_lowercase (encode_utf8 c) ≡ encode_utf8 c
 high_char c h =
     let w = bytes_of_char c in
     let first : 128 ≤ w.first = subst (λ x. 128 ≤ slice_index x 0) (append-nil (encode_utf8 c) ∙ w.spelt) (lead c [] h) in
-    ap (map to_ascii_lowercase) w.spelt ∙ ap (λ x. x ∷ map to_ascii_lowercase w.more) (high_same w.first first) ∙ ap (λ x. w.first ∷ x) (high_bytes w.more w.high) ∙ sym w.spelt
+    ap (map to_ascii_lowercase) w.spelt ∙ ap (λ x. x ∷ map to_ascii_lowercase w.more) (past_same w.first first) ∙ ap (λ x. w.first ∷ x) (high_bytes w.more w.high) ∙ sym w.spelt
 
 lower_char : (c : ℕ) → encode_utf8 (to_ascii_lowercase c) ≡ map to_ascii_lowercase (encode_utf8 c)
 lower_char c = ⊎_elim
     (λ h. encode_ascii (to_ascii_lowercase c) (lowercase_ascii c h) ∙ sym (ap (map to_ascii_lowercase) (encode_ascii c h)))
-    (λ h. ap encode_utf8 (high_same c h) ∙ sym (high_char c h))
+    (λ h. ap encode_utf8 (past_same c h) ∙ sym (high_char c h))
     (cases_lt c 128)
 
 lower_encoded : (cs : List ℕ) → encode_utf8_all (map to_ascii_lowercase cs) ≡ str_to_ascii_lowercase (encode_utf8_all cs)
@@ -88,10 +85,6 @@ letters_unreserved c e = grind (arith, nat_tests)
 
 lower_unreserved : (c : ℕ) → is_unreserved c ≡ true → is_unreserved (to_ascii_lowercase c) ≡ true
 lower_unreserved c e = grind (arith, nat_tests)
-
-lower_octets : (bytes : List ℕ) → map lower_token (map Octet bytes) ≡ map Octet bytes
-lower_octets [] = refl
-lower_octets (b ∷ bytes) = ap (λ ts. Octet b ∷ ts) (lower_octets bytes)
 
 pub cased_octets : (lowers : Bool) (bytes : List ℕ) → cased lowers (map Octet bytes) ≡ map Octet bytes
 cased_octets true bytes = lower_octets bytes

@@ -18,7 +18,7 @@ use Rattle.uri_parts.specs.Components.{starts}
 use Rattle.uri_parts.specs.Hosts.{ipv4_value, is_host}
 use Rattle.uri_parts.proofs.Authorities.AuthorityPlaces.{name_valid}
 use Rattle.uri_parts.proofs.HostForms.Addresses.{ipv4_value-sound}
-use Rattle.uri_ops.proofs.Meanings.HostMeanings.{ipv4_chars}
+use Rattle.uri_parts.proofs.HostForms.Futures.{ipv4_digits}
 use Rattle.uri_ops.proofs.Meanings.AllowedParts.{part_valid}
 use Rattle.uri_ops.proofs.Meanings.PlainTexts.{is_plain_char, part_plain}
 
@@ -38,7 +38,7 @@ dotted_decodes : (text octets : List ℕ) → IsDotted text octets → IsValidFo
 dotted_decodes text octets h =
     part_valid widest_set text
     (part_plain widest_set no_mark refl refl (λ c e. e) text
-    (list_all-from_AllPass (is_plain_char no_mark) text (All-weaker IsDigitOrDot (λ c. is_plain_char no_mark c ≡ true) (λ c d. unmarked c d) text (ipv4_chars text octets h))))
+    (list_all-from_AllPass (is_plain_char no_mark) text (All-weaker IsDigitOrDot (λ c. is_plain_char no_mark c ≡ true) (λ c d. unmarked c d) text (ipv4_digits text octets h))))
 
 -- a host that doesn't begin with `[`: an IPv4 address or a name
 pub named_decodes : (table : Table) (names : TableSet) (host : List ℕ) → set_of table ≡ names → is_host names host ≡ true → starts 91 host ≡ false → IsValidFor widest_set host

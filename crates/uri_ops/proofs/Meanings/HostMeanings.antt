@@ -13,7 +13,7 @@ use Rattle.std.proofs.lemmas.Bool.{and_parts, and_from, or_right, cond-false, lt
 use Rattle.std.proofs.lemmas.List.Folds.{list_all-append}
 use Rattle.std.proofs.lemmas.Bool.Decides.{nat_tests}
 use Rattle.std.proofs.lemmas.Str.{IsUtf8-append}
-use Rattle.std.proofs.NetLemmas.Alphabet.{IsDigitOrDot, All-ipv4_text}
+use Rattle.std.proofs.NetLemmas.Alphabet.{IsDigitOrDot}
 use Rattle.uri_pct.specs.Sets.{TableSet, is_one_of, ipv_future_set, is_userinfo_char, is_unreserved}
 use Rattle.uri_pct.specs.Tokens.{print, is_valid_for}
 use Rattle.uri_pct.specs.Reading.{lower_token, read}
@@ -37,6 +37,7 @@ use Rattle.uri_ops.proofs.Meanings.AllowedParts.{is_part, part_from, part_valid,
 use Rattle.uri_ops.proofs.Meanings.PlainTexts.{is_plain_char, valid_plain, utf8_plain, utf8_ascii, part_plain, plain_wider, plain_lower, lower_twice}
 use Rattle.uri_ops.proofs.Paths.PathCharacters.{test_lacks}
 use Rattle.uri_ops.proofs.Meanings.ComponentEnds.{ends_outside, excludes_front}
+use Rattle.uri_parts.proofs.HostForms.Futures.{ipv4_digits}
 
 -- what is known of a text that is printed from the meaning of a host
 pub record IsHostOf (names : TableSet) (m : HostMeaning) (text : List ℕ) : Type 0 where
@@ -129,18 +130,6 @@ lower_plain_future text h w =
 pub slash_outside : excludes ipv_future_set (codes "/?#") ≡ true
 slash_outside = refl
 
-four_fit : (a b c d : ℕ) → a < 256 → b < 256 → c < 256 → d < 256 → (k : ℕ) → get_or (a ∷ b ∷ c ∷ d ∷ []) k 0 < 2 ^ 8
-four_fit a b c d p q r s zero = p
-four_fit a b c d p q r s (suc zero) = q
-four_fit a b c d p q r s (suc (suc zero)) = r
-four_fit a b c d p q r s (suc (suc (suc zero))) = s
-four_fit a b c d p q r s (suc (suc (suc (suc k)))) = omega arith
-
--- an IPv4 address is digits and dots
-pub ipv4_chars : (text octets : List ℕ) → IsDotted text octets → All IsDigitOrDot text
-ipv4_chars text octets h =
-    subst (All IsDigitOrDot) (sym h.spelled) (All-ipv4_text (h.a ∷ h.b ∷ h.c ∷ h.d ∷ []) (four_fit h.a h.b h.c h.d h.fit.0 h.fit.1 h.fit.2 h.fit.3))
-
 pub name_passes : (names : TableSet) (text : List ℕ) → starts 91 text ≡ false → is_valid_for names text ≡ true → is_host names text ≡ true
 unfolding is_host
 name_passes names text e valid = cond-false _ _ _ e ∙ or_right _ _ valid
@@ -182,7 +171,7 @@ module _ (names : TableSet) (w : IsComponentSet (codes "/?#[]@:") names) (apart 
 
   dotted_part : (text octets : List ℕ) → IsDotted text octets → is_part names text ≡ true
   dotted_part text octets h =
-      let chars = ipv4_chars text octets h in
+      let chars = ipv4_digits text octets h in
       part_plain names is_unreserved w.percent not_unreserved (λ c e. w.unreserved.ascii c e) text
       (list_all-from_AllPass (is_plain_char is_unreserved) text (All-weaker IsDigitOrDot (λ c. is_plain_char is_unreserved c ≡ true) (λ c d. digit_unreserved c d) text chars))
 

@@ -10,7 +10,8 @@ use Rattle.uri_parts.specs.Components.{Components, starts, before_any, from_any,
 use Rattle.uri_parts.specs.Grammar.{Kind, if_some, is_scheme, has_colon_first, is_authority, are_components}
 use Rattle.uri_parts.proofs.Parsing.ReadingStops.{utf8_from, utf8_tail, utf8_slashes}
 use Rattle.uri_ops.proofs.Meanings.AllowedParts.{is_part, part_from, part_valid}
-use Rattle.uri_ops.proofs.Tests.{both_some}
+use Rattle.uri_pct.proofs.Tests.{both_some}
+use Rattle.uri_parts.proofs.Parsing.Texts.{utf8_authority, utf8_scheme}
 
 -- the grammar of a kind, each component with its rule
 pub record AreParts (kind : Kind) (p : Components) : Type 0 where
@@ -70,18 +71,6 @@ path_ascii = ascii_marks (codes "?#") refl
 
 query_ascii : AreAscii (codes "#")
 query_ascii = ascii_marks (codes "#") refl
-
-utf8_scheme : (text : List ℕ) → IsUtf8 text → IsUtf8 (after_scheme text)
-utf8_scheme text u = ⊎_elim
-    (λ e. rw e (utf8_past 58 (from_any (codes ":/?#") text) (omega arith) (and_parts _ _ e).0 (utf8_from (codes ":/?#") text scheme_ascii u)))
-    (λ e. rw e u)
-    (cases_Bool (has_scheme text))
-
-utf8_authority : (rest : List ℕ) → IsUtf8 rest → IsUtf8 (after_authority rest)
-utf8_authority rest u = ⊎_elim
-    (λ e. rw e (utf8_from (codes "/?#") (drop 2 rest) authority_ascii (utf8_slashes rest e u)))
-    (λ e. rw e u)
-    (cases_Bool (has_authority rest))
 
 utf8_query : (end : List ℕ) → IsUtf8 end → IsUtf8 (after_query end)
 utf8_query end u = ⊎_elim

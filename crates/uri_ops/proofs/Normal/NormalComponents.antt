@@ -27,7 +27,7 @@ use Rattle.uri_ops.proofs.Paths.ReadStarts.{starts_reprinted, has_authority_repr
 use Rattle.uri_ops.proofs.Paths.PathMeanings.{part_guarded, part_cleaned, read_guarded}
 use Rattle.uri_ops.proofs.Meanings.PlainTexts.{lower_twice, scheme_lower, utf8_scheme_lower}
 use Rattle.uri_ops.proofs.Meanings.TextParts.{AreParts}
-use Rattle.uri_ops.proofs.Tests.{true_of}
+use Rattle.uri_pct.proofs.Tests.{true_of}
 use Rattle.uri_parts.proofs.Splitting.Recompose.{true_to}
 
 -- an authority that is printed from its meaning is one, lacks the marks that would end it, and has that meaning

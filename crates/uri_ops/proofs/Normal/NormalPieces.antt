@@ -21,7 +21,7 @@ use Rattle.uri_ops.specs.Target.{guarded}
 use Rattle.uri_ops.proofs.Meanings.AllowedParts.{part_from, part_valid, reprinted}
 use Rattle.uri_ops.proofs.Paths.ReadPaths.{part_removed}
 use Rattle.uri_ops.proofs.Paths.ReadStarts.{has_authority_reprinted, no_authority_first}
-use Rattle.uri_ops.proofs.Tests.{some_map}
+use Rattle.uri_pct.proofs.Tests.{some_map}
 
 -- a path without its dot segments is made of the same characters
 pub removed_valid : (set : TableSet) → IsComponentSet (codes "?#[]") set → set.ascii 47 ≡ true → (path text : List ℕ) → IsAbsolute path → IsUtf8 path → IsValidFor set path → text ≡ remove_dot_segments path → IsValidFor set text

@@ -17,7 +17,7 @@ use Rattle.uri_ops.proofs.Meanings.PlainTexts.{utf8_ascii}
 use Rattle.uri_ops.proofs.Meanings.TextParts.{AreParts, components_utf8, meet_parts, parts_meet}
 use Rattle.uri_ops.proofs.Normal.NormalComponents.{normal_of, normal_parts, normal_split, normal_meaning}
 use Rattle.uri_ops.proofs.Meanings.AuthorityMeanings.{keeps_authorities}
-use Rattle.uri_ops.proofs.Tests.{each_some}
+use Rattle.uri_pct.proofs.Tests.{each_some}
 
 -- components in UTF-8 recompose to UTF-8
 utf8_marked : (before behind : List ℕ) (o : Option (List ℕ)) → IsUtf8 before → IsUtf8 behind → IfSome o IsUtf8 → IsUtf8 (marked before o behind)

@@ -8,7 +8,7 @@ use Rattle.uri_parts.specs.Components.{IsRooted}
 use Rattle.uri_ops.specs.Dots.{is_single_dot, is_double_dot, is_dot_segment, segments, lacks_dot_segments, run, remove_dot_segments, underflows, directory, IsAbsolute, EndsInSlash}
 use Rattle.uri_ops.proofs.Paths.Segments.{pop, is_none, turn, step_of, steps, end_of, closing, cleaned, sinks, parent, Passes, is_plain, none_push, append_passes, steps_pass, cleaned_passes, cleaned_plain, cleaned_is_plain, cleaned_closed, cleaned_front, cleaned_parent, cleaned_some, sinks_plain, sinks_front, sinks_closed, sinks_parent}
 use Rattle.uri_ops.proofs.Paths.SlashedSegments.{slashed, lacks_slash, NoSlashes, slashed_append, slashed_push, remove_slashed, underflows_slashed, directory_slashed, parent_passes, slashed_segments, segments_lack, segments_some, segments_slashed}
-use Rattle.uri_ops.proofs.Tests.{true_of}
+use Rattle.uri_pct.proofs.Tests.{true_of}
 
 -- what holds of each path that is made of segments holds of each path that begins with `/`
 some_segments : (P : List ℕ → Type 0) → ((s : List ℕ) (rest : List (List ℕ)) → NoSlashes (s ∷ rest) → P (slashed (s ∷ rest))) → (segs : List (List ℕ)) → is_none segs ≡ false → NoSlashes segs → P (slashed segs)

@@ -25,7 +25,7 @@ pub some_length : (text : List ℕ) → is_empty text ≡ false → 0 < length t
 some_length [] e = absurd (false≢true (ap not e))
 some_length (c ∷ rest) e = omega arith
 
-none_length : (text : List ℕ) → is_empty text ≡ true → text ≡ []
+pub none_length : (text : List ℕ) → is_empty text ≡ true → text ≡ []
 none_length [] e = refl
 none_length (c ∷ rest) e = absurd (false≢true e)
 

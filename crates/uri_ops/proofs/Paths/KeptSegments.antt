@@ -11,7 +11,7 @@ use Rattle.std.proofs.lemmas.Bool.{and_parts, eqb-true, false≢true}
 use Rattle.uri_ops.specs.Dots.{is_single_dot, is_double_dot, is_empty, before_last_slash, segments, remove_dot_segments, underflows, IsAbsolute}
 use Rattle.uri_ops.proofs.Paths.Segments.{turn, step_of, steps, end_of, closing, cleaned, sunk, sinks, steps_append, steps_pass, closing_append, sinks_append}
 use Rattle.uri_ops.proofs.Paths.SlashedSegments.{slashed, lacks_slash, NoSlashes, slashed_append, slashed_push, before_slashed, empty_slashed, remove_slashed, underflows_slashed, slashed_segments, segments_lack}
-use Rattle.uri_ops.proofs.Tests.{true_of}
+use Rattle.uri_pct.proofs.Tests.{true_of}
 
 -- behind what stood there before is what is left of the segments
 pub record IsAfter (before : List ℕ) (segs : List (List ℕ)) (text : List ℕ) (underflowed ends_in_dots : Bool) : Type 0 where

@@ -10,7 +10,7 @@ use Rattle.uri_parts.specs.Components.{IsRooted}
 use Rattle.uri_ops.specs.Dots.{is_empty, has_slash, is_double_dot, before_last_slash, last_segment, directory, IsAbsolute}
 use Rattle.uri_ops.specs.Models.Places.{IsSlashOrAt}
 use Rattle.uri_ops.proofs.Paths.SlashedSegments.{any_slash, before_append, last_append}
-use Rattle.uri_ops.proofs.Tests.{true_of}
+use Rattle.uri_pct.proofs.Tests.{true_of}
 
 before_slash : (xs ys : List ℕ) → has_slash ys ≡ false → before_last_slash (xs ++ 47 ∷ ys) ≡ xs
 before_slash xs ys e = before_append xs (47 ∷ ys) refl ∙ ap (λ t. xs ++ t) (cond-false _ _ _ e) ∙ append-nil xs

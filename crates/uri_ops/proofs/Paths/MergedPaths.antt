@@ -14,7 +14,7 @@ use Rattle.uri_ops.proofs.Meanings.AllowedParts.{is_part, part_utf8, reprinted, 
 use Rattle.uri_ops.proofs.Paths.ReadPaths.{part_cut, part_join, part_removed, part_directory, directory_reprinted, removed_reprinted}
 use Rattle.uri_ops.proofs.Paths.PathMeanings.{cleaned_guarded, part_cleaned}
 use Rattle.uri_ops.proofs.Normal.NormalComponents.{rooted_reprinted}
-use Rattle.uri_ops.proofs.Tests.{true_of}
+use Rattle.uri_pct.proofs.Tests.{true_of}
 
 pub merged_absolute : (path y : List ℕ) → IsRooted path → IsAbsolute (directory path ++ y)
 merged_absolute path y h = absolute_append (directory path) y (directory_absolute path h)

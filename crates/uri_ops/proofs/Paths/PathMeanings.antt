@@ -20,7 +20,7 @@ use Rattle.uri_ops.proofs.Paths.DotLaws.{by_segments, removed_absolute, removed_
 use Rattle.uri_ops.proofs.Meanings.AllowedParts.{is_part, part_from, part_nil, reprinted, read-reprinted}
 use Rattle.uri_ops.proofs.Paths.ReadPaths.{part_join, part_cut, removed_reprinted, part_removed}
 use Rattle.uri_ops.proofs.Paths.ReadStarts.{starts_reprinted}
-use Rattle.uri_ops.proofs.Tests.{true_of}
+use Rattle.uri_pct.proofs.Tests.{true_of}
 use Rattle.uri_parts.proofs.Splitting.Recompose.{true_to}
 
 -- a path with its dot segments removed begins as the path does

@@ -24,7 +24,7 @@ use Rattle.uri_ops.proofs.Meanings.PlainTexts.{lower_twice}
 use Rattle.uri_ops.proofs.Normal.NormalComponents.{printed_read, normal_meaning}
 use Rattle.uri_ops.proofs.Meanings.AuthorityMeanings.{keeps_authorities}
 use Rattle.uri_ops.proofs.Paths.MergedPaths.{cleaned_merged}
-use Rattle.uri_ops.proofs.Tests.{none_map}
+use Rattle.uri_pct.proofs.Tests.{none_map}
 
 abbrev pub of_parts : Option (List ℕ) → Option (List ℕ) → List ℕ → Option (List ℕ) → Option (List ℕ) → Components
 of_parts scheme authority path query fragment = record { scheme = scheme; authority = authority; path = path; query = query; fragment = fragment }

@@ -20,7 +20,7 @@ use Rattle.uri_ops.proofs.Meanings.TextParts.{AreParts}
 use Rattle.uri_ops.proofs.Normal.NormalTexts.{parts_of, normal_is_text, meaning_of-normal_text}
 use Rattle.uri_ops.proofs.Targeting.JoinedMeanings.{of_parts, with_scheme, target_meaning, joined_normal, refused_normal}
 use Rattle.uri_ops.proofs.Targeting.RefusalOrder.{outcome, outcome_map, same_outcome}
-use Rattle.uri_ops.proofs.Tests.{some_map}
+use Rattle.uri_pct.proofs.Tests.{some_map}
 use Rattle.uri_parts.proofs.TextKinds.KindSets.{with_scheme as scheme_where_needed}
 
 joined_scheme : (base r : Components) → is_some base.scheme ≡ true → is_some (joined base r).scheme ≡ true

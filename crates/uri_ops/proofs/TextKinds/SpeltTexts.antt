@@ -17,7 +17,7 @@ use Rattle.uri_ops.specs.ComponentSets.{HasComponentSets}
 use Rattle.uri_ops.proofs.Meanings.AuthorityMeanings.{keeps_apart}
 use Rattle.uri_ops.proofs.TextKinds.FourKinds.{uri_sets, uri_ref_sets, iri_sets, iri_ref_sets}
 use Rattle.uri_ops.proofs.Meanings.AllowedParts.{is_part, part_from, part_valid}
-use Rattle.uri_ops.proofs.Tests.{each_some, both_some}
+use Rattle.uri_pct.proofs.Tests.{each_some, both_some}
 use Rattle.uri_ops.proofs.Meanings.TextParts.{AreParts, AreUtf8, components_utf8, meet_parts, parts_meet}
 
 -- the rule on schemes and colons

@@ -18,7 +18,7 @@ use Rattle.uri_ops.specs.Texts.{IsTextOf}
 use Rattle.uri_ops.proofs.Meanings.AllowedParts.{is_part, part_from, part_utf8, part_valid}
 use Rattle.uri_ops.proofs.Meanings.TextParts.{components_utf8, meet_parts, parts_meet}
 use Rattle.uri_ops.proofs.Meanings.AuthorityMeanings.{keeps_apart}
-use Rattle.uri_ops.proofs.Tests.{each_some}
+use Rattle.uri_pct.proofs.Tests.{each_some}
 
 module _ (s t : TableSet) (w : IsSubset s t) where
   past_wider : (c : ℕ) → allows_past_ascii s c ≡ true → allows_past_ascii t c ≡ true

@@ -20,4 +20,5 @@ parts_at place p =
 -- components whose authority has these parts
 abbrev pub written_at : Components → Option AuthorityParts → Positions
 written_at p parts =
-    record (positions_of p) { authority = option_map (parts_at (marked_length 1 p.scheme + 2)) parts }
+    let place = marked_length 1 p.scheme + 2 in
+    record (positions_of p) { authority = option_map (parts_at place) parts }

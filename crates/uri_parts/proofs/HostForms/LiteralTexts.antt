@@ -15,6 +15,7 @@ use Rattle.uri_parts.specs.Components.{starts, before_any, from_any}
 use Rattle.uri_parts.specs.Hosts.{ipv6_value, is_ipv_future, is_future_address}
 use Rattle.uri_parts.specs.Models.AuthorityReading.{is_literal}
 use Rattle.uri_parts.specs.Models.Literals.{literal_before, reads_literal, literal_length}
+use Rattle.uri_pct.proofs.Tests.{true_of}
 
 same_test : (mark c : ℕ) → eqb c mark ≡ is_one_of (mark ∷ []) c
 same_test mark c = grind (arith, nat_tests)
@@ -72,9 +73,6 @@ digit_ascii c radix most h = grind (arith, nat_tests)
 pub lettered_boundary : (text : List ℕ) → IsUtf8 text → (starts 118 text || starts 86 text) ≡ true → IsCharBoundary text 1
 lettered_boundary [] u e = absurd (false≢true e)
 lettered_boundary (letter ∷ rest) u e = IsCharBoundary-after_ascii (letter ∷ rest) 0 u (omega arith) (letter_ascii letter e)
-
-true_of : (b : Bool) → IsTrue b → b ≡ true
-true_of b h = search rules
 
 pub behind_ascii : (text bytes : List ℕ) (i byte : ℕ) → bytes ≡ text → IsUtf8 text → i < length bytes → byte < 128 → IsTrue (eqb (get_or bytes i 0) byte) → IsCharBoundary text (i + 1)
 behind_ascii text bytes i byte e u inside ascii h =

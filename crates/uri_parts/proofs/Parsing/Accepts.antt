@@ -14,14 +14,7 @@ use Rattle.uri_parts.specs.Models.Reading.{reads_path}
 use Rattle.uri_parts.proofs.Parsing.ReadingStops.{piece, utf8_from, utf8_tail}
 use Rattle.uri_parts.proofs.TextKinds.Separations.{Separates}
 use Rattle.uri_pct.proofs.ValidTexts.Fronts.{none_read}
-
-and_true : (x : Bool) → (x && true) ≡ x
-and_true true = refl
-and_true false = refl
-
-or_false : (x : Bool) → (x || false) ≡ x
-or_false true = refl
-or_false false = refl
+use Rattle.uri_pct.proofs.Tests.{and_true, or_false}
 
 flip : (a b : ℕ) → eqb b a ≡ true → eqb a b ≡ true
 flip a b e = eq-eqb a b (sym (eqb-true b a e))
@@ -44,7 +37,7 @@ none_of_three b e = (grind (arith, nat_tests), grind (arith, nat_tests))
 one_of_three : (b : ℕ) → is_one_of (codes "/?#") b ≡ true → eqb b 47 ≡ false → is_one_of (codes "?#") b ≡ true
 one_of_three b e s = grind (arith, nat_tests)
 
-none_of_four : (b : ℕ) → is_one_of (codes ":/?#") b ≡ false → (is_one_of (codes ":/") b ≡ false) × (is_one_of (codes "?#") b ≡ false)
+pub none_of_four : (b : ℕ) → is_one_of (codes ":/?#") b ≡ false → (is_one_of (codes ":/") b ≡ false) × (is_one_of (codes "?#") b ≡ false)
 none_of_four b e = (grind (arith, nat_tests), grind (arith, nat_tests))
 
 module _ (segment : TableSet) (kind : Kind) (w : Separates segment kind) where

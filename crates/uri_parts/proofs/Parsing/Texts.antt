@@ -18,10 +18,7 @@ use Rattle.uri_parts.proofs.Parsing.Accepts.{fragment_ok, end_ok, path_lemma}
 use Rattle.uri_parts.proofs.Splitting.Hierarchies.{rest_ok, hier_lemma, slashes_lemma}
 use Rattle.uri_parts.proofs.Splitting.Relative.{scheme_lacks, scheme_marks, stops_at_colon, colon_first, relative_lemma, relative_false, relative_within}
 use Rattle.uri_parts.proofs.Splitting.Cuts.{before_past_other, from_at_mark}
-
-and_true : (x : Bool) → (x && true) ≡ x
-and_true true = refl
-and_true false = refl
+use Rattle.uri_pct.proofs.Tests.{and_true}
 
 regroup : (a b p q f c : Bool) → (((((a && b) && p) && q) && f) && c) ≡ (a && (c && (b && (p && (q && f)))))
 regroup false b p q f c = refl
@@ -94,12 +91,12 @@ scheme_head (b ∷ rest) e = ⊎_elim
 cut_scheme : (text : List ℕ) → IsUtf8 text → is_valid_for scheme_set (before_any (codes ":/?#") text) ≡ eqb (front scheme_set text) (to_mark (codes ":/?#") text)
 cut_scheme text u = cut (codes ":/?#") scheme_set scheme_lacks scheme_marks text u
 
-utf8_scheme : (text : List ℕ) → IsUtf8 text → IsUtf8 (after_scheme text)
+pub utf8_scheme : (text : List ℕ) → IsUtf8 text → IsUtf8 (after_scheme text)
 utf8_scheme text u = ⊎_elim
     (λ e. rw e (utf8_past 58 (lit< tt) (from_any (codes ":/?#") text) (and_parts _ _ e).0 (utf8_from (codes ":/?#") text (ascii_marks (codes ":/?#") refl) u)))
     (λ e. rw e u) (cases_Bool (has_scheme text))
 
-utf8_authority : (rest : List ℕ) → IsUtf8 rest → IsUtf8 (after_authority rest)
+pub utf8_authority : (rest : List ℕ) → IsUtf8 rest → IsUtf8 (after_authority rest)
 utf8_authority rest u = ⊎_elim
     (λ e. rw e (utf8_from (codes "/?#") (drop 2 rest) (ascii_marks (codes "/?#") refl) (utf8_slashes rest e u)))
     (λ e. rw e u) (cases_Bool (has_authority rest))

@@ -19,6 +19,7 @@ use Rattle.uri_parts.proofs.Splitting.Marks.{fragment_text, Begins-fragment_text
 use Rattle.uri_parts.proofs.Splitting.Places.{before_hash, before_hash-append, recompose-before_hash, length-before_hash, before_mark, hash_mark}
 use Rattle.uri_parts.proofs.Splitting.Recompose.{IsSplitOf-components}
 use Rattle.uri_parts.proofs.Splitting.Splits.{components-recompose}
+use Rattle.uri_pct.proofs.Tests.{each_some}
 
 -- what begins with `#` behind a text makes no scheme of it
 colon_behind : (marks front back tail : List ℕ) → Lacks marks front → Begins marks back → Begins marks tail → starts 58 tail ≡ false
@@ -79,16 +80,12 @@ Lacks-marked : (before behind : List ℕ) (part : Option (List ℕ)) → Lacks (
 Lacks-marked before behind None b p e = All-nil is_other
 Lacks-marked before behind (Some x) b p e = All-append is_other (before ++ x) behind (All-append is_other before x b p) e
 
-some_as : (o : Option (List ℕ)) (P Q : List ℕ → Type 0) → ((x : List ℕ) → P x → Q x) → IfSome o P → IfSome o Q
-some_as None P Q f h = tt
-some_as (Some x) P Q f h = f x h
-
 Lacks-before_hash : (text : List ℕ) (p : Components) → IsSplitOf text p → Lacks (codes "#") (before_hash p)
 Lacks-before_hash text p split =
     let Hash : List ℕ → Type 0 = Lacks (codes "#") in
     let nil : Hash [] = All-nil is_other in
-    let scheme = Lacks-marked [] (codes ":") p.scheme nil (some_as p.scheme _ Hash (λ s h. fewer (codes ":/?#") s (λ c e. grind (arith, nat_tests)) h.1) split.scheme) (All-cons is_other 58 [] refl nil) in
-    let authority = Lacks-marked (codes "//") [] p.authority (All-cons is_other 47 (codes "/") refl (All-cons is_other 47 [] refl nil)) (some_as p.authority _ Hash (λ a h. fewer (codes "/?#") a (λ c e. grind (arith, nat_tests)) h.0) split.authority) nil in
+    let scheme = Lacks-marked [] (codes ":") p.scheme nil (each_some p.scheme _ Hash (λ s h. fewer (codes ":/?#") s (λ c e. grind (arith, nat_tests)) h.1) split.scheme) (All-cons is_other 58 [] refl nil) in
+    let authority = Lacks-marked (codes "//") [] p.authority (All-cons is_other 47 (codes "/") refl (All-cons is_other 47 [] refl nil)) (each_some p.authority _ Hash (λ a h. fewer (codes "/?#") a (λ c e. grind (arith, nat_tests)) h.0) split.authority) nil in
     let path = fewer (codes "?#") p.path (λ c e. grind (arith, nat_tests)) split.path in
     let query = Lacks-marked (codes "?") [] p.query (All-cons is_other 63 [] refl nil) split.query nil in
     All-append is_other _ _ (All-append is_other _ _ (All-append is_other _ _ scheme authority) path) query

@@ -7,6 +7,7 @@ use Rattle.std.proofs.lemmas.Bool.Decides.{nat_tests}
 use Rattle.uri_pct.specs.Sets.{is_one_of}
 use Rattle.uri_parts.specs.Components.{marked, starts, has_scheme, has_authority, after_scheme, after_authority, after_query, when, Lacks, IsRooted, before_any, from_any}
 use Rattle.uri_parts.proofs.Splitting.Cuts.{Begins, Begins-more, cut-append}
+use Rattle.uri_pct.proofs.Tests.{true_of}
 
 -- the text of a fragment, and of a query and a fragment
 abbrev pub fragment_text : Option (List ℕ) → List ℕ
@@ -57,9 +58,6 @@ has_authority-append (a ∷ d ∷ path) tail begins = refl
 
 pub nil_cons : (c : ℕ) (xs : List ℕ) → c ∷ xs ≡ [] → ⊥
 nil_cons c xs e = cc
-
-true_of : (b : Bool) → IsTrue b → b ≡ true
-true_of b h = search rules
 
 slash_mark : (c : ℕ) → eqb c 47 ≡ true → is_one_of (codes "/?#") c ≡ true
 slash_mark c e = ap (is_one_of (codes "/?#")) (eqb-true c 47 e)

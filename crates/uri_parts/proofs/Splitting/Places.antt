@@ -173,7 +173,7 @@ authority_at text scheme None path query fragment split utf8 = tt
 authority_at text scheme (Some a) path query fragment split utf8 =
     authority_lies text scheme a path (query_text query fragment) (sym split.whole) utf8 split.authority.1 (Begins-query_text query fragment)
 
-rooted_of : (authority : Option (List ℕ)) (path : List ℕ) → IfSome authority (λ a. Lacks (codes "/?#") a × IsRooted path) → IfSome authority (λ a. IsRooted path)
+pub rooted_of : (authority : Option (List ℕ)) (path : List ℕ) → IfSome authority (λ a. Lacks (codes "/?#") a × IsRooted path) → IfSome authority (λ a. IsRooted path)
 rooted_of None path some = tt
 rooted_of (Some a) path some = some.1
 

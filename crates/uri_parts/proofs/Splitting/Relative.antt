@@ -15,11 +15,8 @@ use Rattle.uri_parts.specs.Grammar.{Kind, has_colon_first}
 use Rattle.uri_parts.specs.Models.Reading.{is_stray, reads_end, reads_path, reads_relative}
 use Rattle.uri_parts.proofs.Parsing.ReadingStops.{stop_cases}
 use Rattle.uri_parts.proofs.TextKinds.Separations.{Separates}
-use Rattle.uri_parts.proofs.Parsing.Accepts.{end_stuck}
+use Rattle.uri_parts.proofs.Parsing.Accepts.{end_stuck, none_of_four}
 use Rattle.uri_parts.proofs.Splitting.Cuts.{before_past_other, from_past_other, before_at_mark, from_at_mark}
-
-none_of_four : (b : ℕ) → is_one_of (codes ":/?#") b ≡ false → (is_one_of (codes ":/") b ≡ false) × (is_one_of (codes "?#") b ≡ false)
-none_of_four b e = (grind (arith, nat_tests), grind (arith, nat_tests))
 
 -- where reading stops at a mark it stops at the first
 pub stops_at : (marks : List ℕ) (mark : ℕ) → is_one_of marks mark ≡ true → (set : TableSet) → LacksPercent set → excludes set marks ≡ true → (bs : List ℕ) → IsUtf8 bs → starts mark (after set bs) ≡ true → front set bs ≡ to_mark marks bs

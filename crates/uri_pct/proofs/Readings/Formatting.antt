@@ -109,11 +109,11 @@ pub allows-encode_formatting : (set : TableSet) (ts : List Token) → list_all (
 allows-encode_formatting set ts e = tokens_pass (allows_token set) set ts (λ c h. octets_allowed set (encode_utf8 c) (never_literal set c h).1.0) e
 
 -- letters may be lowered before or after
-lower_octets : (bytes : List ℕ) → map lower_token (map Octet bytes) ≡ map Octet bytes
+pub lower_octets : (bytes : List ℕ) → map lower_token (map Octet bytes) ≡ map Octet bytes
 lower_octets [] = refl
 lower_octets (b ∷ bytes) = ap (λ ts. Octet b ∷ ts) (lower_octets bytes)
 
-past_same : (c : ℕ) → 128 ≤ c → to_ascii_lowercase c ≡ c
+pub past_same : (c : ℕ) → 128 ≤ c → to_ascii_lowercase c ≡ c
 past_same c h = grind (arith, nat_tests)
 
 token_lower : (set : TableSet) (t : Token) → map lower_token (formatting_as_octets set t) ≡ formatting_as_octets set (lower_token t)

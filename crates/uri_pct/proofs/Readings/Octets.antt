@@ -13,10 +13,7 @@ use Rattle.uri_pct.proofs.Unicode.Pieces.{is_inner, are_inner, following_inner, 
 use Rattle.uri_pct.proofs.Unicode.CharacterPieces.{is_piece, row_1, char_of-encode}
 use Rattle.uri_pct.proofs.ValidTexts.Allowed.{unreserved_below}
 use Rattle.uri_pct.proofs.Readings.Formatting.{encode_formatting-none}
-
-or_false : (x : Bool) → (x || false) ≡ x
-or_false true = refl
-or_false false = refl
+use Rattle.uri_pct.proofs.Tests.{or_false}
 
 readable_alone : (set : TableSet) (c : ℕ) → LacksPastAscii set → is_readable set c ≡ is_unreserved c
 unfolding is_readable allows_past_ascii

@@ -17,16 +17,13 @@ use Rattle.uri_pct.proofs.EncodedTexts.EncodedTokens.{octets_printable, characte
 use Rattle.uri_pct.proofs.Readings.Printing.{tokens-print, is_valid_for-print}
 use Rattle.uri_pct.proofs.ValidTexts.Allowed.{printable_readable, allows_readable, printable_valid}
 use Rattle.uri_pct.proofs.Readings.Formatting.{never_literal_scalar, never_literal_readable, token_bytes-encode_formatting, printable-encode_formatting, allows-encode_formatting, encode_formatting-all}
-
-octet_bytes : (bytes : List ℕ) → token_bytes (map Octet bytes) ≡ bytes
-octet_bytes [] = refl
-octet_bytes (b ∷ rest) = ap (λ x. b ∷ x) (octet_bytes rest)
+use Rattle.uri_pct.proofs.EncodedTexts.Encodings.{octets_bytes}
 
 piece_kept : (set : TableSet) (p : Piece) → IsOfCharacter p → token_bytes (read_piece set p) ≡ piece_bytes p
-piece_kept set (IllFormed bytes) h = octet_bytes bytes
+piece_kept set (IllFormed bytes) h = octets_bytes bytes
 piece_kept set (WellFormed bytes) h = ⊎_elim
     (λ e. rw e (append-nil (encode_utf8 (char_of bytes)) ∙ h.1))
-    (λ e. rw e (octet_bytes bytes))
+    (λ e. rw e (octets_bytes bytes))
     (cases_Bool (is_readable set (char_of bytes)))
 
 pieces_kept : (set : TableSet) (ps : List Piece) → All IsOfCharacter ps → token_bytes (flat_map (read_piece set) ps) ≡ bytes_of_pieces ps

@@ -8,6 +8,7 @@ use Rattle.std.proofs.lemmas.Str.{chars-encodes, encode_ascii}
 use Rattle.std.proofs.lemmas.Bool.{cases_lt, cond-true, cond-false, and_left, and_from, lt-ltb, le-ltb}
 use Rattle.std.proofs.lemmas.Bool.Decides.{nat_tests}
 use Rattle.uri_pct.specs.Models.Fronts.{begins_hex, first_char}
+use Rattle.uri_pct.proofs.TableSets.Constants.{hexdigit_past}
 
 -- a byte that is not ASCII
 abbrev pub is_high : ℕ → Bool
@@ -65,18 +66,14 @@ pub first_char-encodes : (c : ℕ) (cs : List ℕ) → all_scalars (c ∷ cs) �
 unfolding first_char
 first_char-encodes c cs e = ap (λ xs. slice_index xs 0) (chars-encodes (c ∷ cs) e)
 
--- hexadecimal digits are ASCII, so a text begins with the same ones as its characters
-hex_past : (b : ℕ) → 128 ≤ b → is_ascii_hexdigit b ≡ false
-hex_past b h = grind (arith, nat_tests)
-
 pub hex_ascii : (b : ℕ) → is_ascii_hexdigit b ≡ true → b < 128
 hex_ascii b e = grind (arith, nat_tests)
 
 hex_first : (cs : List ℕ) → is_ascii_hexdigit (get_or (encode_utf8_all cs) 0 0) ≡ is_ascii_hexdigit (get_or cs 0 0)
 hex_first [] = refl
-hex_first (c ∷ cs) = ⊎_elim (λ h. rw (encode_ascii c h) refl) (λ h. hex_past _ (lead c (encode_utf8_all cs) h) ∙ sym (hex_past c h)) (cases_lt c 128)
+hex_first (c ∷ cs) = ⊎_elim (λ h. rw (encode_ascii c h) refl) (λ h. hexdigit_past _ (lead c (encode_utf8_all cs) h) ∙ sym (hexdigit_past c h)) (cases_lt c 128)
 
 pub begins_hex-encodes : (cs : List ℕ) → begins_hex (encode_utf8_all cs) ≡ begins_hex cs
 unfolding begins_hex
 begins_hex-encodes [] = refl
-begins_hex-encodes (c ∷ cs) = ⊎_elim (λ h. rw (encode_ascii c h) (ap (λ b. is_ascii_hexdigit c && b) (hex_first cs))) (λ h. and_left _ _ (hex_past _ (lead c (encode_utf8_all cs) h)) ∙ sym (and_left _ _ (hex_past c h))) (cases_lt c 128)
+begins_hex-encodes (c ∷ cs) = ⊎_elim (λ h. rw (encode_ascii c h) (ap (λ b. is_ascii_hexdigit c && b) (hex_first cs))) (λ h. and_left _ _ (hexdigit_past _ (lead c (encode_utf8_all cs) h)) ∙ sym (and_left _ _ (hexdigit_past c h))) (cases_lt c 128)

@@ -12,7 +12,7 @@ use Rattle.std.proofs.lemmas.Bool.Decides.{nat_tests}
 use Rattle.uri_pct.specs.Sets.{TableSet, LacksPercent, is_one_of}
 use Rattle.uri_pct.specs.Tokens.{is_valid_for}
 use Rattle.uri_pct.specs.Models.Fronts.{begins_hex, first_char, allows_first, front_from, front}
-use Rattle.uri_pct.proofs.Unicode.Characters.{bytes_of_char, is_high}
+use Rattle.uri_pct.proofs.Unicode.Characters.{bytes_of_char, is_high, hex_ascii}
 use Rattle.uri_pct.proofs.ValidTexts.Validity.{valid_from, valid_cons, is_valid_for-bytes, allows_first-ascii}
 
 -- the length of the front before the first mark
@@ -117,9 +117,6 @@ skips_text marks ascii text u = ap (skips marks 0) (sym u.1.1) ∙ skips_chars m
 pub len_ascii : (b : ℕ) → b < 128 → continuation_len b ≡ 0
 len_ascii b h = cond-true _ _ _ (lt-ltb b 128 h)
 
-hex_below : (b : ℕ) → is_ascii_hexdigit b ≡ true → b < 128
-hex_below b e = grind (arith, nat_tests)
-
 skips_ascii : (marks : List ℕ) (b : ℕ) (rest : List ℕ) → b < 128 → skips marks 0 (b ∷ rest) ≡ skips marks 0 rest
 unfolding skips
 skips_ascii marks b rest h = ap (λ n. skips marks n rest) (len_ascii b h)
@@ -187,7 +184,7 @@ module _ (marks : List ℕ) (set : TableSet) (lacks : LacksPercent set) (outside
   two_digits (a ∷ []) e s = and_from _ _ (not_from_false _ (hex_no_mark a (and_parts _ _ e).0)) refl
   two_digits (a ∷ b ∷ bs) e s =
       let p = and_parts _ _ e in
-      let t = sym (skips_ascii marks b bs (hex_below b p.1)) ∙ sym (skips_ascii marks a (b ∷ bs) (hex_below a p.0)) ∙ s in
+      let t = sym (skips_ascii marks b bs (hex_ascii b p.1)) ∙ sym (skips_ascii marks a (b ∷ bs) (hex_ascii a p.0)) ∙ s in
       and_from _ _ (not_from_false _ (hex_no_mark a p.0)) (and_from _ _ (not_from_false _ (hex_no_mark b p.1)) t)
 
   cut_octet : (b : ℕ) (bs : List ℕ) → (set.pct_encoded && eqb b 37) ≡ true → valid_from set 2 (take (to_mark marks bs) bs) ≡ eqb (front_from set 2 bs) (to_mark marks bs) → begins_hex bs ≡ true

@@ -121,7 +121,7 @@ escape set c h l cs p e =
 tail_scalars : (c : ℕ) (cs : List ℕ) → all_scalars (c ∷ cs) ≡ true → all_scalars cs ≡ true
 tail_scalars c cs s = (and_parts _ _ s).1
 
-not_escape : (c h l : ℕ) (cs : List ℕ) → is_pct_encoded c h l ≡ false → (eqb c 37 && begins_hex (h ∷ l ∷ cs)) ≡ false
+pub not_escape : (c h l : ℕ) (cs : List ℕ) → is_pct_encoded c h l ≡ false → (eqb c 37 && begins_hex (h ∷ l ∷ cs)) ≡ false
 unfolding is_pct_encoded begins_hex
 not_escape c h l cs e = e
 

@@ -1,5 +1,6 @@
 -- What a test says, and what holds of a part that may be absent.
-use Rattle.std.proofs.Common.{◌≡◌, ℕ, Bool, true, List, refl, rules, option_map}
+use Rattle.std.proofs.Common.{◌≡◌, ℕ, Bool, true, false, ◌&&◌, ◌||◌, List, refl, rules}
+use Rattle.std.proofs.Common.{option_map}
 use Rattle.std.specs.Prelude.{Option, Some, None, IsTrue, IfSome, is_some, is_none}
 
 pub true_of : (b : Bool) → IsTrue b → b ≡ true
@@ -20,3 +21,11 @@ some_map f (Some x) = refl
 pub none_map : {A B : Type 0} (f : A → B) (o : Option A) → is_none (option_map f o) ≡ is_none o
 none_map f None = refl
 none_map f (Some x) = refl
+
+pub and_true : (b : Bool) → (b && true) ≡ b
+and_true true = refl
+and_true false = refl
+
+pub or_false : (b : Bool) → (b || false) ≡ b
+or_false true = refl
+or_false false = refl
