@@ -5,6 +5,7 @@ pub mod Ports
 pub mod AuthorityCuts
 pub mod AuthorityPlaces
 pub mod WholeAuthorities
+pub mod NamesAndPorts
 pub mod HostReading
 pub mod FoundAuthorities
 pub mod Authority

@@ -7,4 +7,5 @@ pub mod Futures
 pub mod Hosts
 pub mod ParsedAddresses
 pub mod LiteralTexts
+pub mod FutureReads
 pub mod Ipv6Literals

@@ -19,8 +19,7 @@ pub mod kind;
 pub mod kind_tables;
 #[doc(hidden)]
 pub mod laws;
-#[doc(hidden)]
-pub mod literal;
+mod literal;
 pub mod net;
 #[doc(hidden)]
 pub mod parse;

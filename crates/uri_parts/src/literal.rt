@@ -1,18 +1,15 @@
 //! Addresses in brackets (RFC 3986, section 3.2.2).
-ghost use Rattle.std.specs.Prelude.{◌≡◌, ◌≤◌, ◌<◌, ◌+◌, IsTrue, IfSome, IfOk, IfErr, is_ok, length};
-ghost use Rattle.std.specs.Prelude.{drop, slice_index, nat_lt, ◌&&◌, ◌||◌};
+ghost use Rattle.std.specs.Prelude.{◌≡◌, ◌≤◌, ◌<◌, ◌+◌, IsTrue, IfSome, IfOk, IfErr, is_ok};
+ghost use Rattle.std.specs.Prelude.{drop, ◌||◌};
 ghost use Rattle.std.specs.Str.{IsCharBoundary};
-ghost use Rattle.uri_pct.specs.Sets.{hexdig_set, ipv_future_set};
 ghost use Rattle.uri_pct.specs.Tables.{set_of};
-ghost use Rattle.uri_pct.specs.Tokens.{is_valid_for};
 ghost use Rattle.uri_parts.specs.Components.{starts};
-ghost use Rattle.uri_parts.specs.Hosts as Hosts;
-ghost use Rattle.uri_parts.specs.Models.AuthorityReading.{is_literal};
 ghost use Rattle.uri_parts.specs.Models.Literals.{IsLiteralRefusal, reads_literal, literal_length};
+ghost use Rattle.uri_parts.specs.Models.Literals.{IsMissing, reads_marked, marked_length};
+ghost use Rattle.uri_parts.specs.Models.Literals.{reads_future, future_length};
 
 use crate::address_reader::after_ipv6;
 use crate::error::{ParseError, ParseErrorKind};
-use crate::net::Ipv6Addr;
 use uri_pct::table::{HEXDIG, IPV_FUTURE, Table};
 
 /// Whether this ASCII character stands at `index`.
@@ -26,43 +23,12 @@ fn sees(text: &str, index: usize, byte: u8) -> bool
     index < bytes.len() && bytes[index] == byte
 }
 
-/// Whether the text is spelt by one or more characters of the table.
-fn is_spelt(text: &str, table: &Table) -> bool
-    ensures { result ≡ (nat_lt 0 (length text.now) && is_valid_for (set_of table.now) text.now) }
+/// Whether `v` or `V` stands at `index`.
+fn is_lettered(text: &str, index: usize) -> bool
+    ensures value { result ≡ (starts 118 (drop index text.now) || starts 86 (drop index text.now)) }
+    ensures behind { IsTrue result → IsCharBoundary text.now (index + 1) }
 {
-    !text.is_empty() && table.allows_text(text)
-}
-
-/// Whether the text begins with `v` or `V`.
-fn is_lettered(text: &str) -> bool
-    ensures { result ≡ (starts 118 text.now || starts 86 text.now) }
-{
-    sees(text, 0, b'v') || sees(text, 0, b'V')
-}
-
-/// Whether the version and the address are spelt as those of an IPvFuture address.
-#[tactic(auto, using(uri_pct::proofs::TableSets::Constants::constant_tables))]
-fn is_versioned(version: &str, address: &str) -> bool
-    ensures { result
-        ≡ ((nat_lt 0 (length version.now) && is_valid_for hexdig_set version.now)
-        && (nat_lt 0 (length address.now) && is_valid_for ipv_future_set address.now)) }
-{
-    is_spelt(version, &HEXDIG) && is_spelt(address, &IPV_FUTURE)
-}
-
-/// Whether the text is an IPvFuture address: `v`, one or more hexadecimal digits, `.`, and one or
-/// more of the characters of userinfo, none of them percent-encoded.
-#[doc(hidden)]
-pub fn is_ipv_future(text: &str) -> bool
-    ensures { result ≡ Hosts.is_ipv_future text.now }
-{
-    if !is_lettered(text) {
-        return false;
-    }
-    let Some((version, address)) = text[1..].split_once('.') else {
-        return false;
-    };
-    is_versioned(version, address)
+    sees(text, index, b'v') || sees(text, index, b'V')
 }
 
 /// Where the digits end that stand at `start`, of which at most so many are read.
@@ -108,22 +74,6 @@ fn ipv4_end(text: &str, start: usize) -> Option<usize>
         end = octet_end(text, end + 1)?;
     }
     Some(end)
-}
-
-/// Where an IPvFuture address ends that stands at `start`, or what it lacks.
-fn ipv_future_end(text: &str, start: usize) -> usize
-    requires { IsCharBoundary text.now start }
-    ensures { IsCharBoundary text.now result }
-{
-    if !sees(text, start, b'v') && !sees(text, start, b'V') {
-        return start;
-    }
-    let version = start + 1;
-    let dot = HEXDIG.read(text, version);
-    if dot == version || !sees(text, dot, b'.') {
-        return dot;
-    }
-    IPV_FUTURE.read(text, dot + 1)
 }
 
 /// Where the longest front ends that is read of an IPv6 address that stands at `start`, or `None`
@@ -179,7 +129,7 @@ fn ipv6_end(text: &str, start: usize) -> Option<usize>
     }
 }
 
-/// Why what stands at `start` is no address with a `]` behind it.
+/// Why what stands at `start`, and begins with no `v`, is no address with a `]` behind it.
 fn refusal(text: &str, start: usize) -> ParseError
     requires { IsCharBoundary text.now start }
     ensures { IsLiteralRefusal text.now start result }
@@ -187,8 +137,7 @@ fn refusal(text: &str, start: usize) -> ParseError
     let last = digits_end(text, start, 16, 4);
     let is_dotted = last - start < 4 && sees(text, last, b'.');
     if !sees(text, start, b':') && (last == start || is_dotted) {
-        let end = ipv_future_end(text, start);
-        return ParseError::new(end, ParseErrorKind::UnexpectedChar);
+        return ParseError::new(start, ParseErrorKind::UnexpectedChar);
     }
     match ipv6_end(text, start) {
         Some(end) => ParseError::new(end, ParseErrorKind::UnexpectedChar),
@@ -196,29 +145,40 @@ fn refusal(text: &str, start: usize) -> ParseError
     }
 }
 
-/// Whether a text may stand between the brackets of a host.
-#[tactic(auto, unfolding(crate::specs::Models::AuthorityReading::is_literal))]
-pub(crate) fn is_literal(text: &str) -> bool
-    ensures { result ≡ is_literal text.now }
+/// Where one or more characters of the table end that stand at `start`, with the `mark` behind
+/// them; or where one of these is missing.
+#[tactic(auto, unfolding(crate::specs::Models::Literals::reads_marked, crate::specs::Models::Literals::marked_length))]
+fn marked_end(text: &str, start: usize, table: &Table, mark: u8) -> Result<usize, ParseError>
+    requires boundary { IsCharBoundary text.now start }
+    requires ascii { mark < 128 }
+    ensures accepts { is_ok result ≡ reads_marked (set_of table.now) mark (drop start text.now) }
+    ensures end { IfOk result (λ end.
+        end ≡ start + marked_length (set_of table.now) (drop start text.now)) }
+    ensures boundary { IfOk result (λ end. IsCharBoundary text.now end) }
+    ensures err { IfErr result (IsMissing text.now) }
 {
-    Ipv6Addr::read(text).is_some() || is_ipv_future(text)
+    let end = table.read(text, start);
+    if start < end && sees(text, end, mark) {
+        Ok(end + 1)
+    } else {
+        Err(ParseError::new(end, ParseErrorKind::UnexpectedChar))
+    }
 }
 
-/// Where the IPvFuture address that stands at `start`, behind a `[`, and the `]` behind it end; or
-/// why there is none.
-fn future_literal_end(text: &str, start: usize) -> Result<usize, ParseError>
+/// Where the rest of an IPvFuture address ends that stands at `start`, behind its `v`, with the `]`
+/// behind it; or where something of these is missing.
+///
+/// No hexadecimal digit is a `.`, and none of its characters a `]`: so each is found by reading.
+#[tactic(auto, using(uri_pct::proofs::TableSets::Constants::constant_tables, crate::proofs::Authorities::AuthorityCuts::behind), unfolding(crate::specs::Models::Literals::reads_future, crate::specs::Models::Literals::future_length))]
+fn future_end(text: &str, start: usize) -> Result<usize, ParseError>
     requires { IsCharBoundary text.now start }
-    ensures accepts { is_ok result ≡ reads_literal (drop start text.now) }
-    ensures end { IfOk result (λ end. end ≡ start + literal_length (drop start text.now)) }
+    ensures accepts { is_ok result ≡ reads_future (drop start text.now) }
+    ensures end { IfOk result (λ end. end ≡ start + future_length (drop start text.now)) }
     ensures boundary { IfOk result (λ end. IsCharBoundary text.now end) }
-    ensures err { IfErr result (IsLiteralRefusal text.now start) }
+    ensures err { IfErr result (IsMissing text.now) }
 {
-    if let Some((address, _)) = text[start..].split_once(']') {
-        if is_literal(address) {
-            return Ok(start + address.len() + 1);
-        }
-    }
-    Err(refusal(text, start))
+    let address = marked_end(text, start, &HEXDIG, b'.')?;
+    marked_end(text, address, &IPV_FUTURE, b']')
 }
 
 /// Where the address that stands at `start`, behind a `[`, and the `]` behind it end; or why there
@@ -230,10 +190,10 @@ pub(crate) fn literal_end(text: &str, start: usize) -> Result<usize, ParseError>
     ensures boundary { IfOk result (λ end. IsCharBoundary text.now end) }
     ensures err { IfErr result (IsLiteralRefusal text.now start) }
 {
-    let address = &text[start..];
-    if is_lettered(address) {
-        return future_literal_end(text, start);
+    if is_lettered(text, start) {
+        return future_end(text, start + 1);
     }
+    let address = &text[start..];
     if let Some(rest) = after_ipv6(address.as_bytes()) {
         let end = text.len() - rest.len();
         if sees(text, end, b']') {

@@ -24,7 +24,8 @@ use Rattle.uri_parts.proofs.Authorities.AuthorityCuts.{length-before, behind, be
 use Rattle.uri_parts.proofs.Splitting.Cuts.{IsCut-any, cut-append, before_past_other, Lacks-cons}
 use Rattle.uri_parts.proofs.HostForms.Futures.{lacks_append}
 use Rattle.uri_parts.proofs.HostForms.Hosts.{lacks_starts}
-use Rattle.uri_parts.proofs.Authorities.HostReading.{front_nil, cut_again, starts_before, fewer, utf8_before, bare_end, bare_length, bare_host, name_bare, host_read, found_host}
+use Rattle.uri_parts.proofs.Authorities.NamesAndPorts.{front_nil, cut_again, starts_before, fewer, utf8_before}
+use Rattle.uri_parts.proofs.Authorities.HostReading.{bare_end, bare_length, bare_host, name_bare, host_read, found_host}
 use Rattle.uri_parts.proofs.Splitting.Relative.{stops_at}
 use Rattle.uri_parts.proofs.TextKinds.Separations.{Separates}
 use Rattle.uri_parts.proofs.TextKinds.SpeltTexts.{valid_lacks}

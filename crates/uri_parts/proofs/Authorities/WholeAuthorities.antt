@@ -1,5 +1,5 @@
 -- An authority that is cut out, taken apart from left to right: that is the test of the grammar.
-use Rattle.std.proofs.Common.{◌≡◌, ℕ, Bool, true, false, cond, eqb, List, [], ◌∷◌, ◌++◌, length, take, drop, refl, sym, ap, ◌∙◌, arith, ◌||◌, ◌&&◌, ⊎_elim, append_assoc, append-nil, length-append}
+use Rattle.std.proofs.Common.{◌≡◌, ℕ, Bool, true, false, cond, eqb, List, [], ◌∷◌, ◌++◌, length, drop, refl, sym, ap, ◌∙◌, arith, ◌||◌, ◌&&◌, ⊎_elim, append_assoc, append-nil, length-append}
 use Rattle.std.specs.Prelude.{codes, Option, Some, is_some, bytes_eq}
 use Rattle.std.specs.Option.{option_map_or}
 use Rattle.std.proofs.lemmas.Bool.{cases_Bool, cond-true, cond-false, and_left, eqb-true, eq-eqb, both_ways, false≢true, false_from_ne_true}
@@ -10,8 +10,7 @@ use Rattle.uri_pct.specs.Tokens.{is_valid_for}
 use Rattle.uri_parts.specs.Components.{marked, starts, before_any, from_any, when, Lacks}
 use Rattle.uri_parts.specs.Hosts.{is_host, bracketed, ipv4_value, ipv6_value, is_ipv_future}
 use Rattle.uri_parts.specs.Authority.{host_before, behind_host, is_authority_for}
-use Rattle.uri_parts.specs.Models.AuthorityReading.{is_literal}
-use Rattle.uri_pct.proofs.ValidTexts.Cuts.{other_len}
+use Rattle.uri_parts.specs.Models.Literals.{is_literal}
 use Rattle.uri_parts.proofs.Splitting.Cuts.{Begins, IsCut-any, before_past_other, from_past_other}
 use Rattle.uri_parts.proofs.HostForms.Hosts.{literal_at}
 

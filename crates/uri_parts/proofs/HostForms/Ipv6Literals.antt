@@ -9,7 +9,7 @@ use Rattle.std.proofs.NetLemmas.Options.{map_some}
 use Rattle.std.proofs.NetLemmas.Ipv6.{EndsGroups, read_ipv6_complete, read_ipv6_sound}
 use Rattle.uri_parts.specs.Components.{starts, before_any, from_any}
 use Rattle.uri_parts.specs.Hosts.{ipv6_value, is_ipv_future}
-use Rattle.uri_parts.specs.Models.Literals.{reads_literal, literal_length}
+use Rattle.uri_parts.specs.Models.Literals.{is_literal, reads_literal, literal_length}
 use Rattle.uri_parts.proofs.Splitting.Cuts.{Begins, IsCut-any, cut-append}
 use Rattle.uri_parts.proofs.HostForms.Addresses.{ipv6_value-complete, ipv6_value-sound}
 use Rattle.uri_parts.proofs.HostForms.Futures.{ipv6_lacks}
@@ -42,7 +42,7 @@ place_behind text behind start within e =
     f.1 ∙ drop-drop _ start text ∙ ap (λ n. drop n text) (omega (arith, f.0))
 
 pub accepted : (rest behind : List ℕ) → Some behind ≡ left rest → starts 93 behind ≡ true → (reads_literal rest ≡ true) × (literal_length rest + length behind ≡ length rest + 1)
-unfolding reads_literal literal_length
+unfolding is_literal reads_literal literal_length
 accepted rest behind e closed =
     map_some (λ p. p.1) (read_ipv6 rest) behind (sym e) λ p read same.
     let (front, split, groups) = read_ipv6_sound rest p.0 p.1 read in
@@ -60,7 +60,7 @@ value_of (Some x) b e f = (x, refl)
 
 -- an address with `]` behind it is read
 closed_read : (rest : List ℕ) → (starts 118 rest || starts 86 rest) ≡ false → reads_literal rest ≡ true → (left rest ≡ Some (from_any (codes "]") rest)) × (starts 93 (from_any (codes "]") rest) ≡ true)
-unfolding reads_literal
+unfolding is_literal reads_literal
 closed_read rest plain e =
     let cut = IsCut-any (codes "]") rest in
     let before = before_any (codes "]") rest in

@@ -1,5 +1,5 @@
 -- The first segment of a path without a scheme.
-use Rattle.std.proofs.Common.{◌≡◌, ℕ, ◌+◌, Bool, true, false, cond, eqb, not, List, [], ◌∷◌, take, drop, refl, sym, ap, ◌∙◌, arith, ◌||◌, ◌&&◌, ⊎_elim}
+use Rattle.std.proofs.Common.{◌≡◌, ℕ, ◌+◌, Bool, true, false, cond, eqb, not, List, [], ◌∷◌, drop, refl, sym, ap, ◌∙◌, arith, ◌||◌, ◌&&◌, ⊎_elim}
 use Rattle.std.specs.Prelude.{codes}
 use Rattle.std.specs.List.{list_any}
 use Rattle.std.specs.Str.{IsUtf8, continuation_len}
@@ -8,7 +8,7 @@ use Rattle.std.proofs.lemmas.Bool.{cases_Bool, cond-true, cond-false, and_left, 
 use Rattle.std.proofs.lemmas.Bool.Decides.{nat_tests}
 use Rattle.uri_pct.specs.Sets.{TableSet, LacksPercent, is_one_of, scheme_set}
 use Rattle.uri_pct.specs.Models.Fronts.{front_from, front, after, allows_first, begins_hex}
-use Rattle.uri_pct.proofs.ValidTexts.Cuts.{to_mark, excludes, front_zero_mark, front_cons, other_len, mark_len}
+use Rattle.uri_pct.proofs.ValidTexts.Cuts.{to_mark, excludes, front_zero_mark, front_cons}
 use Rattle.uri_pct.proofs.ValidTexts.Fronts.{front-after, front-within, none_read}
 use Rattle.uri_parts.specs.Components.{before_any, from_any, starts, has_scheme}
 use Rattle.uri_parts.specs.Grammar.{Kind, has_colon_first}

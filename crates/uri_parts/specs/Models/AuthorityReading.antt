@@ -1,19 +1,14 @@
 -- What the parser reads of an authority, as functions of the text that is left: RFC 3986, section
 -- 3.2.
-use Rattle.std.specs.Prelude.{ℕ, ◌+◌, Bool, true, ◌&&◌, ◌||◌, List, [], ◌∷◌, drop, codes, is_some}
+use Rattle.std.specs.Prelude.{ℕ, ◌+◌, Bool, true, ◌&&◌, ◌||◌, List, [], ◌∷◌, drop, codes}
 use Rattle.std.specs.Prelude.{if◌then◌else◌}
 use Rattle.uri_pct.specs.Sets.{digit_set, is_one_of}
 use Rattle.uri_pct.specs.Models.Fronts.{front, after}
 use Rattle.uri_parts.specs.Components.{starts}
 use Rattle.uri_parts.specs.Grammar.{Kind}
-use Rattle.uri_parts.specs.Hosts.{ipv6_value, is_ipv_future}
 use Rattle.uri_parts.specs.Models.Literals.{reads_literal, literal_length}
 use Rattle.uri_parts.specs.declared.positions.AuthorityPositions.{AuthorityPositions}
 use Rattle.uri_pct.specs.Delimiters.{at_sign, colon, left_bracket}
-
--- what may stand in brackets
-unfoldable pub is_literal : List ℕ → Bool
-is_literal address = is_some (ipv6_value address) || is_ipv_future address
 
 -- the text begins with one of these characters, or is empty
 unfoldable pub begins_any : List ℕ → List ℕ → Bool

@@ -1,6 +1,6 @@
 -- What the parser reads of an address in brackets, behind the `[`: RFC 3986, section 3.2.2.
-use Rattle.std.specs.Prelude.{◌≡◌, ℕ, ◌+◌, ◌<◌, ◌≤◌, Bool, ◌&&◌, ◌||◌, List, length, take, codes}
-use Rattle.std.specs.Prelude.{slice_index, is_some, ⊤}
+use Rattle.std.specs.Prelude.{◌≡◌, ℕ, ◌+◌, ◌<◌, ◌≤◌, Bool, ◌&&◌, ◌||◌, List, length, take, drop}
+use Rattle.std.specs.Prelude.{codes, nat_lt, slice_index, is_some, ⊤}
 use Rattle.std.specs.Char.{digit_value}
 use Rattle.std.specs.Str.Parse.{AllDigits}
 use Rattle.std.specs.Str.{IsCharBoundary}
@@ -12,7 +12,9 @@ use Rattle.uri_parts.specs.declared.error.ParseErrorKind.TheVariants.{Unexpected
 use Rattle.uri_parts.specs.declared.error.ParseErrorKind.TheVariants.{InvalidIpv6Addr}
 use Rattle.uri_parts.specs.Components.{starts, before_any, from_any}
 use Rattle.uri_parts.specs.Hosts.{ipv6_value, is_ipv_future}
-use Rattle.uri_pct.specs.Delimiters.{right_bracket}
+use Rattle.uri_pct.specs.Delimiters.{full_stop, right_bracket}
+use Rattle.uri_pct.specs.Models.Fronts.{front, after}
+use Rattle.uri_pct.specs.Sets.{TableSet, hexdig_set, ipv_future_set}
 
 -- so many hexadecimal digits come first: all of them, or five
 pub record AreHexDigits (text : List ℕ) (count : ℕ) : Type 0 where
@@ -27,6 +29,10 @@ pub record AreCounted (found : Segments) (count : ℕ) (ends : Bool) (rest : Lis
   pub ipv4 : found.1 ≡ ends
   pub left : found.2 ≡ rest
 
+-- what may stand in brackets
+unfoldable pub is_literal : List ℕ → Bool
+is_literal address = is_some (ipv6_value address) || is_ipv_future address
+
 -- the text before the first `]`
 abbrev pub literal_before : List ℕ → List ℕ
 literal_before rest = before_any (codes "]") rest
@@ -34,11 +40,37 @@ literal_before rest = before_any (codes "]") rest
 -- an address and `]` come first
 unfoldable pub reads_literal : List ℕ → Bool
 reads_literal rest = starts right_bracket (from_any (codes "]") rest)
-    && (is_some (ipv6_value (literal_before rest)) || is_ipv_future (literal_before rest))
+    && is_literal (literal_before rest)
 
 -- the length of both
 unfoldable pub literal_length : List ℕ → ℕ
 literal_length rest = length (literal_before rest) + 1
+
+-- one or more characters of the set come first, and then the mark
+unfoldable pub reads_marked : TableSet → ℕ → List ℕ → Bool
+reads_marked set mark rest = nat_lt 0 (front set rest) && starts mark (after set rest)
+
+unfoldable pub marked_length : TableSet → List ℕ → ℕ
+marked_length set rest = front set rest + 1
+
+-- what is left behind a version and its `.`
+abbrev pub behind_version : List ℕ → List ℕ
+behind_version rest = drop (marked_length hexdig_set rest) rest
+
+-- behind a `v`, the rest of an IPvFuture address and `]` come first
+unfoldable pub reads_future : List ℕ → Bool
+reads_future rest =
+    reads_marked hexdig_set full_stop rest
+    && reads_marked ipv_future_set right_bracket (behind_version rest)
+
+unfoldable pub future_length : List ℕ → ℕ
+future_length rest =
+    marked_length hexdig_set rest + marked_length ipv_future_set (behind_version rest)
+
+-- the refusal of a text that lacks something there
+pub record IsMissing (text : List ℕ) (e : ParseError) : Type 0 where
+  pub boundary : IsCharBoundary text e.index
+  pub kind : e.kind ≡ UnexpectedChar
 
 -- an IPv6 address is refused where it begins
 abbrev pub IsLiteralFault : ℕ → ParseErrorKind → ℕ → Type 0

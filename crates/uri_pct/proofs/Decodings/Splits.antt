@@ -1,3 +1,4 @@
+-- What is left of a text that is split at a delimiter.
 use Rattle.std.proofs.Common.{◌≡◌, eqb, Some, refl}
 use Rattle.std.specs.List.{slice_split}
 use Rattle.uri_pct.specs.EStrs.{text_of}

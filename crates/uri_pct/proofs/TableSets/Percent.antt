@@ -1,3 +1,4 @@
+-- No table holds the percent sign.
 use Rattle.std.proofs.Common.{◌≡◌, ◌∙◌, ℕ, Bool, true, false, not, ◌&&◌, ◌||◌, eqb, List, [], ◌∷◌, refl, ap}
 use Rattle.std.specs.List.{list_any}
 use Rattle.uri_pct.specs.Sets.{LacksPercent}

@@ -1,8 +1,22 @@
 use Rattle.std.proofs.Common.{◌≡◌, ◌≤◌, true, false, length, arith, sym, ap, ◌∙◌, length-drop}
+use Rattle.std.proofs.lemmas.Str.{IsUtf8-drop}
 use Rattle.uri_parts.specs.Components.{starts}
+use Rattle.uri_parts.proofs.HostForms.FutureReads.{reads_at, end_at}
 use Rattle.uri_parts.proofs.HostForms.Ipv6Literals.{follows, place_behind, accepted, unread, unclosed}
 use Rattle.uri_parts.proofs.literal.literal_end.Goals.{in-Some+else-sees, in_default}
 use Rattle.uri_parts.proofs.literal.literal_end.Goals as goal
+
+pub returns-then-is_lettered-clause-accepts : goal.returns-then-is_lettered-clause-accepts
+returns-then-is_lettered-clause-accepts c =
+    let u = IsUtf8-drop c.args.text.now c.args.start c.utf8.text c.requires in
+    let v = sym c.is_lettered.ensures.value ∙ c.if-is_lettered.true in
+    c.future_end.ensures.accepts ∙ sym (reads_at c.args.text.now c.args.start u v)
+
+pub returns-then-is_lettered-clause-end : goal.returns-then-is_lettered-clause-end
+returns-then-is_lettered-clause-end c =
+    let u = IsUtf8-drop c.args.text.now c.args.start c.utf8.text c.requires in
+    let v = sym c.is_lettered.ensures.value ∙ c.if-is_lettered.true in
+    end_at c.args.text.now c.args.start u v c.future_end.result c.future_end.ensures.accepts c.future_end.ensures.end
 
 pub overflow_sub-end : goal.overflow_sub-end
 overflow_sub-end c =
@@ -25,7 +39,7 @@ returns-then-sees-clause-end c =
 
 pub returns-clause-accepts : goal.returns-clause-accepts
 returns-clause-accepts c =
-    let plain = rw c.range_from-address.ensures.value at (sym c.is_lettered.ensures ∙ c.if-is_lettered.false) in
+    let plain = sym c.is_lettered.ensures.value ∙ c.if-is_lettered.false in
     let within : c.args.start ≤ length c.args.text.now = c.requires.0 in
     elim c.match-after_ipv6.branch [
       | in-Some+else-sees w ↦
