@@ -22,6 +22,7 @@ ghost use Rattle.uri_parts.specs.Models.Literals.{reads_literal, literal_length}
 ghost use Rattle.uri_parts.specs.Models.Readers.{rest_of, reader_text, place_of};
 
 use crate::error::{ParseError, ParseErrorKind};
+use crate::kind::Kind;
 use crate::kind_tables::KindTables;
 use crate::literal::literal_end;
 use crate::positions::AuthorityPositions;
@@ -114,6 +115,7 @@ fn name_fault(start: Reader<'_>, end: Reader<'_>, tables: &KindTables) -> ParseE
 
 /// Passes an address in brackets, of which the `[` is next.
 #[tactic(auto, using(crate::proofs::HostForms::LiteralFaults::literal_error))]
+#[inline(always)]
 fn pass_literal(reader: &mut Reader<'_>) -> Result<(), ParseError>
     requires { starts left_bracket (rest_of reader.old) ≡ true }
     ensures accepts { is_ok result ≡ reads_literal (drop 1 (rest_of reader.old)) }
@@ -185,7 +187,7 @@ fn pass_userinfo(reader: &mut Reader<'_>, tables: &KindTables) -> Result<(), Par
 /// An authority that is more than a name and a port, of which these were read: where it lies, and
 /// its host.
 #[tactic(auto, using(crate::proofs::Authorities::AuthorityCuts::behind), unfolding(crate::specs::Models::AuthorityReading::finds_other, crate::specs::Models::AuthorityReading::passes_user, crate::specs::Models::AuthorityReading::user_length, crate::specs::Models::AuthorityReading::host_place, crate::specs::Models::AuthorityReading::other_authority))]
-#[inline(never)]
+#[inline(always)]
 fn find_other_authority(
     start: Reader<'_>,
     behind_name: Reader<'_>,
@@ -215,14 +217,34 @@ fn find_other_authority(
     })
 }
 
+/// The same by the tables of the kind, which are constants here: handed on, they would be set out
+/// in memory, as readers are.
+#[inline(never)]
+fn find_other_of_kind<K: Kind>(
+    text: &str,
+    start: usize,
+    behind_name: usize,
+) -> Result<AuthorityPositions, ParseError>
+    requires start { IsCharBoundary text.now start }
+    requires behind_name { IsCharBoundary text.now behind_name }
+    requires place { behind_name ≡ start + name_length K.kind (drop start text.now) }
+    ensures accepts { is_ok result ≡ finds_other K.kind (drop start text.now) }
+    ensures found { IfOk result (λ a. a ≡ other_authority K.kind start (drop start text.now)) }
+    ensures boundary { IfOk result (λ a. IsCharBoundary text.now a.end) }
+    ensures err { IfErr result (IsErrorIn text.now) }
+{
+    let behind_name = Reader::at(text, behind_name);
+    find_other_authority(Reader::at(text, start), behind_name, &K::tables())
+}
+
 /// An authority: where it lies, and its host.
-#[doc(hidden)]
 #[tactic(auto, unfolding(crate::specs::Models::AuthorityReading::finds_authority, crate::specs::Models::AuthorityReading::found_length, crate::specs::Models::AuthorityReading::found_authority, crate::specs::Models::AuthorityReading::other_length, crate::specs::Models::AuthorityReading::other_authority))]
 #[inline(always)]
-pub fn find_authority(
+pub(crate) fn find_authority<K: Kind>(
     reader: &mut Reader<'_>,
     tables: &KindTables,
 ) -> Result<AuthorityPositions, ParseError>
+    requires { kind_of tables.now ≡ K.kind }
     ensures accepts { is_ok result ≡ finds_authority (kind_of tables.now) (rest_of reader.old) }
     ensures found { IfOk result (λ a.
         a ≡ found_authority (kind_of tables.now) (place_of reader.old) (rest_of reader.old)) }
@@ -233,18 +255,17 @@ pub fn find_authority(
         ≡ drop (found_length (kind_of tables.now) (rest_of reader.old)) (rest_of reader.old)) }
     ensures err { IfErr result (IsErrorIn (reader_text reader.old)) }
 {
-    let start = *reader;
+    let start = reader.position();
     if let Some(host_end) = find_name(reader, tables) {
         return Ok(AuthorityPositions {
-            start: start.position(),
-            host_start: start.position(),
+            start,
+            host_start: start,
             host_end,
             end: reader.position(),
         });
     }
-    // A copy, so that the tables lie in memory only where they are handed on.
-    let tables = *tables;
-    let authority = find_other_authority(start, *reader, &tables)?;
-    *reader = Reader::at(reader.text(), authority.end);
+    let text = reader.text();
+    let authority = find_other_of_kind::<K>(text, start, reader.position())?;
+    *reader = Reader::at(text, authority.end);
     Ok(authority)
 }

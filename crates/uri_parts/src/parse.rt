@@ -89,11 +89,12 @@ fn read_path(
 /// An authority, of what stands before a path.
 #[tactic(auto, unfolding(crate::specs::Models::Reading::reads_authority, crate::specs::Models::Reading::authority_positions))]
 #[inline(always)]
-fn pass_authority(
+fn pass_authority<K: Kind>(
     reader: &mut Reader<'_>,
     tables: &KindTables,
     scheme_end: Option<usize>,
 ) -> Result<BeforePath, ParseError>
+    requires { kind_of tables.now ≡ K.kind }
     ensures accepts { reads_authority (kind_of tables.now) (rest_of reader.old)
         ≡ (is_ok result && reads_path (kind_of tables.now) (rest_of reader.new)) }
     ensures places { let kind = kind_of tables.now in IfOk result (λ b.
@@ -102,7 +103,7 @@ fn pass_authority(
     ensures text { reader_text reader.new ≡ reader_text reader.old }
     ensures err { IfErr result (IsErrorIn (reader_text reader.old)) }
 {
-    let authority = find_authority(reader, tables)?;
+    let authority = find_authority::<K>(reader, tables)?;
     Ok(BeforePath {
         scheme_end,
         authority: Some(authority),
@@ -113,11 +114,12 @@ fn pass_authority(
 /// What follows a scheme, before a path.
 #[tactic(auto, unfolding(crate::specs::Models::Reading::reads_hier, crate::specs::Models::Reading::hier_positions))]
 #[inline(always)]
-fn pass_hier(
+fn pass_hier<K: Kind>(
     reader: &mut Reader<'_>,
     tables: &KindTables,
     scheme_end: usize,
 ) -> Result<BeforePath, ParseError>
+    requires { kind_of tables.now ≡ K.kind }
     ensures accepts { reads_hier (kind_of tables.now) (rest_of reader.old)
         ≡ (is_ok result && reads_path (kind_of tables.now) (rest_of reader.new)) }
     ensures places { let kind = kind_of tables.now in IfOk result (λ b.
@@ -127,7 +129,7 @@ fn pass_hier(
     ensures err { IfErr result (IsErrorIn (reader_text reader.old)) }
 {
     if reader.skip_slashes() {
-        pass_authority(reader, tables, Some(scheme_end))
+        pass_authority::<K>(reader, tables, Some(scheme_end))
     } else {
         Ok(BeforePath {
             scheme_end: Some(scheme_end),
@@ -165,7 +167,11 @@ fn pass_relative(reader: &mut Reader<'_>, tables: &KindTables) -> Result<BeforeP
 /// been one.
 #[tactic(auto, unfolding(crate::specs::Models::Reading::reads_schemeless, crate::specs::Models::Reading::schemeless_positions))]
 #[inline(always)]
-fn pass_schemeless(reader: &mut Reader<'_>, tables: &KindTables) -> Result<BeforePath, ParseError>
+fn pass_schemeless<K: Kind>(
+    reader: &mut Reader<'_>,
+    tables: &KindTables,
+) -> Result<BeforePath, ParseError>
+    requires { kind_of tables.now ≡ K.kind }
     ensures accepts { let segment = segment_nz_nc_of tables.now in
         reads_schemeless segment (kind_of tables.now) (place_of reader.old) (rest_of reader.old)
         ≡ (is_ok result && reads_path (kind_of tables.now) (rest_of reader.new)) }
@@ -177,7 +183,7 @@ fn pass_schemeless(reader: &mut Reader<'_>, tables: &KindTables) -> Result<Befor
     ensures err { IfErr result (IsErrorIn (reader_text reader.old)) }
 {
     if reader.position() == 0 && reader.skip_slashes() {
-        pass_authority(reader, tables, None)
+        pass_authority::<K>(reader, tables, None)
     } else {
         pass_relative(reader, tables)
     }
@@ -186,8 +192,12 @@ fn pass_schemeless(reader: &mut Reader<'_>, tables: &KindTables) -> Result<Befor
 /// What stands before a path, from the beginning of the text on.
 #[tactic(auto, using(uri_pct::proofs::TableSets::Constants::scheme_table), unfolding(crate::specs::Models::Reading::reads, crate::specs::Models::Reading::read_positions))]
 #[inline(always)]
-fn pass_front(reader: &mut Reader<'_>, tables: &KindTables) -> Result<BeforePath, ParseError>
-    requires { place_of reader.old ≡ 0 }
+fn pass_front<K: Kind>(
+    reader: &mut Reader<'_>,
+    tables: &KindTables,
+) -> Result<BeforePath, ParseError>
+    requires kind { kind_of tables.now ≡ K.kind }
+    requires start { place_of reader.old ≡ 0 }
     ensures accepts { let kind = kind_of tables.now in
         reads (segment_nz_nc_of tables.now) kind (reader_text reader.old)
         ≡ (is_ok result && reads_path kind (rest_of reader.new)) }
@@ -204,18 +214,19 @@ fn pass_front(reader: &mut Reader<'_>, tables: &KindTables) -> Result<BeforePath
         if !reader.text().as_bytes()[0].is_ascii_alphabetic() {
             return Err(not_a_letter);
         }
-        return pass_hier(reader, tables, scheme_end);
+        return pass_hier::<K>(reader, tables, scheme_end);
     }
     if tables.needs_scheme {
         return Err(reader.unexpected());
     }
-    pass_schemeless(reader, tables)
+    pass_schemeless::<K>(reader, tables)
 }
 
 /// Reads a whole text.
 #[tactic(auto)]
 #[inline(always)]
-fn read_text(tables: &KindTables, text: &str) -> Result<Positions, ParseError>
+fn read_text<K: Kind>(tables: &KindTables, text: &str) -> Result<Positions, ParseError>
+    requires { kind_of tables.now ≡ K.kind }
     ensures accepts { is_ok result
         ≡ reads (segment_nz_nc_of tables.now) (kind_of tables.now) text.now }
     ensures places { IfOk result (λ p.
@@ -223,15 +234,16 @@ fn read_text(tables: &KindTables, text: &str) -> Result<Positions, ParseError>
     ensures err { IfErr result (IsErrorIn text.now) }
 {
     let mut reader = Reader::new(text);
-    let before = pass_front(&mut reader, tables)?;
+    let before = pass_front::<K>(&mut reader, tables)?;
     read_path(&mut reader, tables, before)
 }
 
 /// Where the components of a text of the kind lie, or why the text is none.
+#[inline(always)]
 pub fn parse<K: Kind>(text: &str) -> Result<Positions, ParseError>
     ensures accepts { IsOk result ↔ IsOfKind K.kind text.now }
     ensures positions { IfOk result (AreAt text.now) }
     ensures err { IfErr result (IsErrorIn text.now) }
 {
-    read_text(&K::tables(), text)
+    read_text::<K>(&K::tables(), text)
 }

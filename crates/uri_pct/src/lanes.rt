@@ -64,7 +64,8 @@ fn bits_for(lanes: u8x16) -> u8x16
 }
 
 /// Which of the sixteen bytes from `at` on are outside the set: bit k is of the byte at `at + k`.
-#[inline(always)]
+// With `always` the parsers, which have many scans, would be too large to be inlined.
+#[inline]
 fn outside(low: u64, high: u64, bytes: &[u8], at: usize) -> u64
     requires { at + LANES ≤ length bytes.now }
     ensures { result ≡ mask_l (map (λ b. not (has_bit low high b)) (chunk at 16 bytes.now)) }

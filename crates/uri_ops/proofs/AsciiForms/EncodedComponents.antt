@@ -6,9 +6,10 @@ use Rattle.std.specs.Str.{IsUtf8}
 use Rattle.uri_parts.specs.Components.{Components, IsSplitOf, Lacks, IsRooted, marked, starts, has_scheme, has_authority, from_any, components, recompose}
 use Rattle.uri_parts.proofs.Splitting.Recompose.{IsSplitOf-components, true_to}
 use Rattle.uri_parts.proofs.Splitting.Splits.{components-recompose}
+use Rattle.uri_parts.proofs.Authorities.NamesAndPorts.{utf8_before}
 use Rattle.uri_ops.specs.Dots.{is_empty}
 use Rattle.uri_ops.specs.Encoded.{encoded_text}
-use Rattle.uri_ops.proofs.Meanings.TextParts.{AreUtf8, utf8_before, scheme_ascii, components_utf8}
+use Rattle.uri_ops.proofs.Meanings.TextParts.{AreUtf8, scheme_ascii, components_utf8}
 use Rattle.uri_ops.proofs.AsciiForms.EncodedPaths.{encoded-append, encoded-nil, encoded-ascii, Lacks-encoded, starts_encoded, empty_encoded, has_authority_encoded, cut_encoded}
 use Rattle.uri_pct.proofs.Tests.{true_of}
 use Rattle.uri_ops.proofs.Paths.DotRuns.{some_length}

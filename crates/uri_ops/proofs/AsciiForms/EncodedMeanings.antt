@@ -12,6 +12,7 @@ use Rattle.uri_pct.specs.Reading.{read}
 use Rattle.uri_pct.proofs.ValidTexts.Cuts.{ascii_marks}
 use Rattle.uri_parts.specs.Components.{Components, components, before_any}
 use Rattle.uri_parts.specs.Grammar.{Kind, is_scheme, is_authority, has_colon_first, are_components}
+use Rattle.uri_parts.proofs.Authorities.NamesAndPorts.{utf8_before}
 use Rattle.uri_ops.specs.Target.{cleaned_path}
 use Rattle.uri_ops.specs.ComponentSets.{HasComponentSets}
 use Rattle.uri_ops.specs.Texts.{IsTextOf}
@@ -23,7 +24,7 @@ use Rattle.uri_ops.proofs.Meanings.Lacking.{has_lacks, lacks_has}
 use Rattle.uri_ops.proofs.Meanings.AllowedParts.{is_part, part_utf8}
 use Rattle.uri_ops.proofs.Meanings.PlainTexts.{valid_plain, no_percent}
 use Rattle.uri_ops.proofs.Paths.PathMeanings.{part_cleaned}
-use Rattle.uri_ops.proofs.Meanings.TextParts.{AreParts, utf8_before, parts_meet}
+use Rattle.uri_ops.proofs.Meanings.TextParts.{AreParts, parts_meet}
 use Rattle.uri_ops.proofs.Normal.NormalTexts.{parts_of}
 use Rattle.uri_ops.proofs.AsciiForms.EncodedTokens.{IsUtf8-encoded}
 use Rattle.uri_ops.proofs.AsciiForms.EncodedReadings.{part_encoded, read-encoded}

@@ -2,16 +2,16 @@
 use Rattle.std.proofs.Common.{◌≡◌, ℕ, ◌<◌, Bool, true, false, not, List, [], ◌∷◌, drop, refl, arith, ◌&&◌, ◌||◌, ⊎_elim}
 use Rattle.std.specs.Prelude.{codes, Option, Some, None, IfSome, is_some}
 use Rattle.std.specs.Str.{IsUtf8}
-use Rattle.std.proofs.lemmas.Str.{IsUtf8-take}
 use Rattle.std.proofs.lemmas.Bool.{cases_Bool, and_parts, and_from, eqb-true}
 use Rattle.uri_pct.specs.Tokens.{is_valid_for}
-use Rattle.uri_pct.proofs.ValidTexts.Cuts.{AreAscii, ascii_marks, mark_boundary}
+use Rattle.uri_pct.proofs.ValidTexts.Cuts.{AreAscii, ascii_marks}
 use Rattle.uri_parts.specs.Components.{Components, starts, before_any, from_any, has_scheme, has_authority, after_scheme, after_authority, after_query, components, when}
 use Rattle.uri_parts.specs.Grammar.{Kind, if_some, is_scheme, has_colon_first, is_authority, are_components}
 use Rattle.uri_parts.proofs.Parsing.ReadingStops.{utf8_from, utf8_tail, utf8_slashes}
 use Rattle.uri_ops.proofs.Meanings.AllowedParts.{is_part, part_from, part_valid}
 use Rattle.uri_pct.proofs.Tests.{both_some}
 use Rattle.uri_parts.proofs.Parsing.Texts.{utf8_authority, utf8_scheme}
+use Rattle.uri_parts.proofs.Authorities.NamesAndPorts.{utf8_before}
 
 -- the grammar of a kind, each component with its rule
 pub record AreParts (kind : Kind) (p : Components) : Type 0 where
@@ -48,9 +48,6 @@ pub record AreUtf8 (p : Components) : Type 0 where
   pub path : IsUtf8 p.path
   pub query : IfSome p.query IsUtf8
   pub fragment : IfSome p.fragment IsUtf8
-
-pub utf8_before : (marks text : List ℕ) → AreAscii marks → IsUtf8 text → IsUtf8 (before_any marks text)
-utf8_before marks text ascii u = IsUtf8-take text _ u (mark_boundary marks ascii text)
 
 utf8_past : (c : ℕ) (text : List ℕ) → c < 128 → starts c text ≡ true → IsUtf8 text → IsUtf8 (drop 1 text)
 utf8_past c [] h e u = u

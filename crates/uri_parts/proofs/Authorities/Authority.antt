@@ -34,7 +34,7 @@ outside_from set (b ∷ marks) h e =
     let r = and_parts _ _ p.0 in
     and_from _ _ (and_from _ _ r.0 (and_from _ _ (ap not q.0) r.1)) (outside_from set marks p.1 q.1)
 
-lacks_fewer : (some all : List ℕ) → ((c : ℕ) → is_one_of some c ≡ true → is_one_of all c ≡ true) → (text : List ℕ) → Lacks all text → Lacks some text
+pub lacks_fewer : (some all : List ℕ) → ((c : ℕ) → is_one_of some c ≡ true → is_one_of all c ≡ true) → (text : List ℕ) → Lacks all text → Lacks some text
 lacks_fewer some all more text h k d l = ⊎_elim
     (λ e. absurd (both_ways _ (h k d l) (more _ e)))
     (λ e. e)

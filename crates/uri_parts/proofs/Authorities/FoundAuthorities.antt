@@ -19,12 +19,12 @@ use Rattle.uri_parts.specs.Models.AuthorityReading.{passes_user, host_place, fro
 use Rattle.uri_parts.specs.Models.AuthorityReading.{finds_authority, other_length, found_length}
 use Rattle.uri_parts.specs.Models.AuthorityReading.{other_authority, found_authority}
 use Rattle.uri_parts.specs.Grammar.{Kind}
-use Rattle.uri_parts.proofs.Authorities.Authority.{cut-none}
+use Rattle.uri_parts.proofs.Authorities.Authority.{cut-none, lacks_fewer}
 use Rattle.uri_parts.proofs.Authorities.AuthorityCuts.{length-before, behind, behind_mark}
 use Rattle.uri_parts.proofs.Splitting.Cuts.{IsCut-any, cut-append, before_past_other, Lacks-cons}
 use Rattle.uri_parts.proofs.HostForms.Futures.{lacks_append}
 use Rattle.uri_parts.proofs.HostForms.Hosts.{lacks_starts}
-use Rattle.uri_parts.proofs.Authorities.NamesAndPorts.{front_nil, cut_again, starts_before, fewer, utf8_before}
+use Rattle.uri_parts.proofs.Authorities.NamesAndPorts.{front_nil, cut_again, starts_before, utf8_before}
 use Rattle.uri_parts.proofs.Authorities.HostReading.{bare_end, bare_length, bare_host, name_bare, host_read, found_host}
 use Rattle.uri_parts.proofs.Splitting.Relative.{stops_at}
 use Rattle.uri_parts.proofs.TextKinds.Separations.{Separates}
@@ -284,13 +284,13 @@ module _ (segment : TableSet) (kind : Kind) (w : Separates segment kind) where
         let f = found_host segment kind w s (utf8_mark mark) (sym (ap (finds_host kind) b) ∙ h) in
         let cut_user = IsCut-any (codes "@/?#") rest in
         let cut_host = IsCut-any (codes "/?#") s in
-        let outside : Lacks (codes "@") user = fewer (codes "@") (codes "@/?#") (λ c e. grind (arith, nat_tests)) user cut_user.lacks in
+        let outside : Lacks (codes "@") user = lacks_fewer (codes "@") (codes "@/?#") (λ c e. grind (arith, nat_tests)) user cut_user.lacks in
         let whole_text : List ℕ = user ++ (64 ∷ (f.host ++ f.behind)) in
         let end : List ℕ = from_any (codes "/?#") s in
         let whole : whole_text ++ end ≡ rest =
         append_assoc user (64 ∷ (f.host ++ f.behind)) end ∙ ap (λ t. user ++ (64 ∷ (t ++ end))) (sym f.text) ∙ ap (λ t. user ++ (64 ∷ t)) cut_host.whole ∙ ap (λ t. user ++ t) (sym (starts-cons 64 tail mark)) ∙ cut_user.whole in
         let ends_lack : Lacks (codes "/?#") whole_text =
-        lacks_append (codes "/?#") user (64 ∷ (f.host ++ f.behind)) (fewer (codes "/?#") (codes "@/?#") (λ c e. grind (arith, nat_tests)) user cut_user.lacks)
+        lacks_append (codes "/?#") user (64 ∷ (f.host ++ f.behind)) (lacks_fewer (codes "/?#") (codes "@/?#") (λ c e. grind (arith, nat_tests)) user cut_user.lacks)
         (Lacks-cons (codes "/?#") 64 (f.host ++ f.behind) refl (subst (Lacks (codes "/?#")) f.text cut_host.lacks)) in
         let text_is : cut_text ≡ whole_text = ap (before_any (codes "/?#")) (sym whole) ∙ (cut-append (codes "/?#") whole_text end ends_lack cut_host.begins).0 in
         let n : host_place kind rest ≡ length user + 1 = user_place rest e ∙ ap (λ n. n + 1) (m ∙ sym (length-before (codes "@/?#") rest)) in

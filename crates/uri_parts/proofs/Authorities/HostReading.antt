@@ -18,7 +18,7 @@ use Rattle.uri_parts.specs.Models.AuthorityReading.{name_length, finds_name, hos
 use Rattle.uri_parts.specs.Models.AuthorityReading.{passes_host, finds_host}
 use Rattle.uri_parts.specs.Grammar.{Kind}
 use Rattle.uri_parts.proofs.HostForms.Addresses.{ipv6_value-sound}
-use Rattle.uri_parts.proofs.Authorities.Authority.{host_cut, lacks_nil, lacks_at_bracketed}
+use Rattle.uri_parts.proofs.Authorities.Authority.{host_cut, lacks_nil, lacks_at_bracketed, lacks_fewer}
 use Rattle.uri_parts.proofs.Authorities.AuthorityCuts.{length-before, behind}
 use Rattle.uri_parts.proofs.Splitting.Cuts.{IsCut-any, cut-append, before_past_other, Lacks-cons}
 use Rattle.uri_parts.proofs.HostForms.Futures.{ipv6_lacks, ipv_future_lacks, is_ipv_future-sound, lacks_append}
@@ -28,7 +28,7 @@ use Rattle.uri_parts.proofs.TextKinds.SpeltTexts.{utf8_apart, valid_lacks}
 use Rattle.uri_parts.proofs.Parsing.ReadingStops.{stop_cases, utf8_from, utf8_past}
 use Rattle.uri_parts.proofs.Authorities.WholeAuthorities.{is_name, ends_in_port, reads_host_and_port}
 use Rattle.uri_parts.proofs.Splitting.Recompose.{starts-cons}
-use Rattle.uri_parts.proofs.Authorities.NamesAndPorts.{neither, cut_again, starts_before, fewer, utf8_before, port_read, port_whole, port_stuck, port_begins, port_lacks, name_valid}
+use Rattle.uri_parts.proofs.Authorities.NamesAndPorts.{neither, cut_again, starts_before, utf8_before, port_read, port_whole, port_stuck, port_begins, port_lacks, name_valid}
 
 pub literal_lacks : (marks : List ℕ) → excludes ipv_future_set marks ≡ true → (address : List ℕ) → IsUtf8 address → is_literal address ≡ true → Lacks marks address
 unfolding is_literal
@@ -54,7 +54,7 @@ closed rest e =
     let k = IsCut-any (codes "]/?#") rest in
     let long : from ≡ 93 ∷ drop 1 from = starts-cons 93 from e in
     let whole : address ++ (93 ∷ drop 1 from) ≡ rest = ap (λ t. address ++ t) (sym long) ∙ k.whole in
-    let c = cut-append (codes "]") address (93 ∷ drop 1 from) (fewer (codes "]") (codes "]/?#") (λ c e. grind (arith, nat_tests)) address k.lacks) refl in
+    let c = cut-append (codes "]") address (93 ∷ drop 1 from) (lacks_fewer (codes "]") (codes "]/?#") (λ c e. grind (arith, nat_tests)) address k.lacks) refl in
     record {
       address = address;
       tail = drop 1 from;
@@ -236,7 +236,7 @@ module _ (segment : TableSet) (kind : Kind) (w : Separates segment kind) where
         host = name;
         behind = port;
         text = sym (ap (λ t. t ++ port) (sym c.0) ∙ ap (λ t. before_any (codes ":") (before_any (codes "/?#") rest) ++ t) (sym c.1) ∙ (IsCut-any (codes ":") (before_any (codes "/?#") rest)).whole);
-        at = lacks_append (codes "@") name port (fewer (codes "@") (codes "@:[") (λ c e. grind (arith, nat_tests)) name lacks) (port_lacks port (utf8_before (codes "/?#") from (ascii_marks (codes "/?#") refl) uf) p.1);
+        at = lacks_append (codes "@") name port (lacks_fewer (codes "@") (codes "@:[") (λ c e. grind (arith, nat_tests)) name lacks) (port_lacks port (utf8_before (codes "/?#") from (ascii_marks (codes "/?#") refl) uf) p.1);
         cut = (host_cut name port (inr lacks) (port_begins port p.1)).0;
         end = bare_end rest e ∙ n;
         whole = bare_length rest e ∙ name_whole rest (length name) (length port) n k ∙ sym (length-append name port);
@@ -253,7 +253,7 @@ module _ (segment : TableSet) (kind : Kind) (w : Separates segment kind) where
       let literal = sym (literal_is rest u c) ∙ q.0 in
       let lacks = literal_lacks (codes "]/?#") refl c.address up.0 literal in
       let plain : Lacks (codes "/?#") (bracketed c.address) =
-      Lacks-cons (codes "/?#") 91 (c.address ++ codes "]") refl (lacks_append (codes "/?#") c.address (codes "]") (fewer (codes "/?#") (codes "]/?#") (λ c e. grind (arith, nat_tests)) c.address lacks) (Lacks-cons (codes "/?#") 93 [] refl (lacks_nil (codes "/?#")))) in
+      Lacks-cons (codes "/?#") 91 (c.address ++ codes "]") refl (lacks_append (codes "/?#") c.address (codes "]") (lacks_fewer (codes "/?#") (codes "]/?#") (λ c e. grind (arith, nat_tests)) c.address lacks) (Lacks-cons (codes "/?#") 93 [] refl (lacks_nil (codes "/?#")))) in
       let k = IsCut-any (codes "/?#") c.tail in
       let from : List ℕ = from_any (codes "/?#") c.tail in
       let whole : (bracketed c.address ++ port) ++ from ≡ 91 ∷ rest = append_assoc (bracketed c.address) port from ∙ ap (λ t. bracketed c.address ++ t) k.whole ∙ behind_literal rest u c in
@@ -264,7 +264,7 @@ module _ (segment : TableSet) (kind : Kind) (w : Separates segment kind) where
         behind = port;
         text = ap (before_any (codes "/?#")) (sym whole) ∙ (cut-append (codes "/?#") (bracketed c.address ++ port) from (lacks_append (codes "/?#") (bracketed c.address) port plain k.lacks) k.begins).0;
         at = lacks_append (codes "@") (bracketed c.address) port (lacks_at_bracketed c.address (literal_lacks (codes "@") refl c.address up.0 literal)) (port_lacks port (utf8_before (codes "/?#") c.tail (ascii_marks (codes "/?#") refl) up.1) ends);
-        cut = (host_cut (bracketed c.address) port (inl (c.address, refl, fewer (codes "]") (codes "]/?#") (λ c e. grind (arith, nat_tests)) c.address lacks)) (port_begins port ends)).0;
+        cut = (host_cut (bracketed c.address) port (inl (c.address, refl, lacks_fewer (codes "]") (codes "]/?#") (λ c e. grind (arith, nat_tests)) c.address lacks)) (port_begins port ends)).0;
         end = n;
         whole = omega (arith, n, p, length-append (bracketed c.address) port);
       }

@@ -15,7 +15,7 @@ use Rattle.uri_parts.specs.Components.{before_any, from_any, starts, Lacks}
 use Rattle.uri_parts.specs.Hosts.{ipv4_value}
 use Rattle.uri_parts.specs.Models.AuthorityReading.{begins_any, port_length}
 use Rattle.uri_parts.proofs.HostForms.Addresses.{ipv4_value-sound}
-use Rattle.uri_parts.proofs.Authorities.Authority.{lacks_nil}
+use Rattle.uri_parts.proofs.Authorities.Authority.{lacks_nil, lacks_fewer}
 use Rattle.uri_parts.proofs.Authorities.AuthorityCuts.{length-before, behind_mark}
 use Rattle.uri_parts.proofs.Splitting.Cuts.{Begins, IsCut-any, before_at_mark, from_at_mark, before_past_other, from_past_other, Lacks-cons}
 use Rattle.uri_parts.proofs.HostForms.Futures.{ipv4_digits, digit_reg_name}
@@ -68,9 +68,6 @@ starts_before mark marks none (b ∷ bs) = ⊎_elim
     (λ o. ap (starts mark) (before_at_mark marks b bs o) ∙ sym (false_from_ne_true _ (λ e. both_ways _ none (sym (ap (is_one_of marks) (eqb-true b mark e)) ∙ o))))
     (λ o. ap (starts mark) (before_past_other marks b bs o))
     (cases_Bool (is_one_of marks b))
-
-pub fewer : (some all : List ℕ) → ((c : ℕ) → is_one_of some c ≡ true → is_one_of all c ≡ true) → (xs : List ℕ) → Lacks all xs → Lacks some xs
-fewer some all more xs h k d l = ⊎_elim (λ e. absurd (both_ways _ (h k d l) (more _ e))) (λ e. e) (cases_Bool (is_one_of some _))
 
 pub utf8_before : (marks bs : List ℕ) → AreAscii marks → IsUtf8 bs → IsUtf8 (before_any marks bs)
 utf8_before marks bs ascii u = IsUtf8-take bs _ u (mark_boundary marks ascii bs)
