@@ -20,6 +20,7 @@ use uri_ascii::uri_ref::UriRef;
 use uri_ops::convert::{self, ConvertError};
 use uri_ops::encoded::encoded;
 use uri_ops::traits::RiMaybeRef;
+use uri_parts::core_text::Core;
 
 #[tactic(auto, using(uri_ops::proofs::TextKinds::Conversions::uri_is_iri))]
 impl<T: AsStr> From<Uri<T>> for Iri<T> {
@@ -245,11 +246,8 @@ impl<T: AsStr> Iri<T> {
         ensures under { (ports : PortFunction) → IfOk result (λ encoded.
             meaning_of iri ports (uri_text encoded) ≡ meaning_of iri ports (iri_text self.now)) }
     {
-        let text = encoded(alloc, self.core().as_str())?;
-        match Uri::<String>::parse(text) {
-            Ok(encoded) => Ok(encoded),
-            Err(_) => unreachable!(),
-        }
+        let (text, positions) = encoded(alloc, self)?;
+        Ok(Uri::of_core(Core::new(text, positions)))
     }
 }
 
@@ -278,10 +276,7 @@ impl<T: AsStr> IriRef<T> {
             meaning_of iri_ref ports (uri_ref_text encoded)
             ≡ meaning_of iri_ref ports (iri_ref_text self.now)) }
     {
-        let text = encoded(alloc, self.core().as_str())?;
-        match UriRef::<String>::parse(text) {
-            Ok(encoded) => Ok(encoded),
-            Err(_) => unreachable!(),
-        }
+        let (text, positions) = encoded(alloc, self)?;
+        Ok(UriRef::of_core(Core::new(text, positions)))
     }
 }

@@ -8,3 +8,4 @@ pub mod EncodedAuthorities
 pub mod EncodedMeanings
 pub mod AsciiTexts
 pub mod EncodedRuns
+pub mod EncodedPlaces

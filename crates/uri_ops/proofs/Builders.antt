@@ -7,3 +7,5 @@ pub mod BuilderHosts
 pub mod BuilderGrowth
 pub mod Built
 pub mod PartRules
+pub mod DraftHosts
+pub mod DraftPositions

@@ -10,6 +10,7 @@ ghost use Rattle.uri_ops.specs.BuilderParts.{with_port_but, with_query, with_sch
 ghost use Rattle.uri_ops.specs.BuilderParts.{with_userinfo};
 ghost use Rattle.uri_ops.specs.BuilderStates.{held_of, parts_at};
 ghost use Rattle.uri_ops.specs.Builders.{draft_parts};
+ghost use Rattle.uri_ops.specs.Models.DraftPlaces.{KnowsHost};
 
 mod appending;
 #[doc(hidden)]
@@ -19,16 +20,19 @@ pub mod held;
 #[doc(hidden)]
 pub mod host_port;
 mod order;
+#[doc(hidden)]
+pub mod places;
 pub mod state;
 
 use crate::build::draft::Draft;
 use crate::build::held::Holds;
 use crate::build::host_port::{AsPort, WithEncoder};
+use crate::build::places::{HostPlace, host_place};
 use crate::build::state::{
     AdvanceTo, AuthorityEnd, AuthorityStart, Begins, End, FragmentEnd, HostEnd, NonRefStart,
     PathEnd, PortEnd, QueryEnd, SchemeEnd, Start, State, StateOf, To, UserinfoEnd,
 };
-use crate::traits::{RiMaybeRef, owned};
+use crate::traits::RiMaybeRef;
 use std::alloc::Global;
 use thiserror::Error;
 use uri_parts::component::{Authority, Scheme};
@@ -153,9 +157,11 @@ impl<R: RiMaybeRef, S: StateOf<R>> Builder<R, S> {
     }
 
     /// The builder that holds a draft.
+    #[inline(always)]
     fn holding(draft: Draft) -> Builder<R, S>
         requires rules { Meets R.kind (draft_parts draft) }
         requires place { S.place R.kind.needs_scheme (draft_parts draft) ≡ true }
+        requires host { KnowsHost draft }
         ensures { S.Held.parts (held_of result) ≡ draft_parts draft }
     {
         Builder {
@@ -164,12 +170,14 @@ impl<R: RiMaybeRef, S: StateOf<R>> Builder<R, S> {
     }
 
     /// What the builder holds where the step to a state begins.
+    #[inline(always)]
     fn taken<T: State>(self) -> Draft
     where
         S: To<T>,
         ensures same { draft_parts result ≡ S.Held.parts (held_of self) }
         ensures rules { Meets R.kind (draft_parts result) }
         ensures before { T.before R.kind.needs_scheme (draft_parts result) ≡ true }
+        ensures host { KnowsHost result }
     {
         self.held.taken()
     }
@@ -198,7 +206,10 @@ impl<R: RiMaybeRef, S: StateOf<R>> Builder<R, S> {
         ensures { Adds (with_authority []) (S.Held.parts (held_of self))
             (S.Begun.Held.parts (held_of result)) }
     {
-        Builder::holding(self.taken::<AuthorityStart>().with_authority(""))
+        Builder::holding(
+            self.taken::<AuthorityStart>()
+                .with_authority("", HostPlace { start: 0, end: 0 }),
+        )
     }
 
     /// Gives the authority (RFC 3986, section 3.2) part by part: the closure is called with this
@@ -241,7 +252,7 @@ impl<R: RiMaybeRef, S: StateOf<R>> Builder<R, S> {
     {
         Builder::holding(
             self.taken::<AuthorityStart>()
-                .with_authority(authority.as_str()),
+                .with_authority(authority.as_str(), host_place(authority)),
         )
     }
 
@@ -374,7 +385,10 @@ impl<R: RiMaybeRef, S: StateOf<R>> Builder<R, S> {
         }
         match draft.refusal() {
             Some(error) => Err(error),
-            None => Ok(owned::<R>(draft.text)),
+            None => {
+                let positions = draft.positions();
+                Ok(R::make_owned(draft.text, positions))
+            }
         }
     }
 }

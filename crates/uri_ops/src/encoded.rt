@@ -1,9 +1,16 @@
 //! Texts whose characters past ASCII are replaced by their octets (RFC 3987, section 3.1).
-ghost use Rattle.std.specs.Prelude.{◌≡◌, ◌≤◌, ◌<◌, ◌+◌, ◌*◌, ◌++◌, IfOk, OnOk, length, take};
-ghost use Rattle.std.specs.Prelude.{slice_index, string_bytes};
+ghost use Rattle.std.specs.Prelude.{◌≡◌, ◌≤◌, ◌<◌, ◌+◌, ◌*◌, ◌++◌, [], IfOk, OnOk, length, take};
+ghost use Rattle.std.specs.Prelude.{option_map, slice_index, string_bytes};
+ghost use Rattle.std.specs.Str.{IsUtf8};
+ghost use Rattle.uri_parts.specs.Grammar.{IsOfKind};
+ghost use Rattle.uri_parts.specs.Positions.{AreAt};
 ghost use Rattle.uri_ops.specs.Encoded.{encoded_text};
+ghost use Rattle.uri_ops.specs.Models.EncodedPlaces.{AreOrdered, IsOrdered, authority_moved};
+ghost use Rattle.uri_ops.specs.Models.EncodedPlaces.{moved, positions_moved};
 
+use crate::traits::RiMaybeRef;
 use std::alloc::{AllocError, Global};
+use uri_parts::positions::{AuthorityPositions, Positions};
 use uri_pct::lanes::{LANES, ascii_end};
 use uri_pct::octet::pct_encoded;
 
@@ -71,21 +78,125 @@ fn push_encoded(bytes: &[u8], out: &mut Vec<u8>) -> Result<(), AllocError>
     Ok(())
 }
 
-/// The text with each character past ASCII as the octets of its UTF-8.
-///
-/// Memory is asked for once, for as many bytes as it has.
-#[doc(hidden)]
-pub fn encoded(alloc: Global, text: &str) -> Result<String, AllocError>
-    ensures { IfOk result (λ out. string_bytes out ≡ encoded_text text.now) }
+/// Appends what stands between two places, as `push_encoded`, where what stands before the first is
+/// written, and answers where it ends.
+fn push_between(
+    bytes: &[u8],
+    start: usize,
+    end: usize,
+    out: &mut Vec<u8>,
+) -> Result<usize, AllocError>
+    requires ordered { start ≤ end }
+    requires inside { end ≤ length bytes.now }
+    requires before { out.now.items ≡ encoded_text (take start bytes.now) }
+    ensures text { OnOk result (out.new.items ≡ encoded_text (take end bytes.now)) }
+    ensures place { IfOk result (λ place. place ≡ moved bytes.now end) }
 {
+    push_encoded(&bytes[start..end], out)?;
+    Ok(out.len())
+}
+
+/// Appends what stands before a path that follows this authority, as `push_encoded`, and answers
+/// where the authority lies.
+fn push_to_authority_end(
+    bytes: &[u8],
+    authority: AuthorityPositions,
+    out: &mut Vec<u8>,
+) -> Result<AuthorityPositions, AllocError>
+    requires ordered { IsOrdered authority.end authority }
+    requires inside { authority.end ≤ length bytes.now }
+    requires before { out.now.items ≡ [] }
+    ensures text { OnOk result (out.new.items ≡ encoded_text (take authority.end bytes.now)) }
+    ensures places { IfOk result (λ places. places ≡ authority_moved bytes.now authority) }
+{
+    let start = push_between(bytes, 0, authority.start, out)?;
+    let host_start = push_between(bytes, authority.start, authority.host_start, out)?;
+    let host_end = push_between(bytes, authority.host_start, authority.host_end, out)?;
+    let end = push_between(bytes, authority.host_end, authority.end, out)?;
+    Ok(AuthorityPositions {
+        start,
+        host_start,
+        host_end,
+        end,
+    })
+}
+
+/// Appends what stands before the path, as `push_encoded`, and answers where the authority lies.
+fn push_to_path(
+    bytes: &[u8],
+    positions: &Positions,
+    out: &mut Vec<u8>,
+) -> Result<Option<AuthorityPositions>, AllocError>
+    requires ordered { AreOrdered (length bytes.now) positions.now }
+    requires before { out.now.items ≡ [] }
+    ensures text { OnOk result
+        (out.new.items ≡ encoded_text (take positions.now.path_start bytes.now)) }
+    ensures places { IfOk result (λ places.
+        places ≡ option_map (authority_moved bytes.now) positions.now.authority) }
+{
+    match positions.authority {
+        Some(authority) => Ok(Some(push_to_authority_end(bytes, authority, out)?)),
+        None => {
+            push_between(bytes, 0, positions.path_start, out)?;
+            Ok(None)
+        }
+    }
+}
+
+/// Appends the text whose components lie so, as `push_encoded`, and answers where they lie then.
+fn push_components(
+    bytes: &[u8],
+    positions: &Positions,
+    out: &mut Vec<u8>,
+) -> Result<Positions, AllocError>
+    requires ordered { AreOrdered (length bytes.now) positions.now }
+    requires before { out.now.items ≡ [] }
+    ensures text { OnOk result (out.new.items ≡ encoded_text bytes.now) }
+    ensures places { IfOk result (λ places. places ≡ positions_moved bytes.now positions.now) }
+{
+    let authority = push_to_path(bytes, positions, out)?;
+    let path_start = out.len();
+    let path_end = push_between(bytes, positions.path_start, positions.path_end, out)?;
+    let before_fragment = positions.before_fragment();
+    let fragment_start = push_between(bytes, positions.path_end, before_fragment, out)?;
+    push_between(bytes, before_fragment, bytes.len(), out)?;
+    Ok(Positions {
+        scheme_end: positions.scheme_end,
+        authority,
+        path_start,
+        path_end,
+        query_end: match positions.query_end {
+            Some(_) => Some(fragment_start),
+            None => None,
+        },
+    })
+}
+
+/// The text of a value with each character past ASCII as the octets of its UTF-8, and where its
+/// components lie.
+///
+/// Memory is asked for once, for as many bytes as it has. Where all characters are ASCII, the text
+/// is copied, with its positions.
+#[doc(hidden)]
+pub fn encoded<R: RiMaybeRef>(alloc: Global, value: &R) -> Result<(String, Positions), AllocError>
+    ensures text { IfOk result (λ made. string_bytes made.0 ≡ encoded_text (R.text value.now)) }
+    ensures at { IfOk result (λ made. AreAt (string_bytes made.0) made.1) }
+    ensures utf8 { IsUtf8 (R.text value.now) }
+    ensures of_kind { IsOfKind R.kind (R.text value.now) }
+{
+    let core = value.core();
+    let text = core.as_str();
     let bytes = text.as_bytes();
-    let len = bytes
-        .len()
-        .saturating_add(past_ascii(bytes).saturating_mul(2));
+    let past = past_ascii(bytes);
+    if past == 0 {
+        let copy = String::from_str(alloc, text)?;
+        return Ok((copy, core.positions()));
+    }
+    let len = bytes.len().saturating_add(past.saturating_mul(2));
     let mut out = Vec::with_capacity(alloc, len)?;
-    push_encoded(bytes, &mut out)?;
+    let positions = push_components(bytes, &core.positions(), &mut out)?;
     match String::from_utf8(out) {
-        Ok(encoded) => Ok(encoded),
+        Ok(text) => Ok((text, positions)),
         Err(_) => unreachable!(),
     }
 }

@@ -114,10 +114,10 @@ module _ (names : TableSet) (w : IsComponentSet (codes "/?#[]@:") names) (apart 
   host_kept text RegName u (valid, other) = name_kept text (part_from names text u valid)
 
 -- an authority
-abbrev encoded_parts : AuthorityParts → AuthorityParts
+abbrev pub encoded_parts : AuthorityParts → AuthorityParts
 encoded_parts p = record { userinfo = option_map encoded_text p.userinfo; host = encoded_text p.host; port = option_map encoded_text p.port }
 
-recompose_authority-encoded : (p : AuthorityParts) → encoded_text (recompose_authority p) ≡ recompose_authority (encoded_parts p)
+pub recompose_authority-encoded : (p : AuthorityParts) → encoded_text (recompose_authority p) ≡ recompose_authority (encoded_parts p)
 recompose_authority-encoded p =
     let port = marked (codes ":") p.port [] in
     encoded-append (marked [] p.userinfo (codes "@")) (p.host ++ port)
@@ -179,11 +179,14 @@ module _ (kind : Kind) (sets : HasComponentSets kind) (a : List ℕ) (u : IsUtf8
   pub authority_encoded : is_authority (ascii_kind kind) (encoded_text a) ≡ true
   authority_encoded = is_authority_for-complete (ascii_set users) (ascii_set names) ascii_apart (encoded_text a) (encoded_parts parts) (IsUtf8-encoded a u) encoded_grammar
 
+  pub authority_parts-encoded : authority_parts (encoded_text a) ≡ encoded_parts parts
+  authority_parts-encoded = authority_parts-only (ascii_set users) (ascii_set names) ascii_apart (encoded_text a) (encoded_parts parts) (IsUtf8-encoded a u) encoded_grammar
+
   pub authority_meaning-encoded : (default : Option ℕ) → authority_meaning kind default (encoded_text a) ≡ authority_meaning kind default a
   authority_meaning-encoded default =
       let of_parts : AuthorityParts → AuthorityMeaning = λ p. record { userinfo = option_map (read users) p.userinfo; host = host_meaning names p.host (host_kind p.host); port = port_meaning default p.port } in
       let user_read = read_some users parts.userinfo user in
       let host_read = host.meaning in
       let port_read = ap (port_meaning default) (port_ascii parts.port utf8.port grammar.port) in
-      ap of_parts (authority_parts-only (ascii_set users) (ascii_set names) ascii_apart (encoded_text a) (encoded_parts parts) (IsUtf8-encoded a u) encoded_grammar)
+      ap of_parts authority_parts-encoded
       ∙ (λ i. record { userinfo = user_read i; host = host_read i; port = port_read i })

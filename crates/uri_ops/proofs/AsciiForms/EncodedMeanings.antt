@@ -40,7 +40,7 @@ scheme_plain s u e =
 scheme_ascii : (s : List ℕ) → IsUtf8 s → is_scheme s ≡ true → encoded_text s ≡ s
 scheme_ascii s u e = encoded-ascii s (scheme_plain s u e)
 
-scheme_kept : (o : Option (List ℕ)) → IfSome o (λ s. IsUtf8 s × (is_scheme s ≡ true)) → option_map encoded_text o ≡ o
+pub scheme_kept : (o : Option (List ℕ)) → IfSome o (λ s. IsUtf8 s × (is_scheme s ≡ true)) → option_map encoded_text o ≡ o
 scheme_kept None h = refl
 scheme_kept (Some s) h = ap Some (scheme_ascii s h.0 h.1)
 

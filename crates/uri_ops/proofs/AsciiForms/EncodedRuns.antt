@@ -1,7 +1,8 @@
 -- The bytes of a text are encoded in runs.
-use Rattle.std.proofs.Common.{◌≡◌, ℕ, zero, suc, ◌+◌, ◌-◌, ◌<◌, ◌≤◌, List, [], ◌∷◌, ◌++◌, length, get_or, take, drop, sym, ap, subst, ◌∙◌, arith, append_assoc}
+use Rattle.std.proofs.Common.{◌≡◌, ℕ, zero, suc, ◌+◌, ◌-◌, ◌<◌, ◌≤◌, List, [], ◌∷◌, ◌++◌, length, get_or, take, drop, sym, ap, subst, ◌∙◌, arith, append_assoc, ⊎_elim}
 use Rattle.std.specs.Str.{IsUtf8}
 use Rattle.std.proofs.Math.Seq.{take-suc, take-add}
+use Rattle.std.proofs.lemmas.Bool.{cases_lt}
 use Rattle.std.proofs.lemmas.List.{append-nil, length-append, length-drop, get_or-drop, take_all}
 use Rattle.uri_ops.specs.Encoded.{encoded_text}
 use Rattle.uri_ops.proofs.AsciiForms.EncodedTokens.{octet_text, IsUtf8-encoded}
@@ -43,6 +44,21 @@ longer_by_one bytes i h low =
 
 pub longer_by_three : (bytes : List ℕ) (i : ℕ) → i < length bytes → 128 ≤ get_or bytes i 0 → length (encoded_text (take (i + 1) bytes)) ≡ length (encoded_text (take i bytes)) + 3
 longer_by_three bytes i h high = ap length (octet_more bytes i h high) ∙ length-append (encoded_text (take i bytes)) (octet_text (get_or bytes i 0))
+
+longer : (text : List ℕ) → length text ≤ length (encoded_text text)
+longer [] = omega arith
+longer (c ∷ text) = ⊎_elim
+    (λ h. omega (arith, ap length (encoded_first c text h), longer text))
+    (λ h. omega (arith, ap length (encoded_octet c text h), length-append (octet_text c) (encoded_text text), longer text))
+    (cases_lt c 128)
+
+-- a text that is as long as its encoded text is that text
+pub same_length : (text : List ℕ) → length (encoded_text text) ≡ length text → encoded_text text ≡ text
+same_length [] e = encoded-nil
+same_length (c ∷ text) e = ⊎_elim
+    (λ h. encoded_first c text h ∙ ap (λ t. c ∷ t) (same_length text (omega (arith, e, ap length (encoded_first c text h)))))
+    (λ h. absurd (omega (arith, e, ap length (encoded_octet c text h), length-append (octet_text c) (encoded_text text), longer text)))
+    (cases_lt c 128)
 
 pub utf8_encoded : (text : List ℕ) → IsUtf8 text → IsUtf8 (encoded_text text)
 utf8_encoded text u = IsUtf8-encoded text u

@@ -8,7 +8,8 @@ use Rattle.std.proofs.lemmas.Bool.{and_parts, and_from, cond-true, cond-false, f
 use Rattle.uri_pct.specs.Sets.{TableSet, scheme_set}
 use Rattle.uri_pct.specs.Tokens.{is_valid_for}
 use Rattle.uri_pct.proofs.ValidTexts.Cuts.{excludes}
-use Rattle.uri_parts.specs.Components.{IsSplitOf, IsRooted, Lacks, has_authority, has_scheme, marked, starts}
+use Rattle.uri_parts.specs.Positions.{positions_of}
+use Rattle.uri_parts.specs.Components.{IsSplitOf, IsRooted, Lacks, has_authority, has_scheme, components, marked, starts}
 use Rattle.uri_parts.specs.Grammar.{IsOfKind, Kind, are_components, has_colon_first, if_some, is_authority, is_scheme}
 use Rattle.uri_parts.proofs.Splitting.Marks.{query_text, Begins-query_text}
 use Rattle.uri_parts.proofs.Splitting.Recompose.{IsSplitOf-components, true_to}
@@ -206,3 +207,6 @@ module _ (kind : Kind) (sets : HasComponentSets kind) (d : Draft) (whole : d.fai
 
   pub built_kind : refusal (draft_parts d) ≡ None → IsOfKind kind (string_bytes d.text)
   built_kind e = subst (IsOfKind kind) (d.ok whole).whole (built e).of_kind
+
+  pub built_at : refusal (draft_parts d) ≡ None → positions_of (components (string_bytes d.text)) ≡ positions_of (as_components (draft_parts d))
+  built_at e = ap positions_of (ap components (sym (d.ok whole).whole) ∙ (built e).components)

@@ -39,7 +39,7 @@ pub to_no_fragment : (needs : Bool) (p : BuilderParts) → stands has_path_befor
 to_no_fragment needs p h whole = (and_parts (is_some p.path) (is_none p.fragment) (to_test has_path_before_fragment needs p h whole)).1
 
 module _ (change : BuilderParts → BuilderParts) (p q : BuilderParts) (adds : Adds change p q) (same : (change p).failed ≡ p.failed) where
-  unmarked : q.failed ≡ false → p.failed ≡ false
+  pub unmarked : q.failed ≡ false → p.failed ≡ false
   unmarked e = sym same ∙ sym (ap (λ (r : BuilderParts). r.failed) (adds e)) ∙ e
 
   meets_behind : (kind : Kind) → (p.failed ≡ false → meet_rules kind (change p) ≡ true) → Meets kind q

@@ -4,8 +4,7 @@ use Rattle.std.specs.Option.{option_and_then}
 use Rattle.std.specs.Prelude.{Option, Some, None, IfSome}
 use Rattle.std.specs.Str.{IsUtf8, str_to_ascii_lowercase}
 use Rattle.uri_parts.specs.declared.positions.Positions.{Positions}
-use Rattle.uri_parts.specs.Authority.{AuthorityParts}
-use Rattle.uri_parts.specs.Components.{Components, components}
+use Rattle.uri_parts.specs.Components.{components}
 use Rattle.uri_parts.specs.Grammar.{Kind, is_authority}
 use Rattle.uri_parts.specs.Positions.{AreAt, authority_at, marked_length, positions_of}
 use Rattle.uri_ops.specs.ComponentSets.{HasComponentSets}
@@ -16,10 +15,7 @@ use Rattle.uri_ops.specs.Texts.{IsTextOf}
 use Rattle.uri_ops.specs.Models.Written.{parts_at, written_at}
 use Rattle.uri_ops.proofs.Meanings.AuthorityMeanings.{printed_parts}
 use Rattle.uri_ops.proofs.Normal.NormalTexts.{components-normal, parts_of}
-use Rattle.uri_ops.proofs.Normal.WrittenPlaces.{parts_cut}
-
-cut_placed : (c : Components) (parts : Option AuthorityParts) → option_map (parts_at (marked_length 1 c.scheme + 2)) parts ≡ option_map (authority_at (marked_length 1 c.scheme + 2)) c.authority → written_at c parts ≡ positions_of c
-cut_placed c parts e = ap (λ a. let x : Positions = record (positions_of c) { authority = a } in x) e
+use Rattle.uri_ops.proofs.Normal.WrittenPlaces.{cut_placed, parts_cut}
 
 module _ (kind : Kind) (sets : HasComponentSets kind) (ports : PortFunction) where
   authority_placed : (place : ℕ) (default : Option ℕ) (o : Option (List ℕ)) → IfSome o (λ a. IsUtf8 a × (is_authority kind a ≡ true))

@@ -19,11 +19,11 @@ use Rattle.uri_ops.specs.Ports.{PortFunction}
 use Rattle.uri_ops.proofs.Normal.NormalPieces.{path_written}
 use Rattle.uri_ops.specs.Models.Written.{parts_at, written_at}
 
-length-behind : (part : Option (List ℕ)) (mark : ℕ) → length (marked [] part (mark ∷ [])) ≡ marked_length 1 part
+pub length-behind : (part : Option (List ℕ)) (mark : ℕ) → length (marked [] part (mark ∷ [])) ≡ marked_length 1 part
 length-behind None mark = refl
 length-behind (Some s) mark = omega (arith, length-append s (mark ∷ []))
 
-length-before : (mark : List ℕ) (part : Option (List ℕ)) → length (marked mark part []) ≡ marked_length (length mark) part
+pub length-before : (mark : List ℕ) (part : Option (List ℕ)) → length (marked mark part []) ≡ marked_length (length mark) part
 length-before mark None = refl
 length-before mark (Some s) = omega (arith, length-append (mark ++ s) [], length-append mark s)
 
@@ -43,7 +43,11 @@ parts_placed p o0 o1 o2 o3 e1 e2 e3 =
 pub parts_cut : (place : ℕ) (p : AuthorityParts) → authority_parts (recompose_authority p) ≡ p → parts_at place p ≡ authority_at place (recompose_authority p)
 parts_cut place p cut = ap (λ (q : AuthorityParts). let host = marked_length 1 q.userinfo in let x : AuthorityPositions = record { start = place; host_start = place + host; host_end = place + (host + length q.host); end = place + length (recompose_authority p) } in x) (sym cut)
 
-from_zero : (part : Option (List ℕ)) → option_map (λ s. 0 + length s) part ≡ option_map length part
+-- and components of which the authority is cut into these parts
+pub cut_placed : (c : Components) (parts : Option AuthorityParts) → option_map (parts_at (marked_length 1 c.scheme + 2)) parts ≡ option_map (authority_at (marked_length 1 c.scheme + 2)) c.authority → written_at c parts ≡ positions_of c
+cut_placed c parts e = ap (λ a. let x : Positions = record (positions_of c) { authority = a } in x) e
+
+pub from_zero : (part : Option (List ℕ)) → option_map (λ s. 0 + length s) part ≡ option_map length part
 from_zero None = refl
 from_zero (Some s) = ap Some (omega arith)
 

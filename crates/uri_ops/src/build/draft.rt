@@ -4,7 +4,8 @@ ghost use Rattle.std.specs.Prelude.{is_none, length, unwrap_or, true, string_byt
 ghost use Rattle.uri_pct.specs.Sets.{digit_set};
 ghost use Rattle.uri_parts.specs.Appending.{Pushes};
 ghost use Rattle.uri_parts.specs.Grammar.{has_colon_first};
-ghost use Rattle.uri_ops.specs.BuilderParts.{Adds, is_text_for, no_parts};
+ghost use Rattle.uri_parts.specs.Positions.{positions_of};
+ghost use Rattle.uri_ops.specs.BuilderParts.{Adds, as_components, is_text_for, no_parts};
 ghost use Rattle.uri_ops.specs.BuilderParts.{with_authority, with_fragment, with_host, with_path};
 ghost use Rattle.uri_ops.specs.BuilderParts.{with_port, with_query, with_scheme, with_userinfo};
 ghost use Rattle.uri_ops.specs.Built.{refusal_of};
@@ -14,8 +15,10 @@ ghost use Rattle.uri_ops.specs.HostParts.{IsHostText};
 use crate::build::BuildError;
 use crate::build::appending::{append, append_host, append_port, grown};
 use crate::build::host_port::{AsPort, WithEncoder};
+use crate::build::places::{HostPlace, positions_by};
 use crate::slashes::{begins_with_slash, begins_with_two_slashes};
 use std::alloc::Global;
+use uri_parts::positions::Positions;
 use uri_pct::encoder::Encoder;
 
 /// How long each part is, where it is there, in bytes.
@@ -29,12 +32,14 @@ pub struct Lengths {
     pub fragment: Option<usize>,
 }
 
-/// The text so far. Unless it is marked failed, it is that of its parts by RFC 3986, section 5.3.
+/// The text so far, with the lengths of its parts and the place of the host in the authority.
+/// Unless it is marked failed, it is that of its parts by RFC 3986, section 5.3.
 #[doc(hidden)]
 #[derive(Drop)]
 pub struct Draft {
     pub text: String,
     pub lengths: Lengths,
+    pub host: HostPlace,
     pub failed: bool,
     pub ghost ok: { failed ≡ false → IsDraft lengths (string_bytes text) },
 }
@@ -43,6 +48,7 @@ impl Draft {
     ghost use Rattle.uri_ops.specs.Builders.{any_authority, draft_parts, ends_in_authority};
     ghost use Rattle.uri_ops.specs.Builders.{is_unended, lacks_all, lacks_authority, lacks_path};
     ghost use Rattle.uri_ops.specs.Built.{refusal};
+    ghost use Rattle.uri_ops.specs.Models.DraftPlaces.{KnowsHost};
 
     /// A draft that holds nothing.
     pub fn new(alloc: Global) -> Draft
@@ -57,17 +63,20 @@ impl Draft {
                 query: None,
                 fragment: None,
             },
+            host: HostPlace { start: 0, end: 0 },
             failed: false,
         }
     }
 
-    /// With these two pieces behind the text, and parts of these lengths.
-    fn appended(self, first: &str, second: &str, lengths: Lengths) -> Draft
+    /// With these two pieces behind the text, parts of these lengths, and the host at this place.
+    #[inline(always)]
+    fn appended(self, first: &str, second: &str, lengths: Lengths, host: HostPlace) -> Draft
         requires { self.failed ≡ false → IsDraft lengths
             (string_bytes self.text ++ (first.now ++ second.now)) }
         ensures text { result.failed ≡ false
             → Pushes self.text result.text (first.now ++ second.now) }
         ensures lengths { result.lengths ≡ lengths }
+        ensures host { result.host ≡ host }
         ensures kept { result.failed ≡ false → self.failed ≡ false }
     {
         let Draft {
@@ -80,64 +89,80 @@ impl Draft {
         Draft {
             text,
             lengths,
+            host,
             failed,
         }
     }
 
     /// With a scheme, and its `:`.
+    #[inline(always)]
     pub fn with_scheme(self, scheme: &str) -> Draft
         requires { self.failed ≡ false → lacks_all (draft_parts self) ≡ true }
-        ensures { Adds (with_scheme scheme.now) (draft_parts self) (draft_parts result) }
+        ensures adds { Adds (with_scheme scheme.now) (draft_parts self) (draft_parts result) }
+        ensures host { result.host ≡ self.host }
     {
         let lengths = Lengths {
             scheme: Some(scheme.len()),
             ..self.lengths
         };
-        self.appended(scheme, ":", lengths)
+        let host = self.host;
+        self.appended(scheme, ":", lengths, host)
     }
 
-    /// With an authority behind its `//`.
-    pub fn with_authority(self, authority: &str) -> Draft
+    /// With an authority behind its `//`, in which the host lies at this place.
+    #[inline(always)]
+    pub fn with_authority(self, authority: &str, host: HostPlace) -> Draft
         requires { self.failed ≡ false → lacks_authority (draft_parts self) ≡ true }
-        ensures { Adds (with_authority authority.now) (draft_parts self) (draft_parts result) }
+        ensures adds { Adds (with_authority authority.now) (draft_parts self) (draft_parts result) }
+        ensures host { result.host ≡ host }
     {
         let lengths = Lengths {
             authority: Some(authority.len()),
             ..self.lengths
         };
-        self.appended("//", authority, lengths)
+        self.appended("//", authority, lengths, host)
     }
 
     /// With userinfo and its `@`, where an authority is begun.
+    #[inline(always)]
     pub fn with_userinfo(self, userinfo: &str) -> Draft
         requires { self.failed ≡ false → ends_in_authority any_authority (draft_parts self) ≡ true }
-        ensures { Adds (with_userinfo userinfo.now) (draft_parts self) (draft_parts result) }
+        ensures adds { Adds (with_userinfo userinfo.now) (draft_parts self) (draft_parts result) }
+        ensures host { let end = unwrap_or result.lengths.authority 0 in
+            (result.host.start ≡ end) × (result.host.end ≡ end) }
     {
         let Draft {
             mut text,
             lengths,
             failed,
+            ..
         } = self;
         let old = text.len();
         let failed = append(&mut text, failed, userinfo);
         let failed = append(&mut text, failed, "@");
         let lengths = grown(lengths, failed, old, text.len());
+        let end = lengths.authority.unwrap_or(0);
         Draft {
             text,
             lengths,
+            host: HostPlace { start: end, end },
             failed,
         }
     }
 
     /// With a host.
+    #[inline(always)]
     pub fn with_host<E: Encoder, H: WithEncoder<E>>(self, host: H) -> Draft
         requires { self.failed ≡ false → ends_in_authority any_authority (draft_parts self) ≡ true }
         ensures adds { Adds (with_host (H.host_text host)) (draft_parts self) (draft_parts result) }
+        ensures start { result.host.start ≡ self.host.start }
+        ensures end { result.host.end ≡ unwrap_or result.lengths.authority 0 }
         ensures host { result.failed ≡ false → IsHostText E.set (H.host_text host) }
     {
         let Draft {
             mut text,
             lengths,
+            host: place,
             failed,
         } = self;
         let old = text.len();
@@ -146,21 +171,28 @@ impl Draft {
         Draft {
             text,
             lengths,
+            host: HostPlace {
+                start: place.start,
+                end: lengths.authority.unwrap_or(0),
+            },
             failed,
         }
     }
 
     /// With a port behind its `:`.
+    #[inline(always)]
     pub fn with_port<P: AsPort>(self, port: P) -> Draft
         requires { self.failed ≡ false → ends_in_authority any_authority (draft_parts self) ≡ true }
         ensures adds { Adds (with_port (P.port_digits port))
             (draft_parts self) (draft_parts result) }
+        ensures host { result.host ≡ self.host }
         ensures digits { result.failed ≡ false
             → is_text_for digit_set (P.port_digits port) ≡ true }
     {
         let Draft {
             mut text,
             lengths,
+            host,
             failed,
         } = self;
         let old = text.len();
@@ -170,44 +202,64 @@ impl Draft {
         Draft {
             text,
             lengths,
+            host,
             failed,
         }
     }
 
     /// With a path.
+    #[inline(always)]
     pub fn with_path(self, path: &str) -> Draft
         requires { self.failed ≡ false → lacks_path (draft_parts self) ≡ true }
-        ensures { Adds (with_path path.now) (draft_parts self) (draft_parts result) }
+        ensures adds { Adds (with_path path.now) (draft_parts self) (draft_parts result) }
+        ensures host { result.host ≡ self.host }
     {
         let lengths = Lengths {
             path: Some(path.len()),
             ..self.lengths
         };
-        self.appended("", path, lengths)
+        let host = self.host;
+        self.appended("", path, lengths, host)
     }
 
     /// With a query behind its `?`.
+    #[inline(always)]
     pub fn with_query(self, query: &str) -> Draft
         requires { self.failed ≡ false → is_unended (draft_parts self) ≡ true }
-        ensures { Adds (with_query query.now) (draft_parts self) (draft_parts result) }
+        ensures adds { Adds (with_query query.now) (draft_parts self) (draft_parts result) }
+        ensures host { result.host ≡ self.host }
     {
         let lengths = Lengths {
             query: Some(query.len()),
             ..self.lengths
         };
-        self.appended("?", query, lengths)
+        let host = self.host;
+        self.appended("?", query, lengths, host)
     }
 
     /// With a fragment behind its `#`.
+    #[inline(always)]
     pub fn with_fragment(self, fragment: &str) -> Draft
         requires { self.failed ≡ false → is_none (draft_parts self).fragment ≡ true }
-        ensures { Adds (with_fragment fragment.now) (draft_parts self) (draft_parts result) }
+        ensures adds { Adds (with_fragment fragment.now) (draft_parts self) (draft_parts result) }
+        ensures host { result.host ≡ self.host }
     {
         let lengths = Lengths {
             fragment: Some(fragment.len()),
             ..self.lengths
         };
-        self.appended("#", fragment, lengths)
+        let host = self.host;
+        self.appended("#", fragment, lengths, host)
+    }
+
+    /// Where the parts lie in the text.
+    #[inline(always)]
+    pub fn positions(&self) -> Positions
+        requires whole { self.now.failed ≡ false }
+        requires host { KnowsHost self.now }
+        ensures { result ≡ positions_of (as_components (draft_parts self.now)) }
+    {
+        positions_by(&self.lengths, self.host, self.text.as_str())
     }
 
     /// Why the parts are refused, if they are.

@@ -2,6 +2,7 @@
 ghost use Rattle.std.specs.Prelude.{◌≡◌, true};
 ghost use Rattle.uri_ops.specs.BuilderParts.{Meets};
 ghost use Rattle.uri_ops.specs.Builders.{draft_parts};
+ghost use Rattle.uri_ops.specs.Models.DraftPlaces.{KnowsHost};
 
 use crate::build::draft::Draft;
 use crate::build::state::State;
@@ -14,6 +15,7 @@ pub trait Holds<R: RiMaybeRef, S: State>: Drop {
     ghost use Rattle.std.specs.Prelude.{true};
     ghost use Rattle.uri_ops.specs.BuilderParts.{BuilderParts, Meets};
     ghost use Rattle.uri_ops.specs.Builders.{draft_parts};
+    ghost use Rattle.uri_ops.specs.Models.DraftPlaces.{KnowsHost};
 
     ghost parts: { Self → BuilderParts };
 
@@ -21,12 +23,14 @@ pub trait Holds<R: RiMaybeRef, S: State>: Drop {
     fn taken(self) -> Draft
         ensures same { draft_parts result ≡ Self.parts self }
         ensures rules { Meets R.kind (draft_parts result) }
-        ensures place { S.place R.kind.needs_scheme (draft_parts result) ≡ true };
+        ensures place { S.place R.kind.needs_scheme (draft_parts result) ≡ true }
+        ensures host { KnowsHost result };
 
     /// The draft, whose parts are of the kind and may be held in the state.
     fn made(draft: Draft) -> Self
         requires rules { Meets R.kind (draft_parts draft) }
         requires place { S.place R.kind.needs_scheme (draft_parts draft) ≡ true }
+        requires host { KnowsHost draft }
         ensures { Self.parts result ≡ draft_parts draft };
 }
 
@@ -39,6 +43,7 @@ pub struct At<R: RiMaybeRef, S: State> {
     state: PhantomData<S>,
     pub ghost rules: { Meets R.kind (draft_parts draft) },
     pub ghost place: { S.place R.kind.needs_scheme (draft_parts draft) ≡ true },
+    pub ghost host: { KnowsHost draft },
 }
 
 impl<R: RiMaybeRef, S: State> Holds<R, S> for At<R, S> {
@@ -46,10 +51,12 @@ impl<R: RiMaybeRef, S: State> Holds<R, S> for At<R, S> {
 
     ghost parts = { parts_at };
 
+    #[inline(always)]
     fn taken(self) -> Draft {
         self.draft
     }
 
+    #[inline(always)]
     fn made(draft: Draft) -> At<R, S> {
         At {
             draft,

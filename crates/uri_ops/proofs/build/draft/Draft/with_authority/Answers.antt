@@ -7,7 +7,7 @@ use Rattle.uri_ops.proofs.build.draft.Draft.with_authority.Goals as goal
 pub appended-requires : goal.appended-requires
 appended-requires c = λ e. (authority_draft c.args.self c.args.authority.now c.requires e).draft
 
-pub returns : goal.returns
-returns c =
+pub returns-clause-adds : goal.returns-clause-adds
+returns-clause-adds c =
     adds_of (with_authority c.args.authority.now) c.args.self c.appended.result (record c.args.self.lengths { authority = Some (length c.args.authority.now) }) (codes "//" ++ c.args.authority.now) c.appended.ensures.kept c.appended.ensures.lengths c.appended.ensures.text
     (λ e. (authority_draft c.args.self c.args.authority.now c.requires e).parts)

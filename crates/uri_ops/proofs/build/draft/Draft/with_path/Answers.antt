@@ -7,7 +7,7 @@ use Rattle.uri_ops.proofs.build.draft.Draft.with_path.Goals as goal
 pub appended-requires : goal.appended-requires
 appended-requires c = λ e. (path_draft c.args.self c.args.path.now c.requires e).draft
 
-pub returns : goal.returns
-returns c =
+pub returns-clause-adds : goal.returns-clause-adds
+returns-clause-adds c =
     adds_of (with_path c.args.path.now) c.args.self c.appended.result (record c.args.self.lengths { path = Some (length c.args.path.now) }) (c.args.path.now) c.appended.ensures.kept c.appended.ensures.lengths c.appended.ensures.text
     (λ e. (path_draft c.args.self c.args.path.now c.requires e).parts)

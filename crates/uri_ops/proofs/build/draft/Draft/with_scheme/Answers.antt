@@ -7,7 +7,7 @@ use Rattle.uri_ops.proofs.build.draft.Draft.with_scheme.Goals as goal
 pub appended-requires : goal.appended-requires
 appended-requires c = λ e. (scheme_draft c.args.self c.args.scheme.now c.requires e).draft
 
-pub returns : goal.returns
-returns c =
+pub returns-clause-adds : goal.returns-clause-adds
+returns-clause-adds c =
     adds_of (with_scheme c.args.scheme.now) c.args.self c.appended.result (record c.args.self.lengths { scheme = Some (length c.args.scheme.now) }) (c.args.scheme.now ++ codes ":") c.appended.ensures.kept c.appended.ensures.lengths c.appended.ensures.text
     (λ e. (scheme_draft c.args.self c.args.scheme.now c.requires e).parts)

@@ -14,8 +14,8 @@ invariant_of-result c =
           (two_pieces (string_bytes c.args.self.text) c.args.userinfo.now (codes "@") (string_bytes c.append-failed.new.text) new c.append-failed.result g c.append-failed-2.ensures.kept c.append-failed.ensures.text c.append-failed-2.ensures.text) w).draft;
     }
 
-pub returns : goal.returns
-returns c =
+pub returns-clause-adds : goal.returns-clause-adds
+returns-clause-adds c =
     let g = c.append-failed-2.result in
     let kept = λ (e : c.append-failed-2.result ≡ false). c.append-failed.ensures.kept (c.append-failed-2.ensures.kept e) in
     let old = string_bytes c.args.self.text in
