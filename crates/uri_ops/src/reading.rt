@@ -87,7 +87,7 @@ fn push_parts(
         lowers,
         text: mem::replace(out, String::new(alloc)),
     };
-    let taken = Decode::of_text(text).take_parts(alloc, &mut reading);
+    let taken = Decode::of_text(text).take_parts(&mut reading);
     *out = reading.text;
     taken
 }

@@ -4,4 +4,5 @@ pub mod Pieces
 pub mod CharacterPieces
 pub mod Lossy
 pub mod Runs
+pub mod Unfinished
 pub mod PartPieces

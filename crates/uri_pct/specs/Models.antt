@@ -3,3 +3,5 @@ pub mod ByteRuns
 pub mod Fronts
 pub mod LaneMasks
 pub mod TakenBytes
+pub mod Unfinished
+pub mod Windows

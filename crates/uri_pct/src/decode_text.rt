@@ -101,7 +101,7 @@ impl<'a> Decode<'a> {
             bytes: Vec::with_capacity(alloc, self.as_str().len())?,
             is_text: true,
         };
-        self.take_parts(alloc, &mut taker)?;
+        self.take_parts(&mut taker)?;
         let Bytes { bytes, is_text } = taker;
         if is_text {
             Ok(CowStr::Owned(unsafe { String::from_utf8_unchecked(bytes) }))
@@ -133,7 +133,7 @@ impl<'a> Decode<'a> {
         let mut taker = LossyText {
             text: String::with_capacity(alloc, self.as_str().len())?,
         };
-        self.take_parts(alloc, &mut taker)?;
+        self.take_parts(&mut taker)?;
         Ok(CowStr::Owned(taker.text))
     }
 }

@@ -30,3 +30,4 @@ pub mod split;
 pub mod table;
 #[doc(hidden)]
 pub mod utf8;
+mod window;

@@ -32,17 +32,13 @@ pub fn pct_encoded(byte: u8) -> &'static str
     &OCTETS[start..start + 3]
 }
 
-/// The value of a hexadecimal digit.
+/// The value of a hexadecimal digit, without a branch: `A` is 1 behind 64, and `a` 1 behind 96.
 fn digit_value(digit: u8) -> u8
     requires { IsTrue (is_ascii_hexdigit digit) }
     ensures value { result ≡ digit_value digit }
     ensures small { result < 16 }
 {
-    match digit {
-        b'0'..=b'9' => digit - b'0',
-        b'A'..=b'F' => digit - b'A' + 10,
-        _ => digit - b'a' + 10,
-    }
+    digit % 16 + digit / 64 * 9
 }
 
 /// The byte that `%` and the two hexadecimal digits stand for.

@@ -1,12 +1,14 @@
 //! Octets that are read as UTF-8.
-ghost use Rattle.std.specs.Prelude.{◌≡◌, OnOk, List, [], ◌∷◌, ◌++◌, map};
+ghost use Rattle.std.specs.Prelude.{◌≡◌, ◌<◌, OnOk, List, [], ◌∷◌, ◌++◌, length, map};
 ghost use Rattle.uri_pct.specs.Chunks.{Chunk};
 ghost use Rattle.uri_pct.specs.DecodedChunks.{chunk_of};
+ghost use Rattle.uri_pct.specs.Models.Windows.{held};
 ghost use Rattle.uri_pct.specs.Parts.{Part, Plain, Read, parts, parts_from, fault_pieces};
 ghost use Rattle.uri_pct.specs.Pieces.{WellFormed, IllFormed, utf8_pieces};
 
 use crate::decode::{Decode, DecodedChunk};
-use std::alloc::{AllocError, Global};
+use crate::window::{Window, unfinished_len};
+use std::alloc::AllocError;
 
 /// What is made of a text as it is decoded: it takes the parts one after the other.
 #[doc(hidden)]
@@ -53,26 +55,48 @@ fn take_run<T: TakeParts>(run: &[u8], taker: &mut T) -> Result<(), AllocError>
     Ok(())
 }
 
-/// Takes a chunk: an octet goes to the run, and text ends it.
+/// Hands over what a full window holds, but for an unfinished character at its end: that it keeps,
+/// since what follows decides whether it is one.
+///
+/// It stands apart, so that an octet which has room is put into the window without a call.
+#[inline(never)]
+fn take_full<T: TakeParts>(window: &mut Window, taker: &mut T) -> Result<(), AllocError>
+    requires { length (held window.old) ≡ 32 }
+    ensures room { OnOk result (length (held window.new) < 32) }
+    ensures taken { OnOk result ((u : _) (behind : List Chunk)
+        → T.took taker.new (parts_from (held window.new) behind) u
+        → T.took taker.old (parts_from (held window.old) behind) u) }
+{
+    let bytes = window.as_slice();
+    let kept = unfinished_len(bytes);
+    take_run(&bytes[..bytes.len() - kept], taker)?;
+    window.keep_last(kept);
+    Ok(())
+}
+
+/// Takes a chunk: an octet goes to the window, and text ends the run.
 ///
 /// Whatever takes the parts that are left from then on has taken those of the chunk too.
 fn take_decoded<T: TakeParts>(
     chunk: DecodedChunk<'_>,
-    run: &mut Vec<u8>,
+    window: &mut Window,
     taker: &mut T,
 ) -> Result<(), AllocError>
     ensures { OnOk result ((u : _) (behind : List Chunk)
-        → T.took taker.new (parts_from run.new.items behind) u
-        → T.took taker.old (parts_from run.old.items (chunk_of chunk.entry ∷ behind)) u) }
+        → T.took taker.new (parts_from (held window.new) behind) u
+        → T.took taker.old (parts_from (held window.old) (chunk_of chunk.entry ∷ behind)) u) }
 {
     match chunk {
         DecodedChunk::Unencoded(text) => {
-            take_run(run, taker)?;
-            run.clear();
+            take_run(window.as_slice(), taker)?;
+            window.clear();
             taker.take_unencoded(text)
         }
         DecodedChunk::PctDecoded(byte) => {
-            run.push(byte)?;
+            if window.is_full() {
+                take_full(window, taker)?;
+            }
+            window.push(byte);
             Ok(())
         }
     }
@@ -81,16 +105,15 @@ fn take_decoded<T: TakeParts>(
 impl<'a> Decode<'a> {
     ghost use Rattle.uri_pct.specs.Decodes.{undecoded};
 
-    /// Hands over the parts of the text that is left, in order. An error is one of the taker, or of
-    /// the memory that a run of octets is read in.
+    /// Hands over the parts of the text that is left, in order. An error is one of the taker.
     #[doc(hidden)]
-    pub fn take_parts<T: TakeParts>(self, alloc: Global, taker: &mut T) -> Result<(), AllocError>
+    pub fn take_parts<T: TakeParts>(self, taker: &mut T) -> Result<(), AllocError>
         ensures { OnOk result (T.took taker.old (parts (undecoded self.entry)) taker.new) }
     {
-        let mut run = Vec::new(alloc);
+        let mut window = Window::new();
         for chunk in self {
-            take_decoded(chunk, &mut run, taker)?;
+            take_decoded(chunk, &mut window, taker)?;
         }
-        take_run(&run, taker)
+        take_run(window.as_slice(), taker)
     }
 }

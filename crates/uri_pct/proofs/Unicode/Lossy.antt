@@ -171,11 +171,11 @@ long_4 b second low high least most rest bytes e =
     ap suc (fitting_shorter (second ∷ continuation ∷ []) continuation rest (omega arith))
     ∙ sym (std_lead b second rest low high least most)
 
-no_row_low : (b : ℕ) → 0x80 ≤ b → b < 0xC2 → following b ≡ None
+pub no_row_low : (b : ℕ) → 0x80 ≤ b → b < 0xC2 → following b ≡ None
 unfolding following
 no_row_low b low high = grind (arith, nat_tests)
 
-no_row_high : (b : ℕ) → 0xF4 < b → following b ≡ None
+pub no_row_high : (b : ℕ) → 0xF4 < b → following b ≡ None
 unfolding following
 no_row_high b low = grind (arith, nat_tests)
 

@@ -86,13 +86,24 @@ unfolding are_inner
 taken_stops None xs ys inner out = refl
 taken_stops (Some ranges) xs ys inner out = fitting_stops ranges xs ys inner out
 
-first_stops : (row : Option (List ByteRange)) (b : ℕ) (xs ys : List ℕ) → are_inner row ≡ true → begins_within ys ≡ false → first_piece row b (xs ++ ys) ≡ first_piece row b xs
-unfolding are_inner
-first_stops None b xs ys inner out = refl
-first_stops (Some ranges) b xs ys inner out =
+first_stays : (row : Option (List ByteRange)) (b : ℕ) (xs ys : List ℕ) → taken row (xs ++ ys) ≡ taken row xs
+    → first_piece row b (xs ++ ys) ≡ first_piece row b xs
+first_stays None b xs ys same = refl
+first_stays (Some ranges) b xs ys same =
     let n = fitting ranges xs in
-    ap (λ m. cond (eqb m (length ranges)) (WellFormed (b ∷ take m (xs ++ ys))) (IllFormed (b ∷ take m (xs ++ ys)))) (fitting_stops ranges xs ys inner out)
+    ap (λ m. cond (eqb m (length ranges)) (WellFormed (b ∷ take m (xs ++ ys))) (IllFormed (b ∷ take m (xs ++ ys)))) same
     ∙ ap (λ t. cond (eqb n (length ranges)) (WellFormed (b ∷ t)) (IllFormed (b ∷ t))) (take-append-le n xs ys (fitting_le ranges xs))
+
+-- where the first piece takes no byte of what follows, what is left decides
+pub first_parted : (x : ℕ) (xs ys : List ℕ) → taken (following x) (xs ++ ys) ≡ taken (following x) xs
+    → pieces_from (taken (following x) xs) (xs ++ ys) ≡ pieces_from (taken (following x) xs) xs ++ utf8_pieces ys
+    → utf8_pieces ((x ∷ xs) ++ ys) ≡ utf8_pieces (x ∷ xs) ++ utf8_pieces ys
+unfolding pieces_from
+first_parted x xs ys same left =
+    let row = following x in
+    ap (λ p. p ∷ pieces_from (taken row (xs ++ ys)) (xs ++ ys)) (first_stays row x xs ys same)
+    ∙ ap (λ n. first_piece row x xs ∷ pieces_from n (xs ++ ys)) same
+    ∙ ap (λ ps. first_piece row x xs ∷ ps) left
 
 pieces_parted : (k : ℕ) (xs ys : List ℕ) → k ≤ length xs → begins_within ys ≡ false → pieces_from k (xs ++ ys) ≡ pieces_from k xs ++ utf8_pieces ys
 unfolding pieces_from
@@ -101,10 +112,7 @@ pieces_parted (suc k) [] ys h out = absurd (omega arith)
 pieces_parted (suc k) (x ∷ xs) ys h out = pieces_parted k xs ys (omega arith) out
 pieces_parted zero (x ∷ xs) ys h out =
     let row = following x in
-    let inner = following_inner x in
-    ap (λ p. p ∷ pieces_from (taken row (xs ++ ys)) (xs ++ ys)) (first_stops row x xs ys inner out)
-    ∙ ap (λ n. first_piece row x xs ∷ pieces_from n (xs ++ ys)) (taken_stops row xs ys inner out)
-    ∙ ap (λ ps. first_piece row x xs ∷ ps) (pieces_parted (taken row xs) xs ys (taken_le row xs) out)
+    first_parted x xs ys (taken_stops row xs ys (following_inner x) out) (pieces_parted (taken row xs) xs ys (taken_le row xs) out)
 
 -- a byte that begins a character, or none at all, begins a piece
 pub utf8_pieces-append : (xs ys : List ℕ) → begins_within ys ≡ false → utf8_pieces (xs ++ ys) ≡ utf8_pieces xs ++ utf8_pieces ys

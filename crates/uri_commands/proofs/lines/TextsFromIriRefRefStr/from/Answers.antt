@@ -1,0 +1,5 @@
+use Rattle.std.proofs.Common.{rules}
+use Rattle.uri_commands.proofs.lines.TextsFromIriRefRefStr.from.Goals as goal
+
+pub returns : goal.returns
+returns c = search rules

@@ -1,0 +1,97 @@
+//! The window through which a run of octets is read.
+ghost use Rattle.std.specs.Prelude.{◌≡◌, ◌-◌, ◌<◌, ◌≤◌, ◌==◌, [], ◌∷◌, ◌++◌, length, drop};
+ghost use Rattle.uri_pct.specs.Models.Unfinished.{called_for, unfinished_len};
+
+/// How many bytes a window holds at most.
+const WIDTH: usize = 32;
+
+/// The bytes of a run of octets that nothing has taken yet.
+#[derive(Drop)]
+pub(crate) struct Window {
+    bytes: [u8; WIDTH],
+    len: usize,
+    ghost fits: { len ≤ 32 },
+}
+
+impl Window {
+    ghost use Rattle.uri_pct.specs.Models.Windows.{held};
+
+    /// A window that holds nothing.
+    pub(crate) fn new() -> Window
+        ensures { held result ≡ [] }
+    {
+        Window {
+            bytes: [0; WIDTH],
+            len: 0,
+        }
+    }
+
+    /// The bytes that it holds.
+    pub(crate) fn as_slice(&self) -> &[u8]
+        ensures { result.now ≡ held self.now }
+    {
+        &self.bytes[..self.len]
+    }
+
+    /// Whether it holds as many bytes as it may.
+    pub(crate) fn is_full(&self) -> bool
+        ensures { result ≡ (length (held self.now) == 32) }
+    {
+        self.len == WIDTH
+    }
+
+    /// Puts a byte behind those that it holds.
+    pub(crate) fn push(&mut self, byte: u8)
+        requires { length (held self.old) < 32 }
+        ensures { held self.new ≡ held self.old ++ byte ∷ [] }
+    {
+        self.bytes[self.len] = byte;
+        self.len += 1;
+    }
+
+    /// Keeps so many bytes, the last ones.
+    pub(crate) fn keep_last(&mut self, kept: usize)
+        requires { kept ≤ length (held self.old) }
+        ensures { held self.new ≡ drop (length (held self.old) - kept) (held self.old) }
+    {
+        self.bytes.copy_within(self.len - kept..self.len, 0);
+        self.len = kept;
+    }
+
+    /// Holds nothing from now on.
+    pub(crate) fn clear(&mut self)
+        ensures { held self.new ≡ [] }
+    {
+        self.len = 0;
+    }
+}
+
+/// How many bytes follow the first one of a character; none follow what begins no character.
+fn called_for(first: u8) -> usize
+    ensures { result ≡ called_for first }
+{
+    match first {
+        0xC2..=0xDF => 1,
+        0xE0..=0xEF => 2,
+        0xF0..=0xF4 => 3,
+        _ => 0,
+    }
+}
+
+/// How many bytes at the end begin a character that calls for more of them.
+pub(crate) fn unfinished_len(bytes: &[u8]) -> usize
+    requires { 3 ≤ length bytes.now }
+    ensures value { result ≡ unfinished_len bytes.now }
+    ensures few { result ≤ 3 }
+{
+    let len = bytes.len();
+    if called_for(bytes[len - 3]) > 2 {
+        3
+    } else if called_for(bytes[len - 2]) > 1 {
+        2
+    } else if called_for(bytes[len - 1]) > 0 {
+        1
+    } else {
+        0
+    }
+}
