@@ -3,11 +3,13 @@ pub mod DotRows
 pub mod PathCharacters
 pub mod Segments
 pub mod SlashedSegments
-pub mod LastSlashes
-pub mod KeptSegments
 pub mod DotLaws
 pub mod DotRuns
 pub mod DotStarts
+pub mod TakenSegments
+pub mod LastSlashes
+pub mod LeftPaths
+pub mod PushedPaths
 pub mod DotBytes
 pub mod SegmentMaps
 pub mod ReadPaths

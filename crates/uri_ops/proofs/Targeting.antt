@@ -7,3 +7,5 @@ pub mod Swaps
 pub mod TargetTexts
 pub mod ResolvedTexts
 pub mod NormalTargets
+pub mod JoinedPieces
+pub mod PlacedTexts

@@ -1,29 +1,15 @@
 -- Resolving as a program answers it: RFC 3986, section 5.2.
-use Rattle.std.specs.Prelude.{◌≡◌, ◌||◌, ℕ, Bool, true, false, not, List, Ok, Err, is_ok, is_some}
-use Rattle.std.specs.Prelude.{option_map}
-use Rattle.uri_parts.specs.Components.{Components, starts}
-use Rattle.uri_ops.specs.declared.target_text.Components as Held
+use Rattle.std.specs.Prelude.{◌≡◌, ℕ, Bool, true, false, List, Ok, Err, is_ok}
+use Rattle.uri_parts.specs.Components.{Components, components}
+use Rattle.uri_ops.specs.declared.placed.Placed.{Placed}
 use Rattle.uri_ops.specs.declared.resolve.ResolveError.{ResolveError}
 use Rattle.uri_ops.specs.declared.resolve.ResolveError.TheVariants as Of
-use Rattle.uri_ops.specs.Dots.{is_empty}
 use Rattle.uri_ops.specs.Target.{BaseWithFragment, InvalidReferenceAgainstOpaqueBase, cleaned_path}
 use Rattle.uri_ops.specs.Target.{guarded, target_underflows, resolution_of}
-use Rattle.uri_pct.specs.Delimiters.{slash}
 
--- the components that a program holds
-abbrev pub components_of : Held.Components → Components
-components_of p = record {
-  scheme = option_map (λ s. s.now) p.scheme;
-  authority = option_map (λ s. s.now) p.authority;
-  path = p.path.now;
-  query = option_map (λ s. s.now) p.query;
-  fragment = option_map (λ s. s.now) p.fragment;
-}
-
--- section 5.2.2: the reference's path is put behind the base's directory
-abbrev pub is_merged : Components → Bool
-is_merged r =
-    not (is_some r.scheme || (is_some r.authority || (is_empty r.path || starts slash r.path)))
+-- the components of a text that a program holds with their places
+abbrev pub components_of : Placed → Components
+components_of p = components p.text.now
 
 -- the target's components, of those before dot segments are removed
 abbrev pub finished : Components → Components

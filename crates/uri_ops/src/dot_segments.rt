@@ -1,12 +1,15 @@
 //! The removal of dot segments (RFC 3986, section 5.2.4).
-ghost use Rattle.std.specs.Prelude.{◌≡◌, ◌≤◌, ◌==◌, ◌||◌, ◌++◌, ◌+◌, IfOk, false, true, OnOk};
+ghost use Rattle.std.specs.Prelude.{◌≡◌, ◌≤◌, ◌<◌, ◌==◌, ◌||◌, ◌++◌, ◌+◌, IfOk, false, true, OnOk};
 ghost use Rattle.std.specs.Prelude.{length, drop, take, string_bytes};
-ghost use Rattle.std.specs.String.Boundary.{IsSplitPoint};
+ghost use Rattle.std.specs.Str.{IsCharBoundary};
 ghost use Rattle.uri_parts.specs.Appending.{Pushes};
+ghost use Rattle.uri_parts.specs.Components.{IsRooted};
+ghost use Rattle.uri_ops.specs.Models.Directories.{IsClosed, IsPlainDirectory, parent_directory};
 ghost use Rattle.uri_ops.specs.Models.Places.{IsSlashOrAt};
-ghost use Rattle.uri_ops.specs.Dots.{IsAbsolute, before_last_slash, has_slash, is_double_dot};
-ghost use Rattle.uri_ops.specs.Dots.{is_empty, is_single_dot, lacks_dot_segments};
+ghost use Rattle.uri_ops.specs.Dots.{EndsInSlash, IsAbsolute, before_last_slash, directory, has_slash};
+ghost use Rattle.uri_ops.specs.Dots.{is_double_dot, is_empty, is_single_dot, lacks_dot_segments};
 ghost use Rattle.uri_ops.specs.Dots.{remove_dot_segments, underflows};
+ghost use Rattle.uri_ops.specs.Target.{merged};
 
 use std::alloc::AllocError;
 
@@ -45,19 +48,19 @@ pub(crate) fn last_slash(bytes: &[u8], start: usize) -> usize
     start
 }
 
-/// Cuts off the last segment of what stands in `out` from `start` on, with the `/` before it, and
-/// answers whether nothing stood there.
+/// Cuts off the last segment of the directory that stands in `out` from `start` on, with the `/`
+/// behind it, and answers whether there is none.
 fn pop_segment(start: usize, out: &mut String) -> bool
-    requires { IsSplitPoint (string_bytes out.old) start }
+    requires { IsPlainDirectory (drop start (string_bytes out.old)) }
     ensures bytes { string_bytes out.new
         ≡ take start (string_bytes out.old)
-        ++ before_last_slash (drop start (string_bytes out.old)) }
-    ensures empty { result ≡ is_empty (drop start (string_bytes out.old)) }
+        ++ parent_directory (drop start (string_bytes out.old)) }
+    ensures none { result ≡ is_empty (before_last_slash (drop start (string_bytes out.old))) }
 {
-    let is_empty = out.len() == start;
-    let end = last_slash(out.as_bytes(), start);
-    out.truncate(end);
-    is_empty
+    let end = out.len() - 1;
+    let slash = last_slash(&out.as_bytes()[..end], start);
+    out.truncate(slash + 1);
+    end == start
 }
 
 /// Whether a dot segment begins with this byte.
@@ -67,22 +70,92 @@ fn is_dot_start(byte: u8) -> bool
     byte == b'.' || byte == b'%'
 }
 
-/// Whether a `.` or a `%` stands behind a `/`, as it does where there is a dot segment.
-pub(crate) fn may_have_dot_segments(path: &str) -> bool
-    requires { IsAbsolute path.now }
-    ensures { result ≡ false → lacks_dot_segments path.now ≡ true }
+/// How far a path reads before a segment that begins with a dot or an octet, as each dot segment
+/// does.
+fn plain_len(path: &str) -> usize
+    ensures plain { lacks_dot_segments (take result path.now) ≡ true }
+    ensures closed { 0 < result → IsClosed (take result path.now) (drop result path.now) }
+    ensures place { IsCharBoundary path.now result }
 {
     let bytes = path.as_bytes();
-    let mut is_behind_slash = false;
+    let mut is_behind_slash = true;
     let mut i = 0;
     while i < bytes.len() {
         if is_behind_slash & is_dot_start(bytes[i]) {
-            return true;
+            return i;
         }
         is_behind_slash = bytes[i] == b'/';
         i += 1;
     }
-    false
+    i
+}
+
+/// Whether a segment begins with a dot or an octet, as it does where there is a dot segment.
+pub(crate) fn may_have_dot_segments(path: &str) -> bool
+    ensures { result ≡ false → lacks_dot_segments path.now ≡ true }
+{
+    plain_len(path) < path.len()
+}
+
+/// Where the first segment ends: before its `/`, or at the end of the path.
+fn segment_end(path: &str) -> usize
+    ensures segment { has_slash (take result path.now) ≡ false }
+    ensures behind { IsRooted (drop result path.now) }
+    ensures place { IsCharBoundary path.now result }
+{
+    match path.split_once('/') {
+        Some((segment, _)) => segment.len(),
+        None => path.len(),
+    }
+}
+
+/// Where the second segment begins, or the end of the path: behind the `/` that may stand at `end`.
+fn next_segment(path: &str, end: usize) -> usize
+    requires behind { IsRooted (drop end path.now) }
+    requires place { IsCharBoundary path.now end }
+    ensures rest { drop result path.now ≡ drop 1 (drop end path.now) }
+    ensures front { take result path.now ≡ take end path.now ++ take 1 (drop end path.now) }
+    ensures closed { IsClosed (take result path.now) (drop result path.now) }
+    ensures place { IsCharBoundary path.now result }
+{
+    if end < path.len() { end + 1 } else { end }
+}
+
+/// Appends the segments of a path to the directory that stands in `out` from `start` on, without
+/// dot segments, and answers whether a double dot had nothing left to remove.
+///
+/// Segments that can't be dot segments are copied as they stand, with the `/` between them.
+fn push_segments(path: &str, start: usize, out: &mut String) -> Result<bool, AllocError>
+    requires { IsPlainDirectory (drop start (string_bytes out.old)) }
+    ensures before { IfOk result (λ _.
+        take start (string_bytes out.new) ≡ take start (string_bytes out.old)) }
+    ensures text { IfOk result (λ _. drop start (string_bytes out.new)
+        ≡ remove_dot_segments (drop start (string_bytes out.old) ++ path.now)) }
+    ensures underflow { IfOk result (λ underflowed. underflowed
+        ≡ underflows (drop start (string_bytes out.old) ++ path.now)) }
+{
+    let mut underflowed = false;
+    let mut rest = path;
+    while !rest.is_empty() {
+        let plain = plain_len(rest);
+        if plain > 0 {
+            out.push_str(&rest[..plain])?;
+            rest = &rest[plain..];
+        } else {
+            let end = segment_end(rest);
+            let next = next_segment(rest, end);
+            if is_single_dot(&rest[..end]) {
+                rest = &rest[next..];
+            } else if is_double_dot(&rest[..end]) {
+                underflowed |= pop_segment(start, out);
+                rest = &rest[next..];
+            } else {
+                out.push_str(&rest[..next])?;
+                rest = &rest[next..];
+            }
+        }
+    }
+    Ok(underflowed)
 }
 
 /// Appends a path that begins with `/`, without its dot segments, and answers whether a double dot
@@ -97,37 +170,51 @@ pub fn push_without_dot_segments(path: &str, out: &mut String) -> Result<bool, A
     ensures text { OnOk result (Pushes out.old out.new (remove_dot_segments path.now)) }
     ensures underflow { IfOk result (λ underflowed. underflowed ≡ underflows path.now) }
 {
-    if may_have_dot_segments(path) {
-        return push_kept_segments(path, out);
-    }
-    out.push_str(path)?;
-    Ok(false)
+    let start = out.len();
+    out.push('/')?;
+    let underflowed = push_segments(&path[1..], start, out)?;
+    Ok(underflowed)
 }
 
-/// Appends a path segment by segment, without its dot segments, and answers whether a double dot
-/// had nothing left to remove.
-pub(crate) fn push_kept_segments(path: &str, out: &mut String) -> Result<bool, AllocError>
+/// Where the directory of a base's path ends (RFC 3986, section 5.2.3): behind its last `/`, or at
+/// its end where it ends in a double dot, which stands for a directory.
+fn directory_end(path: &str) -> usize
     requires { IsAbsolute path.now }
-    ensures text { OnOk result (Pushes out.old out.new (remove_dot_segments path.now)) }
-    ensures underflow { IfOk result (λ underflowed. underflowed ≡ underflows path.now) }
+    ensures text { remove_dot_segments (take result path.now)
+        ≡ remove_dot_segments (directory path.now) }
+    ensures underflow { underflows (take result path.now) ≡ underflows (directory path.now) }
+    ensures absolute { 0 < result }
+    ensures place { IsCharBoundary path.now result }
+{
+    let slash = last_slash(path.as_bytes(), 0);
+    if is_double_dot(&path[slash + 1..]) {
+        return path.len();
+    }
+    slash + 1
+}
+
+/// The path, or `/` for an empty one, which has the same directory.
+fn root_or(path: &str) -> &str
+    requires { IsRooted path.now }
+    ensures absolute { IsAbsolute result.now }
+    ensures directory { directory result.now ≡ directory path.now }
+{
+    if path.is_empty() { "/" } else { path }
+}
+
+/// Appends a reference's path behind the directory of a base's path (RFC 3986, section 5.2.3),
+/// without dot segments, and answers whether a double dot had nothing left to remove. The two are
+/// read one after the other, and never joined.
+pub(crate) fn push_merged(base: &str, reference: &str, out: &mut String) -> Result<bool, AllocError>
+    requires { IsRooted base.now }
+    ensures text { OnOk result (Pushes out.old out.new
+        (remove_dot_segments (merged base.now reference.now))) }
+    ensures underflow { IfOk result (λ underflowed. underflowed
+        ≡ underflows (merged base.now reference.now)) }
 {
     let start = out.len();
-    let mut underflowed = false;
-    let mut ends_in_dots = false;
-    for segment in path[1..].split('/') {
-        if is_single_dot(segment) {
-            ends_in_dots = true;
-        } else if is_double_dot(segment) {
-            underflowed |= pop_segment(start, out);
-            ends_in_dots = true;
-        } else {
-            out.push('/')?;
-            out.push_str(segment)?;
-            ends_in_dots = false;
-        }
-    }
-    if ends_in_dots {
-        out.push('/')?;
-    }
-    Ok(underflowed)
+    let base = root_or(base);
+    let of_base = push_without_dot_segments(&base[..directory_end(base)], out)?;
+    let of_reference = push_segments(reference, start, out)?;
+    Ok(of_base | of_reference)
 }

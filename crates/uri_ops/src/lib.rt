@@ -22,6 +22,8 @@ pub mod normal_authority;
 pub mod normal_text;
 pub mod normalize;
 #[doc(hidden)]
+pub mod placed;
+#[doc(hidden)]
 pub mod reading;
 pub mod resolve;
 #[doc(hidden)]

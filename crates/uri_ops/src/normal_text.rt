@@ -21,7 +21,7 @@ ghost use Rattle.uri_ops.specs.Target.{guarded};
 ghost use Rattle.uri_ops.specs.Models.Written.{parts_at, written_at};
 
 use crate::default_port::DefaultPort;
-use crate::dot_segments::{may_have_dot_segments, push_kept_segments};
+use crate::dot_segments::{may_have_dot_segments, push_without_dot_segments};
 use crate::normal_authority::push_authority;
 use crate::reading::{push_component, push_lower, push_read};
 use crate::slashes::begins_with_two_slashes;
@@ -151,7 +151,7 @@ fn push_cleaned<E: Encoder>(
 {
     let mut plain = String::new(alloc);
     plain.reserve(path.len())?;
-    let underflowed = push_kept_segments(path.as_str(), &mut plain)?;
+    let underflowed = push_without_dot_segments(path.as_str(), &mut plain)?;
     push_guarded::<E>(alloc, has_authority, plain.as_str(), out)?;
     Ok(underflowed)
 }

@@ -2,6 +2,7 @@
 ghost use Rattle.std.specs.Prelude.{◌≡◌, IfOk, IfErr, true};
 ghost use Rattle.std.specs.Prelude.{string_bytes, Ok};
 ghost use Rattle.uri_parts.specs.Components.{components};
+ghost use Rattle.uri_parts.specs.Positions.{AreAt};
 ghost use Rattle.uri_ops.specs.Normalizers.{ports_of};
 ghost use Rattle.uri_ops.specs.EncodedTargets.{IsErrorForEncoded, IsTargetOfEncoded};
 ghost use Rattle.uri_ops.specs.NormalTargets.{IsErrorOfMeanings, IsTargetOfMeanings};
@@ -13,8 +14,9 @@ ghost use Rattle.uri_ops.specs.Texts.{IsTextOf};
 
 use crate::default_port::DefaultPort;
 use crate::normalize::{Normalizer, normal_form};
-use crate::target_text::{components_in, target_text};
-use crate::traits::{RefOf, Ri, RiMaybeRef, owned};
+use crate::placed::Placed;
+use crate::target_text::{Target, target_text};
+use crate::traits::{RefOf, Ri, RiMaybeRef};
 use std::alloc::{AllocError, Global};
 use thiserror::Error;
 use uri_parts::core_text::Core;
@@ -64,36 +66,38 @@ pub struct Resolver<R> {
     allow_path_underflow: bool,
 }
 
-/// The text of the target of a reference against a base (RFC 3986, section 5.2).
+/// The text of the target of a reference against a base (RFC 3986, section 5.2), and where its
+/// components lie.
 fn resolved_text<B: Ri, Q: RefOf<B>>(
     alloc: Global,
     base: &B,
     reference: &Q,
     allow_path_underflow: bool,
-) -> Result<String, ResolveError>
+) -> Result<Target, ResolveError>
     ensures base { IsTextOf B.kind (B.text base.now) }
     ensures reference { IsTextOf Q.kind (Q.text reference.now) }
-    ensures of_kind { IfOk result (λ text. IsTextOf B.kind (string_bytes text)) }
-    ensures target { IfOk result (λ text.
+    ensures of_kind { IfOk result (λ target. IsTextOf B.kind (string_bytes target.text)) }
+    ensures at { IfOk result (λ target. AreAt (string_bytes target.text) target.positions) }
+    ensures target { IfOk result (λ target.
         IsTarget allow_path_underflow (components (B.text base.now))
-        (components (Q.text reference.now)) (string_bytes text)) }
+        (components (Q.text reference.now)) (string_bytes target.text)) }
     ensures error { IfErr result
         (IsErrorFor allow_path_underflow (components (B.text base.now))
         (components (Q.text reference.now))) }
-    ensures encoded { IfOk result (λ text.
+    ensures encoded { IfOk result (λ target.
         IsTargetOfEncoded allow_path_underflow (B.text base.now) (Q.text reference.now)
-        (string_bytes text)) }
+        (string_bytes target.text)) }
     ensures encoded_error { IfErr result
         (IsErrorForEncoded allow_path_underflow (B.text base.now) (Q.text reference.now)) }
-    ensures alike { IfOk result (λ text. IsTargetOfMeanings B.kind Q.kind
-        (B.text base.now) (Q.text reference.now) (string_bytes text)) }
+    ensures alike { IfOk result (λ target. IsTargetOfMeanings B.kind Q.kind
+        (B.text base.now) (Q.text reference.now) (string_bytes target.text)) }
     ensures alike_error { IfErr result
         (IsErrorOfMeanings B.kind Q.kind (B.text base.now) (Q.text reference.now)) }
 {
     target_text(
         alloc,
-        components_in(base),
-        components_in(reference),
+        &Placed::of(base),
+        &Placed::of(reference),
         allow_path_underflow,
     )
 }
@@ -123,8 +127,8 @@ pub fn resolved<B: Ri, Q: RefOf<B>>(
     ensures alike_error { IfErr result
         (IsErrorOfMeanings B.kind Q.kind (B.text base.now) (Q.text reference.now)) }
 {
-    let text = resolved_text(alloc, base, reference, allow_path_underflow)?;
-    Ok(owned::<B>(text))
+    let target = resolved_text(alloc, base, reference, allow_path_underflow)?;
+    Ok(B::make_owned(target.text, target.positions))
 }
 
 /// The target of a reference against a base, where dot segments may underflow (RFC 3986, section
@@ -265,7 +269,7 @@ impl<R: Ri> Resolver<R> {
             (R.text (base_of self.now)) (Q.text reference.now)) }
     {
         let target = resolved_text(alloc, &self.base, reference, true)?;
-        let core = Core::<R::Kind, &str>::of_text(target.as_str());
+        let core = Core::<R::Kind, &str>::new(target.text.as_str(), target.positions);
         let made = normal_form(alloc, core, &normalizer.ports)?;
         Ok(R::make_owned(made.text, made.positions))
     }

@@ -51,7 +51,26 @@ pub from_zero : (part : Option (List ℕ)) → option_map (λ s. 0 + length s) p
 from_zero None = refl
 from_zero (Some s) = ap Some (omega arith)
 
--- components that are written one after the other
+-- what stands before a path, and how long it is
+abbrev pub front_text : Components → List ℕ
+front_text p = marked [] p.scheme (codes ":") ++ marked (codes "//") p.authority []
+
+pub length-front : (p : Components) → length (front_text p) ≡ (positions_of p).path_start
+length-front p = omega (arith, length-append (marked [] p.scheme (codes ":")) (marked (codes "//") p.authority []), length-behind p.scheme 58, length-before (codes "//") p.authority)
+
+-- where a path, and the query behind it, are written
+record EndsAt (p : Components) (start stop : ℕ) (query : Option ℕ) : Type 0 where
+  pub starts : start ≡ (positions_of p).path_start
+  pub stops : stop ≡ (positions_of p).path_end
+  pub queries : query ≡ (positions_of p).query_end
+
+ends_at : (p : Components) (o2 o3 : List ℕ) (start stop : ℕ) (query : Option ℕ) → length o2 ≡ (positions_of p).path_start → o3 ≡ o2 ++ p.path → start ≡ length o2 → stop ≡ length o3
+    → query ≡ option_map (λ s. length o3 + 1 + length s) p.query → EndsAt p start stop query
+ends_at p o2 o3 start stop query n2 e3 starts stops queries =
+    let m3 : length o3 ≡ (positions_of p).path_end = omega (arith, n2, ap length e3, length-append o2 p.path) in
+    record { starts = starts ∙ n2; stops = stops ∙ m3; queries = queries ∙ ap (λ n. option_map (λ s. n + 1 + length s) p.query) m3 }
+
+-- components that are written one after the other, whose authority has these parts
 pub written_placed : (p : Components) (parts : Option AuthorityParts) (o0 o1 o2 o3 : List ℕ) (start stop : ℕ) (end query : Option ℕ) (authority : Option AuthorityPositions) → o0 ≡ []
     → o1 ≡ o0 ++ marked [] p.scheme (codes ":") → o2 ≡ o1 ++ marked (codes "//") p.authority [] → o3 ≡ o2 ++ p.path → start ≡ length o2 → stop ≡ length o3
     → end ≡ option_map (λ s. length o0 + length s) p.scheme → authority ≡ option_map (parts_at (length o1 + 2)) parts → query ≡ option_map (λ s. length o3 + 1 + length s) p.query
@@ -59,14 +78,20 @@ pub written_placed : (p : Components) (parts : Option AuthorityParts) (o0 o1 o2 
 written_placed p parts o0 o1 o2 o3 start stop end query authority e0 e1 e2 e3 starts stops ends lies queries =
     let n0 : length o0 ≡ 0 = ap length e0 in
     let n1 : length o1 ≡ marked_length 1 p.scheme = omega (arith, n0, ap length e1, length-append o0 (marked [] p.scheme (codes ":")), length-behind p.scheme 58) in
-    let n2 : start ≡ marked_length 1 p.scheme + marked_length 2 p.authority =
-    omega (arith, starts, n1, ap length e2, length-append o1 (marked (codes "//") p.authority []), length-before (codes "//") p.authority) in
-    let m3 : length o3 ≡ marked_length 1 p.scheme + marked_length 2 p.authority + length p.path = omega (arith, starts, n2, ap length e3, length-append o2 p.path) in
-    let n3 = stops ∙ m3 in
+    let n2 : length o2 ≡ (positions_of p).path_start = omega (arith, n1, ap length e2, length-append o1 (marked (codes "//") p.authority []), length-before (codes "//") p.authority) in
+    let w = ends_at p o2 o3 start stop query n2 e3 starts stops queries in
     let f = ends ∙ ap (λ n. option_map (λ s. n + length s) p.scheme) n0 ∙ from_zero p.scheme in
     let g = lies ∙ ap (λ n. option_map (parts_at (n + 2)) parts) n1 in
-    let h = queries ∙ ap (λ n. option_map (λ s. n + 1 + length s) p.query) m3 in
-    λ i. record { scheme_end = f i; authority = g i; path_start = n2 i; path_end = n3 i; query_end = h i }
+    λ i. record { scheme_end = f i; authority = g i; path_start = w.starts i; path_end = w.stops i; query_end = w.queries i }
+
+-- and whose scheme and authority are written where they lie
+pub pieces_placed : (p : Components) (o0 o2 o3 : List ℕ) (start stop : ℕ) (end query : Option ℕ) (authority : Option AuthorityPositions) → o0 ≡ []
+    → o2 ≡ o0 ++ front_text p → o3 ≡ o2 ++ p.path → start ≡ length o2 → stop ≡ length o3
+    → end ≡ (positions_of p).scheme_end → authority ≡ (positions_of p).authority → query ≡ option_map (λ s. length o3 + 1 + length s) p.query
+    → (let x : Positions = record { scheme_end = end; authority = authority; path_start = start; path_end = stop; query_end = query } in x) ≡ positions_of p
+pieces_placed p o0 o2 o3 start stop end query authority e0 e2 e3 starts stops ends lies queries =
+    let w = ends_at p o2 o3 start stop query (ap length (e2 ∙ ap (λ o. o ++ front_text p) e0) ∙ length-front p) e3 starts stops queries in
+    λ i. record { scheme_end = ends i; authority = lies i; path_start = w.starts i; path_end = w.stops i; query_end = w.queries i }
 
 of_parts : {A B C D : Type 0} (f : C → D) (h : B → C) (k : A → B) (o : Option A) → option_map (λ a. f (h (k a))) o ≡ option_map f (option_map h (option_map k o))
 of_parts f h k None = refl

@@ -34,15 +34,15 @@ pub by_closed : (P : List ℕ → Type 0) → ((segs : List (List ℕ)) → NoSl
 by_closed P each path h e = subst P (sym e.1) (closed_front P each e.0 (subst IsAbsolute e.1 h))
 
 -- what follows a path that ends in `/` begins a new segment
-behind : (segs : List (List ℕ)) (q : List ℕ) → slashed (segs ++ [] ∷ []) ++ q ≡ slashed (segs ++ segments q)
+pub behind : (segs : List (List ℕ)) (q : List ℕ) → slashed (segs ++ [] ∷ []) ++ q ≡ slashed (segs ++ segments q)
 behind segs q =
     ap (λ t. t ++ q) (slashed_push segs []) ∙ append_assoc (slashed segs) (47 ∷ []) q
     ∙ ap (λ t. slashed segs ++ t) (sym (slashed_segments q)) ∙ sym (slashed_append segs (segments q))
 
-behind_lacks : (segs : List (List ℕ)) (q : List ℕ) → NoSlashes segs → NoSlashes (segs ++ segments q)
+pub behind_lacks : (segs : List (List ℕ)) (q : List ℕ) → NoSlashes segs → NoSlashes (segs ++ segments q)
 behind_lacks segs q e = append_passes lacks_slash segs (segments q) e (segments_lack q)
 
-closed_lacks : (segs : List (List ℕ)) → NoSlashes segs → NoSlashes (segs ++ [] ∷ [])
+pub closed_lacks : (segs : List (List ℕ)) → NoSlashes segs → NoSlashes (segs ++ [] ∷ [])
 closed_lacks segs e = append_passes lacks_slash segs ([] ∷ []) e refl
 
 steps_lack : (segs : List (List ℕ)) → NoSlashes segs → NoSlashes (steps [] segs)
@@ -52,7 +52,7 @@ cleaned_lack : (segs : List (List ℕ)) → NoSlashes segs → NoSlashes (cleane
 cleaned_lack segs e = cleaned_passes lacks_slash lacks_slash (λ s f d. f) refl segs e
 
 -- a path without dot segments is left as it is
-plain_segments : (segs : List (List ℕ)) → NoSlashes segs → lacks_dot_segments (slashed segs) ≡ true → Passes is_plain segs
+pub plain_segments : (segs : List (List ℕ)) → NoSlashes segs → lacks_dot_segments (slashed segs) ≡ true → Passes is_plain segs
 plain_segments segs e f = (and_parts true (list_all is_plain segs) (sym (ap (list_all is_plain) (segments_slashed segs e)) ∙ f)).1
 
 pub removed_of_plain : (path : List ℕ) → IsAbsolute path → lacks_dot_segments path ≡ true → remove_dot_segments path ≡ path
@@ -64,7 +64,7 @@ underflows_of_plain = by_segments (λ path. lacks_dot_segments path ≡ true →
     (λ s rest e f. underflows_slashed (s ∷ rest) e ∙ sinks_plain false [] (s ∷ rest) (plain_segments (s ∷ rest) e f))
 
 -- what is left has no dot segment and begins with `/`
-absolute_slashed : (segs : List (List ℕ)) → is_none segs ≡ false → IsAbsolute (slashed segs)
+pub absolute_slashed : (segs : List (List ℕ)) → is_none segs ≡ false → IsAbsolute (slashed segs)
 unfolding is_none slashed
 absolute_slashed [] e = absurd (false≢true (sym e))
 absolute_slashed (s ∷ rest) e = search rules

@@ -1,14 +1,12 @@
--- A path in which neither `.` nor `%` stands behind a `/` has no dot segment.
-use Rattle.std.proofs.Common.{◌≡◌, ℕ, suc, ◌+◌, ◌<◌, ◌≤◌, Bool, true, false, not, List, [], ◌∷◌, ◌++◌, length, drop, drop-cons, get_or, refl, ap, ◌∙◌, ◌&&◌, ◌||◌, arith}
+-- A path in which neither `.` nor `%` stands first or behind a `/` has no dot segment.
+use Rattle.std.proofs.Common.{◌≡◌, ℕ, suc, ◌+◌, ◌<◌, Bool, true, false, not, List, [], ◌∷◌, ◌++◌, length, take, get_or, refl, sym, ap, ◌∙◌, ◌&&◌, ◌||◌, arith}
 use Rattle.std.specs.Prelude.{◌==◌}
-use Rattle.std.specs.List.{list_all}
-use Rattle.std.proofs.lemmas.List.{drop_all}
-use Rattle.std.proofs.lemmas.Bool.{and_from, or_parts}
+use Rattle.std.proofs.Math.Seq.{take-suc}
+use Rattle.std.proofs.lemmas.Bool.{and_from, eqb-true, or_from, or_parts}
 use Rattle.std.proofs.lemmas.Bool.Decides.{nat_tests}
-use Rattle.uri_ops.specs.Dots.{IsAbsolute, is_dot_segment, lacks_dot_segments}
-use Rattle.uri_ops.proofs.Paths.DotLaws.{by_segments}
+use Rattle.uri_ops.specs.Dots.{EndsInSlash, is_dot_segment, lacks_dot_segments, segments}
 use Rattle.uri_ops.proofs.Paths.Segments.{Passes, is_plain}
-use Rattle.uri_ops.proofs.Paths.SlashedSegments.{slashed, segments_slashed}
+use Rattle.uri_ops.proofs.Paths.SlashedSegments.{slashed, slashed_segments}
 
 -- what each dot segment begins with
 abbrev pub is_dot_start : ℕ → Bool
@@ -44,19 +42,52 @@ plain_all b (s ∷ rest) e =
     let more = behind true s (slashed rest) first in
     and_from _ _ (plain_first s (slashed rest) first) (plain_all more.behind rest more.none)
 
-pub lacks_from : (path : List ℕ) → IsAbsolute path → dots_begin false path ≡ false → lacks_dot_segments path ≡ true
-lacks_from = by_segments (λ path. dots_begin false path ≡ false → lacks_dot_segments path ≡ true)
-    (λ s rest e f. ap (list_all is_plain) (segments_slashed (s ∷ rest) e) ∙ and_from true _ refl (plain_all false (s ∷ rest) f))
+pub lacks_from : (text : List ℕ) → dots_begin true text ≡ false → lacks_dot_segments text ≡ true
+unfolding dots_begin
+lacks_from text e = plain_all false (segments text) (ap (dots_begin false) (slashed_segments text) ∙ e)
+
+-- a `/` stands last, or before the text where that is empty
+unfoldable pub ends_behind : Bool → List ℕ → Bool
+ends_behind behind [] = behind
+ends_behind behind (c ∷ rest) = ends_behind (c == 47) rest
+
+-- one more byte
+begin_more : (b : Bool) (t : List ℕ) (c : ℕ) → dots_begin b t ≡ false → (ends_behind b t && is_dot_start c) ≡ false → dots_begin b (t ++ c ∷ []) ≡ false
+unfolding dots_begin ends_behind
+begin_more b [] c e f = or_from (b && is_dot_start c) false f refl
+begin_more b (d ∷ t) c e f =
+    let g = or_parts (b && is_dot_start d) (dots_begin (d == 47) t) e in
+    or_from _ _ g.0 (begin_more (d == 47) t c g.1 f)
+
+ends_more : (b : Bool) (t : List ℕ) (c : ℕ) → ends_behind b (t ++ c ∷ []) ≡ (c == 47)
+unfolding ends_behind
+ends_more b [] c = refl
+ends_more b (d ∷ t) c = ends_more (d == 47) t c
+
+pub one_more : (bytes : List ℕ) (i : ℕ) → i < length bytes → take (i + 1) bytes ≡ take i bytes ++ get_or bytes i 0 ∷ []
+one_more bytes i within = let next : i + 1 ≡ suc i = omega arith in ap (λ n. take n bytes) next ∙ take-suc bytes i 0 within
 
 -- as a text is read byte by byte
-pub next_byte : (behind : Bool) (bytes : List ℕ) (i : ℕ) → i < length bytes → (behind && is_dot_start (get_or bytes i 0)) ≡ false
-    → dots_begin behind (drop i bytes) ≡ dots_begin (get_or bytes i 0 == 47) (drop (i + 1) bytes)
-unfolding dots_begin
-next_byte behind bytes i within e =
-    let next : suc i ≡ i + 1 = omega arith in
-    ap (dots_begin behind) (drop-cons bytes i 0 within) ∙ ap (λ t. t || dots_begin (get_or bytes i 0 == 47) (drop (suc i) bytes)) e
-    ∙ ap (λ n. dots_begin (get_or bytes i 0 == 47) (drop n bytes)) next
+module _ (bytes : List ℕ) (i : ℕ) (within : i < length bytes) where
+  pub next_plain : dots_begin true (take i bytes) ≡ false → (ends_behind true (take i bytes) && is_dot_start (get_or bytes i 0)) ≡ false → dots_begin true (take (i + 1) bytes) ≡ false
+  next_plain e f = ap (dots_begin true) (one_more bytes i within) ∙ begin_more true (take i bytes) (get_or bytes i 0) e f
 
-pub at_end : (behind : Bool) (bytes : List ℕ) (i : ℕ) → length bytes ≤ i → dots_begin behind (drop i bytes) ≡ false
+  pub next_ends : (get_or bytes i 0 == 47) ≡ ends_behind true (take (i + 1) bytes)
+  next_ends = sym (ap (ends_behind true) (one_more bytes i within) ∙ ends_more true (take i bytes) (get_or bytes i 0))
+
+pub none_taken : dots_begin true [] ≡ false
 unfolding dots_begin
-at_end behind bytes i e = ap (dots_begin behind) (drop_all i bytes e)
+none_taken = refl
+
+pub first_ends : true ≡ ends_behind true []
+unfolding ends_behind
+first_ends = refl
+
+pub closed_from : (b : Bool) (text : List ℕ) → 0 < length text → ends_behind b text ≡ true → EndsInSlash text
+unfolding ends_behind
+closed_from b [] some e = absurd (omega (arith, some))
+closed_from b (c ∷ []) some e = ([], ap (λ d. d ∷ []) (eqb-true c 47 e))
+closed_from b (c ∷ d ∷ text) some e = let r = closed_from (c == 47) (d ∷ text) (omega arith) e in (c ∷ r.0, ap (λ t. c ∷ t) r.1)
+
+pub start_ascii : (c : ℕ) → is_dot_start c ≡ true → c < 128
+start_ascii c e = grind (arith, nat_tests)

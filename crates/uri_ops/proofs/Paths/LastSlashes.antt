@@ -1,14 +1,19 @@
 -- The cut at the last `/` of what stands in a text from a place on.
-use Rattle.std.proofs.Common.{◌≡◌, ℕ, suc, ◌+◌, ◌-◌, ◌<◌, ◌≤◌, true, false, eqb, List, [], ◌∷◌, ◌++◌, length, take, drop, get_or, refl, sym, ap, ◌∙◌, arith, drop-cons, cond, inl, inr, rules, tests}
+use Rattle.std.proofs.Common.{◌≡◌, ℕ, suc, ◌+◌, ◌-◌, ◌<◌, ◌≤◌, true, false, eqb, List, [], ◌∷◌, ◌++◌, length, take, drop, get_or, refl, sym, ap, subst, ◌∙◌, arith, append_assoc, ◌||◌, add-zero, drop-cons, cond, inl, inr, ⊎_elim, rules, tests}
+use Rattle.std.specs.List.{before_first, position_or_len}
 use Rattle.std.proofs.Math.Seq.{take-add}
-use Rattle.std.proofs.lemmas.List.{append-nil, take-append-drop, drop-drop}
-use Rattle.std.proofs.lemmas.Bool.{cond-false, cond-true, or_parts, eqb-true, false≢true}
+use Rattle.std.proofs.lemmas.List.{append-nil, take-append-drop, drop-drop, take_at, drop_at, take-append-le, length-append, length-drop, length-take, length-take-le, get_or-drop, get_or-take}
+use Rattle.std.proofs.lemmas.Bool.{cases_Bool, cond-false, cond-true, or_parts, eqb-true, ne_eqb, false≢true}
+use Rattle.std.proofs.lemmas.Bool.Decides.{nat_tests}
 use Rattle.std.proofs.lemmas.Str.{IsCharBoundary-after_ascii}
 use Rattle.std.specs.Prelude.{codes, ◌==◌}
 use Rattle.std.specs.Str.{IsUtf8, IsCharBoundary}
 use Rattle.uri_parts.specs.Components.{IsRooted}
-use Rattle.uri_ops.specs.Dots.{is_empty, has_slash, is_double_dot, before_last_slash, last_segment, directory, IsAbsolute}
+use Rattle.uri_ops.specs.Dots.{is_empty, has_slash, is_double_dot, before_last_slash, last_segment, remove_dot_segments, directory, IsAbsolute, EndsInSlash}
+use Rattle.uri_ops.specs.Models.Directories.{IsPlainDirectory, parent_directory}
 use Rattle.uri_ops.specs.Models.Places.{IsSlashOrAt}
+use Rattle.uri_ops.proofs.Paths.DotStarts.{one_more}
+use Rattle.uri_ops.proofs.Paths.TakenSegments.{closing_dots}
 use Rattle.uri_ops.proofs.Paths.SlashedSegments.{any_slash, before_append, last_append}
 use Rattle.uri_pct.proofs.Tests.{true_of}
 
@@ -90,3 +95,109 @@ pub rooted_none : (path : List ℕ) → (length path == 0) ≡ true → director
 unfolding directory
 rooted_none [] e = refl
 rooted_none (c ∷ path) e = absurd (false≢true (search (rules, tests)))
+
+-- the directory up to the last `/`, and a path that ends in a double dot, which is its own directory
+module _ (path : List ℕ) (slash : ℕ) (absolute : IsAbsolute path) (place : IsSlashOrAt path 0 slash) (last : has_slash (drop (slash + 1) path) ≡ false) where
+  pub up_to_slash : is_double_dot (drop (slash + 1) path) ≡ false → take (slash + 1) path ≡ directory path
+  up_to_slash e =
+      let at = at_slash path slash absolute place in
+      one_more path slash at.0 ∙ ap (λ c. take slash path ++ c ∷ []) at.1 ∙ sym (directory_plain path slash absolute place last e)
+
+  up_to_end : is_double_dot (drop (slash + 1) path) ≡ true → (take slash path ++ 47 ∷ drop (slash + 1) path) ++ 47 ∷ [] ≡ directory path
+  up_to_end e =
+      ap (λ t. t ++ 47 ∷ []) (sym (cut path slash absolute place)) ∙ sym (directory_dots path slash absolute place last e)
+
+  pub removed_dots : is_double_dot (drop (slash + 1) path) ≡ true → remove_dot_segments path ≡ remove_dot_segments (directory path)
+  removed_dots e =
+      ap remove_dot_segments (cut path slash absolute place)
+      ∙ closing_dots (take slash path) (drop (slash + 1) path) (subst IsAbsolute (cut path slash absolute place) absolute) last e
+      ∙ ap remove_dot_segments (up_to_end e)
+
+-- the last segment of a directory is cut off
+before_closed : (path : List ℕ) → (d : EndsInSlash path) → before_last_slash path ≡ d.0
+before_closed path d = ap before_last_slash d.1 ∙ before_slash d.0 [] refl
+
+length_closed : (path : List ℕ) → (d : EndsInSlash path) → length path ≡ length d.0 + 1
+length_closed path d = ap length d.1 ∙ length-append d.0 (codes "/")
+
+pub first_slash : (path : List ℕ) → IsAbsolute path → get_or path 0 0 ≡ 47
+first_slash [] h = absurd (false≢true (true_of _ h))
+first_slash (c ∷ path) h = eqb-true c 47 (true_of _ h)
+
+empty_length : (text : List ℕ) (n m : ℕ) → n ≡ m + length text → eqb n m ≡ is_empty text
+empty_length [] n m e = grind (arith, nat_tests)
+empty_length (c ∷ text) n m e = ne_eqb n m (λ f. omega (arith, e, f))
+
+module _ (text : List ℕ) (start : ℕ) (d : IsPlainDirectory (drop start text)) where
+  front : List ℕ
+  front = d.closed.0
+
+  parts : (length text ≡ start + length front + 1) × (text ≡ (take start text ++ front) ++ codes "/")
+  unfolding front
+  parts = (
+    omega (arith, length-drop start text, length_closed (drop start text) d.closed),
+    sym (take-append-drop start text) ∙ ap (λ t. take start text ++ t) d.closed.1 ∙ sym (append_assoc (take start text) d.closed.0 (codes "/")),
+  )
+
+  before_length : length (take start text) ≡ start
+  before_length = length-take-le start text (omega (arith, parts.0))
+
+  cut_is : take (length text - 1) text ≡ take start text ++ front
+  cut_is =
+      ap (take (length text - 1)) parts.1
+      ∙ take_at (take start text ++ front) (codes "/") (length text - 1) (length-append (take start text) front ∙ omega (arith, parts.0, before_length))
+
+  pub none_popped : (n : ℕ) → n ≡ length text → eqb (n - 1) start ≡ is_empty (before_last_slash (drop start text))
+  unfolding front
+  none_popped n e = empty_length front (n - 1) start (omega (arith, e, parts.0)) ∙ ap is_empty (sym (before_closed (drop start text) d.closed))
+
+  module _ (all : List ℕ) (all_is : all ≡ take (length text - 1) text) (slash : ℕ) (place : IsSlashOrAt all start slash) where
+    pub popped_slash : (slash < length text) × (get_or text slash 0 ≡ 47)
+    popped_slash = ⊎_elim
+        (λ e. (omega (arith, e, parts.0), ap (λ n. get_or text n 0) (e ∙ sym (add-zero start)) ∙ sym (get_or-drop start text 0 0) ∙ first_slash (drop start text) d.absolute))
+        (λ e.
+        let within : slash < length text - 1 = omega (arith, e.0, ap length all_is, length-take (length text - 1) text) in
+        (omega (arith, within), sym (get_or-take (length text - 1) text slash 0 within) ∙ ap (λ t. get_or t slash 0) (sym all_is) ∙ e.1))
+        place.1
+
+    pub popped : take slash all ≡ take start all ++ before_last_slash (drop start all) → take (slash + 1) text ≡ take start text ++ parent_directory (drop start text)
+    unfolding front
+    popped e =
+        one_more text slash popped_slash.0 ∙ ap (λ c. take slash text ++ c ∷ []) popped_slash.1
+        ∙ ap (λ t. t ++ codes "/") (same ∙ e ∙ ap (λ t. take start t ++ before_last_slash (drop start t)) (all_is ∙ cut_is) ∙ pieces)
+        ∙ append_assoc (take start text) (before_last_slash d.closed.0) (codes "/")
+        ∙ ap (λ t. take start text ++ (before_last_slash t ++ codes "/")) (sym (before_closed (drop start text) d.closed))
+      where
+        within : slash ≤ length (take start text ++ front)
+        within = omega (arith, popped_slash.0, parts.0, before_length, length-append (take start text) front)
+
+        same : take slash text ≡ take slash all
+        same = ap (take slash) parts.1 ∙ take-append-le slash (take start text ++ front) (codes "/") within ∙ ap (take slash) (sym (all_is ∙ cut_is))
+
+        pieces : take start (take start text ++ front) ++ before_last_slash (drop start (take start text ++ front)) ≡ take start text ++ before_last_slash front
+        pieces =
+            ap (λ t. t ++ before_last_slash (drop start (take start text ++ front))) (take_at (take start text) front start before_length)
+            ∙ ap (λ t. take start text ++ before_last_slash t) (drop_at (take start text) front start before_length)
+
+-- the `/` behind a segment
+pub slash_behind : (path : List ℕ) (end : ℕ) → IsRooted (drop end path) → end < length path → get_or path end 0 ≡ 47
+slash_behind path end h within = ⊎_elim
+    (λ e. absurd (omega (arith, within, ap length e, length-drop end path)))
+    (λ e. ap (λ n. get_or path n 0) (sym (add-zero end)) ∙ sym (get_or-drop end path 0 0) ∙ first_slash (drop end path) e)
+    h
+
+pub root_directory : directory (codes "/") ≡ codes "/"
+unfolding directory
+root_directory = refl
+
+-- before the first slash there is none
+pub none_before_first : (path : List ℕ) → has_slash (before_first (λ c. eqb c 47) path) ≡ false
+none_before_first [] = refl
+none_before_first (c ∷ rest) =
+    let n = position_or_len (λ c. eqb c 47) rest in
+    let next : 1 + n ≡ suc n = omega arith in
+    ⊎_elim
+    (λ e. rw e refl)
+    (λ e. rw e (ap (λ k. has_slash (take k (c ∷ rest))) next
+    ∙ ap (λ b. b || has_slash (take n rest)) e ∙ none_before_first rest))
+    (cases_Bool (eqb c 47))

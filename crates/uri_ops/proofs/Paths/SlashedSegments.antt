@@ -260,7 +260,7 @@ segments_some (c ∷ text) = ⊎_elim
     (λ e. ap is_none (cond-false _ _ _ e) ∙ onto_some c (segments text))
     (cases_Bool (eqb c 47))
 
-segments_behind : (s : List ℕ) (rest : List (List ℕ)) → NoSlashes (s ∷ rest) → segments (s ++ slashed rest) ≡ s ∷ rest
+pub segments_behind : (s : List ℕ) (rest : List (List ℕ)) → NoSlashes (s ∷ rest) → segments (s ++ slashed rest) ≡ s ∷ rest
 unfolding slashed
 segments_behind [] [] e = refl
 segments_behind [] (t ∷ rest) e = ap (λ r. [] ∷ r) (segments_behind t rest e)

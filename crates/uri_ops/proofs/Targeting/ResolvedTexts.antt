@@ -1,10 +1,8 @@
 -- What is known of a base, a reference and a target where a target is computed.
-use Rattle.std.proofs.Common.{◌≡◌, ℕ, Bool, true, List, sym, subst}
-use Rattle.std.specs.Prelude.{IfSome}
+use Rattle.std.proofs.Common.{◌≡◌, ℕ, Bool, true, List, subst}
 use Rattle.std.specs.Str.{IsUtf8}
-use Rattle.uri_parts.specs.Components.{Components, IsRooted, components}
+use Rattle.uri_parts.specs.Components.{Components, components}
 use Rattle.uri_parts.specs.Grammar.{Kind, IsOfKind}
-use Rattle.uri_parts.proofs.Splitting.Recompose.{IsSplitOf-components}
 use Rattle.uri_ops.specs.ComponentSets.{HasComponentSets}
 use Rattle.uri_ops.specs.References.{reference_kind}
 use Rattle.uri_ops.specs.EncodedTargets.{IsTargetOfEncoded, IsErrorForEncoded}
@@ -16,12 +14,6 @@ use Rattle.uri_pct.proofs.Tests.{each_some}
 use Rattle.uri_ops.proofs.AsciiForms.EncodedTargets.{target_of_encoded, error_for_encoded}
 use Rattle.uri_ops.proofs.Targeting.NormalTargets.{target_of_meanings, error_of_meanings}
 use Rattle.uri_ops.proofs.Targeting.TargetTexts.{target_is_text}
-
--- a path behind an authority
-pub rooted_path : (p : Components) (text : List ℕ) → p ≡ components text → IfSome p.authority (λ _. IsRooted p.path)
-rooted_path p text e =
-    subst (λ q. IfSome q.authority (λ _. IsRooted q.path)) (sym e)
-    (each_some (components text).authority _ _ (λ a h. h.1) (IsSplitOf-components text).authority)
 
 -- the same of other names for the same components
 same_target : (allowed : Bool) (p q b r : Components) (text : List ℕ) → p ≡ b → q ≡ r → IsTarget allowed p q text → IsTarget allowed b r text

@@ -1,0 +1,17 @@
+-- Directories, behind which the segments of a path are taken one after the other.
+use Rattle.std.specs.Prelude.{◌≡◌, ◌⊎◌, true, List, [], ◌++◌, ℕ, codes}
+use Rattle.uri_ops.specs.Dots.{IsAbsolute, EndsInSlash, before_last_slash, lacks_dot_segments}
+
+-- the path begins with and ends in `/`, and has no dot segment
+pub record IsPlainDirectory (path : List ℕ) : Type 0 where
+  pub absolute : IsAbsolute path
+  pub closed : EndsInSlash path
+  pub plain : lacks_dot_segments path ≡ true
+
+-- the directory that a directory stands in, which is `/` for `/` too
+abbrev pub parent_directory : List ℕ → List ℕ
+parent_directory path = before_last_slash (before_last_slash path) ++ codes "/"
+
+-- a segment begins behind the front, unless nothing does
+abbrev pub IsClosed : List ℕ → List ℕ → Type 0
+IsClosed front rest = (rest ≡ []) ⊎ EndsInSlash front
