@@ -6,6 +6,8 @@ mod decoded;
 #[cfg(test)]
 mod encoding;
 #[cfg(test)]
+mod long_runs;
+#[cfg(test)]
 mod owned_encoding;
 #[cfg(test)]
 mod tables;

@@ -5,7 +5,7 @@ ghost use Rattle.uri_parts.specs.Grammar.{IsOfKind};
 ghost use Rattle.uri_parts.specs.Positions.{AreAt};
 
 use uri_parts::component::{Authority, Scheme};
-use uri_parts::core_text::{Core, positions_in};
+use uri_parts::core_text::Core;
 use uri_parts::kind::Kind;
 use uri_parts::positions::Positions;
 use uri_pct::encoder::{Encoder, PathEncoder};
@@ -197,13 +197,4 @@ fn core_of<R: RiMaybeRef>(value: &R) -> Core<R::Kind, &str>
     ensures of_kind { IsOfKind R.kind (R.text value.now) }
 {
     Core::new(value.as_str(), value.positions())
-}
-
-/// The value whose text this is.
-pub(crate) fn owned<R: RiMaybeRef>(text: String) -> R::Owned
-    requires { IsOfKind R.kind (string_bytes text) }
-    ensures { R.owned_text result ≡ string_bytes text }
-{
-    let positions = positions_in::<R::Kind>(text.as_str());
-    R::make_owned(text, positions)
 }
