@@ -1,5 +1,4 @@
 """A wrong body as it is written in a file, and the check that has to refuse it."""
-import collections
 import contextlib
 import os
 import pathlib
@@ -19,20 +18,9 @@ class Edit:
         self.file = next((it[6:].strip() for it in head if it.startswith("file: ")), "")
         # Whether it has to be tried alone, how often it was tried, and whether it was refused.
         self.is_alone, self.tries, self.verdict, self.why = False, 0, None, ""
-        # The functions that the edited one calls in the end, as far as their names tell.
-        self.calls = set()
 
     def end(self, is_refused, why):
         self.verdict, self.why = is_refused, why
-
-    def bare_name(self):
-        return self.function.rpartition("::")[2]
-
-    def meets(self, other):
-        """Whether the two cannot be told apart in one check: the same function, or one that calls the other."""
-        if self.function == other.function:
-            return True
-        return self.bare_name() in other.calls or other.bare_name() in self.calls
 
     def again(self, is_alone):
         """Has it tried once more, with other edits at most twice."""
@@ -46,16 +34,20 @@ class Edit:
 
 
 class Room:
-    """A copy of a crate in a folder, and the work that its checks keep there."""
+    """A copy of a crate in a folder, and the work that the first check of it keeps there."""
 
-    def __init__(self, rt, crate, folder, kept=None):
+    def __init__(self, rt, crate, folder):
         self.rt, self.crate, self.checks, self.seconds = rt, crate, 0, 0.0
         self.sources, self.kept = pathlib.Path(folder, "crate"), pathlib.Path(folder, "kept")
         for part in rt.rtlib.PARTS:
             if os.path.isdir(f"{crate.folder}/{part}"):
                 shutil.copytree(f"{crate.folder}/{part}", self.sources / part)
-        if kept:
-            shutil.copytree(kept, self.kept)
+
+    def beside(self, folder):
+        """Another copy, over what this one keeps."""
+        other = Room(self.rt, self.crate, folder)
+        other.kept = self.kept
+        return other
 
     @contextlib.contextmanager
     def written(self, texts):
@@ -68,14 +60,28 @@ class Room:
             for path in texts:
                 shutil.copyfile(f"{self.crate.folder}/{path}", self.sources / path)
 
+    def applied(self, edit, texts):
+        """The texts of the files that the edit changes, over these, or why it cannot be applied."""
+        with self.written(texts):
+            return self.rt.edited(edit.text, str(self.sources))
+
+    @contextlib.contextmanager
+    def going_on(self):
+        """What is kept, where nothing is as yet, and else a copy: no check takes what a later one left."""
+        if not self.kept.exists():
+            yield self.kept
+            return
+        with tempfile.TemporaryDirectory(dir=self.sources.parent) as folder:
+            yield shutil.copytree(self.kept, f"{folder}/kept")
+
     def check(self, functions, texts):
         """The lines that a check of these functions prints; the last begins `only=` where it read them all."""
         only = [word for it in sorted(functions) for word in ("--only", it)]
-        words = ["check", *self.crate.words(["--jobs", "1", *only], keeps=False), "--incremental", str(self.kept)]
+        words = ["check", *self.crate.words(["--jobs", "1", *only], keeps=False), "--incremental"]
         command = ["nice", *self.rt.rtlib.guarded(), self.rt.rtlib.RATTLE, *words]
-        with self.written(texts), tempfile.TemporaryFile("w+", errors="replace") as said:
+        with self.written(texts), self.going_on() as kept, tempfile.TemporaryFile("w+", errors="replace") as said:
             how = {"cwd": self.sources, "stdin": subprocess.DEVNULL, "stdout": said}
-            began = subprocess.Popen(command, stderr=subprocess.STDOUT, **how)
+            began = subprocess.Popen([*command, str(kept)], stderr=subprocess.STDOUT, **how)
             _, status, used = os.wait4(began.pid, 0)
             began.returncode = os.waitstatus_to_exitcode(status)
             said.seek(0)
@@ -95,46 +101,39 @@ class Room:
         return None
 
 
-class Lane:
-    """Tries a share of a crate's edits in a room."""
+def batches_of(room, edits, most):
+    """Edits of different functions to try in one check each, and the texts that they make."""
+    left = sorted(edits, key=lambda it: (it.tries, it.function))
+    while left:
+        batch, texts = next_batch(room, left, most)
+        left = [it for it in left if it.verdict is None and it not in batch]
+        if batch:
+            yield batch, texts
 
-    def __init__(self, room, edits, batch):
-        self.room, self.edits, self.batch = room, edits, batch
-        self.rt, self.crate = room.rt, room.crate
 
-    def run(self):
-        first = {it.function for it in self.edits[: self.batch]}
-        while left := [it for it in self.edits if it.verdict is None]:
-            self.judge(*self.next_batch(sorted(left, key=lambda it: it.tries)))
-        why = self.room.unproved(first)
-        for it in self.edits:
-            if why and it.verdict:
-                it.end(False, f"BAD EDIT: {why}")
+def next_batch(room, left, most):
+    batch, texts = [], {}
+    for it in left:
+        if len(batch) == most or it.is_alone and batch or it.function in (other.function for other in batch):
+            continue
+        changed, why = room.applied(it, texts)
+        if not why:
+            texts.update(changed)
+            batch.append(it)
+        elif not texts:
+            it.end(False, f"BAD EDIT: {why}")
+        if it.is_alone and batch:
+            break
+    return batch, texts
 
-    def next_batch(self, left):
-        """The next edits to try in one check, of different functions, and the texts that they make."""
-        batch, texts = [], {}
-        for it in left:
-            if len(batch) == self.batch or it.is_alone and batch or any(map(it.meets, batch)):
-                continue
-            changed, why = self.applied(it, texts)
-            if not why:
-                texts.update(changed)
-                batch.append(it)
-            elif not texts:
-                it.end(False, f"BAD EDIT: {why}")
-            if it.is_alone:
-                break
-        return batch, texts
 
-    def applied(self, edit, texts):
-        """The texts of the files that the edit changes, over those that the batch has changed."""
-        with self.room.written(texts):
-            return self.rt.edited(edit.text, str(self.room.sources))
+class Judge:
+    """Tries the edits of a batch in a room."""
+
+    def __init__(self, room):
+        self.room, self.rt, self.crate = room, room.rt, room.crate
 
     def judge(self, batch, texts):
-        if not batch:
-            return
         lines = self.room.check({it.function for it in batch}, texts)
         unread = [it for it in lines if self.rt.unread(it, texts)]
         if lines[-1].startswith("only=") and not unread:
@@ -162,8 +161,7 @@ class Lane:
         head = f"fn {self.crate.name}::{edit.function}: "
         said = next((it[len(head) :] for it in lines if it.startswith(head)), "the check names no such function")
         is_refused = re.match(r"not proved|no proof", said)
-        is_through = re.search(r"(it calls|it passes|a call of)\b.*not proved", said)
-        if is_refused and not is_through:
+        if is_refused and self.is_for_itself(edit, said, lines):
             edit.end(True, self.reason(edit, said, lines))
         elif not is_alone:
             edit.again(not is_refused)
@@ -172,29 +170,21 @@ class Lane:
         else:
             edit.end(False, f"NOT REFUSED: {said}")
 
+    def is_for_itself(self, edit, said, lines):
+        """Whether a goal of the function's own is not proved, and it does not only call another that is not."""
+        is_through = re.search(r"(it calls|it passes|a call of)\b.*not proved", said)
+        return not is_through or said.startswith("no proof: expected") or bool(self.errors(edit, lines))
+
+    def errors(self, edit, lines):
+        """What is said of the function's own proof file."""
+        folder = f"./proofs/{edit.function.replace('::', '/')}/"
+        return [it[len(folder) :] for it in lines if it.startswith(folder) and ": error: " in it]
+
     def reason(self, edit, said, lines):
         """The goal or the line of a proof file at which the function is refused."""
-        folder = f"./proofs/{edit.function.replace('::', '/')}/"
-        errors = [it[len(folder) :] for it in lines if it.startswith(folder) and ": error: " in it]
+        errors = self.errors(edit, lines)
         names = r"has no field|is not in scope|has no `|was not admitted|was rejected"
         goals = [it for it in errors if not re.search(names, it)]
         if errors and not goals:
             return f"(only since its proof file names what the edit took away) {errors[0]}"
         return goals[0] if goals else re.sub(r"^no proof: expected answers in \S+; ", "", said)
-
-
-def callees(folder):
-    """What each function of a crate calls in the end, of those whose name stands once in the crate."""
-    bodies = collections.defaultdict(list)
-    for path in pathlib.Path(folder, "src").rglob("*.rt"):
-        for text in re.split(r"\bfn (?=\w)", path.read_text(encoding="utf-8"))[1:]:
-            name, body = re.match(r"(\w+)(.*)", text, re.DOTALL).groups()
-            bodies[name].append(set(re.findall(r"(\w+)(?:::<[^()]*>)?\(", body)))
-    calls = {name: found[0] for name, found in bodies.items() if len(found) == 1}
-    for name in calls:
-        found, left = set(), [name]
-        while left:
-            new = calls.get(left.pop(), set()) & calls.keys() - found
-            found |= new
-            left += new
-        yield name, found
