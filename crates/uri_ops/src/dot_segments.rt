@@ -97,12 +97,24 @@ pub(crate) fn may_have_dot_segments(path: &str) -> bool
     plain_len(path) < path.len()
 }
 
+/// How many bytes are looked at one by one before a segment's end is searched for: those of the
+/// longest dot segment, and the `/` behind it.
+const SHORT: usize = 7;
+
 /// Where the first segment ends: before its `/`, or at the end of the path.
 fn segment_end(path: &str) -> usize
     ensures segment { has_slash (take result path.now) ≡ false }
     ensures behind { IsRooted (drop result path.now) }
     ensures place { IsCharBoundary path.now result }
 {
+    let bytes = path.as_bytes();
+    let mut i = 0;
+    while i < bytes.len() && i < SHORT {
+        if bytes[i] == b'/' {
+            return i;
+        }
+        i += 1;
+    }
     match path.split_once('/') {
         Some((segment, _)) => segment.len(),
         None => path.len(),
