@@ -227,12 +227,26 @@ fn push_target(
     Ok((positions, underflowed))
 }
 
-/// How long the text of a target may get: no longer than with its dot segments.
+/// How much of the base a target has at most, of a reference that has no scheme.
+fn kept_len(base: &Placed<'_>, reference: &Placed<'_>) -> usize {
+    if reference.has_authority() {
+        return base.marked_scheme().len();
+    }
+    if begins_with_slash(reference.path().as_bytes()) {
+        return base.before_path().len();
+    }
+    base.len()
+}
+
+/// How long the text of a target may get: no longer than with its dot segments, and a `/` before
+/// a path behind an authority.
 fn room_for(base: &Placed<'_>, reference: &Placed<'_>) -> usize {
     if reference.has_scheme() {
         return reference.len();
     }
-    base.len().saturating_add(reference.len()).saturating_add(1)
+    kept_len(base, reference)
+        .saturating_add(reference.len())
+        .saturating_add(1)
 }
 
 /// The target's text, and where its components lie. An error that the components alone decide comes
