@@ -1,5 +1,7 @@
 -- Which command the words are.
-use Rattle.std.proofs.Common.{◌≡◌, ◌≢◌, ◌≤◌, ◌<◌, ◌-◌, take, ℕ, eqb, true, false, List, [], ◌∷◌, codes, drop, length, get_or, String, string_bytes, refl, sym, ap, ◌∙◌, arith}
+use Rattle.std.proofs.Common.{◌≡◌, ◌≢◌, ◌≤◌, ◌<◌, ◌-◌, take, ℕ, eqb, true, false, List, [], ◌∷◌}
+use Rattle.std.proofs.Common.{codes, drop, length, get_or, String, string_bytes, refl, sym, ap, ◌∙◌}
+use Rattle.std.proofs.Common.{arith}
 use Rattle.std.proofs.lemmas.List.{length-drop, length-map, take_all}
 use Rattle.std.specs.Prelude.{MatchOption, Option, Some, None, if◌then◌else◌}
 use Rattle.uri_commands.specs.Asked.{asked}
@@ -8,10 +10,12 @@ use Rattle.uri_commands.specs.declared.command.BaseName.{BaseName}
 use Rattle.uri_commands.specs.declared.command.BaseName.TheVariants as bases
 use Rattle.uri_commands.specs.declared.command.KindName.{KindName}
 use Rattle.uri_commands.specs.declared.command.KindName.TheVariants.{Uri, UriRef, Iri, IriRef}
-use Rattle.uri_commands.specs.Commands.{Command, Parse, Normalize, Resolve, Links, AreLinks, IsCommand, word_of_base, words_of, output_of, texts}
+use Rattle.uri_commands.specs.Commands.{Command, Parse, Normalize, Resolve, Links, AreLinks}
+use Rattle.uri_commands.specs.Commands.{IsCommand, word_of_base, words_of, output_of, texts}
 
 -- the bytes of three words
-pub texts_of_three : {Z : Type 0} (words : List (String Z)) (a b c : String Z) → 3 ≤ length words → length words < 4
+pub texts_of_three : {Z : Type 0} (words : List (String Z)) (a b c : String Z) → 3 ≤ length words
+    → length words < 4
     → a ≡ get_or words 0 a → b ≡ get_or words 1 b → c ≡ get_or words 2 c
     → texts words ≡ string_bytes a ∷ string_bytes b ∷ string_bytes c ∷ []
 texts_of_three [] a b c least below x y z = absurd (omega arith)
@@ -37,7 +41,8 @@ texts_of_more words a b c least x y z =
     before_rest words a b c least x y z ∙ ap (λ l. string_bytes a ∷ string_bytes b ∷ string_bytes c ∷ texts l) (sym rest)
 
 -- the bytes of four words
-pub texts_of_four : {Z : Type 0} (words : List (String Z)) (a b c d : String Z) → 4 ≤ length words → length words < 5
+pub texts_of_four : {Z : Type 0} (words : List (String Z)) (a b c d : String Z) → 4 ≤ length words
+    → length words < 5
     → a ≡ get_or words 0 a → b ≡ get_or words 1 b → c ≡ get_or words 2 c → d ≡ get_or words 3 d
     → texts words ≡ string_bytes a ∷ string_bytes b ∷ string_bytes c ∷ string_bytes d ∷ []
 texts_of_four [] a b c d least below x y z w = absurd (omega arith)
@@ -88,11 +93,13 @@ words_of_injective a b same = sym (command_named-words_of a) ∙ ap command_name
 pub output_of_words : (a b : Command) → words_of a ≡ words_of b → output_of a ≡ output_of b
 output_of_words a b same = ap output_of (words_of_injective a b same)
 
-pub length_of_words : {Z : Type 0} (words : List (String Z)) (others : List (List ℕ)) → texts words ≡ others → length words ≡ length others
+pub length_of_words : {Z : Type 0} (words : List (String Z)) (others : List (List ℕ))
+    → texts words ≡ others → length words ≡ length others
 length_of_words words others is = sym (length-map words string_bytes) ∙ ap length is
 
 -- four words that begin with `resolve` and whose second is no kind of base are no command
-pub not_a_base : (words : List (List ℕ)) (a b c d : List ℕ) → words ≡ a ∷ b ∷ c ∷ d ∷ [] → a ≡ codes "resolve" → ((k : BaseName) → b ≢ word_of_base k) → Prim.¬◌ (IsCommand words)
+pub not_a_base : (words : List (List ℕ)) (a b c d : List ℕ) → words ≡ a ∷ b ∷ c ∷ d ∷ []
+    → a ≡ codes "resolve" → ((k : BaseName) → b ≢ word_of_base k) → Prim.¬◌ (IsCommand words)
 not_a_base words a b c d e first none (Parse name text, is) =
     let four : length words ≡ 4 = ap length e in
     let three : length words ≡ 3 = ap length is in
@@ -117,7 +124,8 @@ of_command words links parse normalize resolve (Resolve name base reference) = r
 of_command words links parse normalize resolve (Links base reference others) = λ is. links (base, reference, others, is)
 
 -- words that are `links` or nothing, where they are none of the others
-pub or_links : (words : List (List ℕ)) (result : Option Words) → MatchOption result (Prim.¬◌ (AreLinks words)) (λ c. words ≡ words_of (asked c))
+pub or_links : (words : List (List ℕ)) (result : Option Words)
+    → MatchOption result (Prim.¬◌ (AreLinks words)) (λ c. words ≡ words_of (asked c))
     → ((name : KindName) (text : List ℕ) → words ≢ words_of (Parse name text))
     → ((name : KindName) (text : List ℕ) → words ≢ words_of (Normalize name text))
     → ((name : BaseName) (base reference : List ℕ) → words ≢ words_of (Resolve name base reference))

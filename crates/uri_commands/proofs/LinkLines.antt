@@ -1,5 +1,6 @@
 -- The lines of what references come to.
-use Rattle.std.proofs.Common.{◌≡◌, ◌+◌, ◌<◌, ◌++◌, ◌∷◌, ◌∙◌, ℕ, List, [], Option, length, take, get_or, sym, ap, subst, append-nil}
+use Rattle.std.proofs.Common.{◌≡◌, ◌+◌, ◌<◌, ◌++◌, ◌∷◌, ◌∙◌, ℕ, List, [], Option, length, take}
+use Rattle.std.proofs.Common.{get_or, sym, ap, subst, append-nil}
 use Rattle.std.proofs.KnownBytes.{Appends-trans}
 use Rattle.std.proofs.lemmas.List.{take_more}
 use Rattle.std.proofs.lemmas.List.Concat.{flat_map-append}
@@ -11,7 +12,8 @@ use Rattle.uri_links.specs.declared.links.Outcome.{Outcome}
 use Rattle.uri_commands.specs.Links.{link_lines, outcome_line, outcome_lines}
 
 -- the lines of what was noted are those of the references
-pub lines_noted : (ports : PortFunction) (base word : List ℕ) (none references words : List (List ℕ)) (outcomes : List Outcome) (registered : List (List ℕ))
+pub lines_noted : (ports : PortFunction) (base word : List ℕ)
+    (none references words : List (List ℕ)) (outcomes : List Outcome) (registered : List (List ℕ))
     → ports ≡ default_port → base ≡ word → none ≡ [] → references ≡ words → outcomes_of ports base none references ≡ (outcomes, registered)
     → outcome_lines registered outcomes ≡ link_lines word words
 unfolding link_lines
@@ -20,7 +22,9 @@ lines_noted ports base word none references words outcomes registered p b n r no
     sym (ap (λ (all : List Outcome × List (List ℕ)). outcome_lines all.1 all.0) same)
 
 -- one more line was written
-pub line_written : (registered : List (List ℕ)) (outcomes : List Outcome) (n : ℕ) (outcome : Outcome) (a b c : Option (List ℕ)) → n < length outcomes → outcome ≡ get_or outcomes n outcome
+pub line_written : (registered : List (List ℕ)) (outcomes : List Outcome) (n : ℕ)
+    (outcome : Outcome) (a b c : Option (List ℕ))
+    → n < length outcomes → outcome ≡ get_or outcomes n outcome
     → Appends a b (outcome_lines registered (take n outcomes)) → Appends b c (outcome_line registered outcome) → Appends a c (outcome_lines registered (take (n + 1) outcomes))
 line_written registered outcomes n outcome a b c h e before now =
     let more : outcome_lines registered (take (n + 1) outcomes) ≡ outcome_lines registered (take n outcomes) ++ outcome_line registered outcome =

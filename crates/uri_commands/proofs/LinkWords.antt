@@ -1,5 +1,6 @@
 -- References that are read one after the other.
-use Rattle.std.proofs.Common.{◌≡◌, ◌+◌, ◌<◌, ◌++◌, ◌∷◌, ◌∙◌, ℕ, suc, true, List, [], Some, String, string_bytes, length, take, get_or, map, sym, ap}
+use Rattle.std.proofs.Common.{◌≡◌, ◌+◌, ◌<◌, ◌++◌, ◌∷◌, ◌∙◌, ℕ, suc, true, List, [], Some, String}
+use Rattle.std.proofs.Common.{string_bytes, length, take, get_or, map, sym, ap}
 use Rattle.std.proofs.lemmas.List.{map-append, take-map, take_more}
 use Rattle.std.proofs.lemmas.List.Folds.{list_all-append}
 use Rattle.std.proofs.lemmas.Option.{slice_get-get_or, slice_get-map}
@@ -17,16 +18,20 @@ module _ {Z : Type 0} (kind : Kind) (first : List ℕ) (others : List (String Z)
       ∙ ap (λ l. first ∷ l) (map-append string_bytes (take n others) (get_or others n word ∷ []))
       ∙ ap (λ t. (first ∷ texts (take n others)) ++ t ∷ []) (ap string_bytes (sym is) ∙ sym same)
 
-  pub read_next : are_of_kind kind (first ∷ texts (take n others)) ≡ true → IsOfKind kind text → are_of_kind kind (first ∷ texts (take (n + 1) others)) ≡ true
+  pub read_next : are_of_kind kind (first ∷ texts (take n others)) ≡ true → IsOfKind kind text
+      → are_of_kind kind (first ∷ texts (take (n + 1) others)) ≡ true
   read_next before now =
       ap (are_of_kind kind) next ∙ list_all-append (is_of_kind kind) (first ∷ texts (take n others)) (text ∷ []) ∙ cc (before, now)
 
-  pub refused_next : (e : ParseError) → are_of_kind kind (first ∷ texts (take n others)) ≡ true → IsErrorOf kind text e → IsErrorOfFirst kind (first ∷ texts others) e
+  pub refused_next : (e : ParseError) → are_of_kind kind (first ∷ texts (take n others)) ≡ true
+      → IsErrorOf kind text e → IsErrorOfFirst kind (first ∷ texts others) e
   refused_next e before now =
       let at : slice_get (texts others) n ≡ Some text =
       slice_get-map string_bytes others n ∙ ap (option_map string_bytes) (slice_get-get_or others n word below ∙ ap Some (sym is)) ∙ ap Some (sym same) in
       (suc n, text, at, ap (λ l. are_of_kind kind (first ∷ l)) (take-map string_bytes n others) ∙ before, now)
 
-  pub kept_next : {A : Type 0} (text_of : A → List ℕ) (reference : A) (before after : List A) → map text_of before ≡ first ∷ texts (take n others) → text_of reference ≡ text → after ≡ before ++ reference ∷ [] → map text_of after ≡ first ∷ texts (take (n + 1) others)
+  pub kept_next : {A : Type 0} (text_of : A → List ℕ) (reference : A) (before after : List A)
+      → map text_of before ≡ first ∷ texts (take n others) → text_of reference ≡ text
+      → after ≡ before ++ reference ∷ [] → map text_of after ≡ first ∷ texts (take (n + 1) others)
   kept_next text_of reference before after kept t e =
       ap (map text_of) e ∙ map-append text_of before (reference ∷ []) ∙ ap (λ l. l ++ text_of reference ∷ []) kept ∙ ap (λ t. (first ∷ texts (take n others)) ++ t ∷ []) t ∙ sym next

@@ -5,6 +5,7 @@ use Rattle.fluent_uri.specs.Normalizers.{IsNormalForm}
 use Rattle.fluent_uri.specs.SchemePorts.{default_port}
 use Rattle.uri_commands.specs.Commands.{normal_form_of}
 
-pub normal_form_is : (kind : Kind) (text normal : List ℕ) → IsNormalForm kind default_port text normal → normal ≡ normal_form_of kind text
+pub normal_form_is : (kind : Kind) (text normal : List ℕ)
+    → IsNormalForm kind default_port text normal → normal ≡ normal_form_of kind text
 unfolding normal_form_of
 normal_form_is kind text normal is = is.text.text

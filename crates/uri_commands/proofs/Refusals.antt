@@ -9,11 +9,13 @@ use Rattle.uri_commands.specs.Commands.{kind_named}
 use Rattle.uri_commands.specs.Refusals.{IsErrorOf}
 use Rattle.uri_commands.specs.declared.command.KindName.{KindName}
 
-pub refused_with : {A B : Type 0} (P : B → Type 0) (result : Result A B) (e : B) → IsErrAnd result (λ x. x ≡ e) → P e → IfErr result P
+pub refused_with : {A B : Type 0} (P : B → Type 0) (result : Result A B) (e : B)
+    → IsErrAnd result (λ x. x ≡ e) → P e → IfErr result P
 refused_with P (Ok a) e is p = tt
 refused_with P (Err x) e is p = subst P (sym is) p
 
-pub refused_as : {A B : Type 0} (P : B → Type 0) (result : Result A B) (e : B) → IfErr result (λ x. x ≡ e) → P e → IfErr result P
+pub refused_as : {A B : Type 0} (P : B → Type 0) (result : Result A B) (e : B)
+    → IfErr result (λ x. x ≡ e) → P e → IfErr result P
 refused_as P (Ok a) e is p = tt
 refused_as P (Err x) e is p = subst P (sym is) p
 
@@ -28,7 +30,9 @@ text_refused P told name named text result e is same none err given =
     (is e (subst (λ k. IsErrorOf (kind_named k) text e) (sym same) (λ of_kind. cc (none of_kind), err)))
 
 -- the refusal of a text, as `map_err` tells it
-pub mapped_refused : {A B C : Type 0} (P : B → Type 0) (told : ParseError → B) (kind : Kind) (text : List ℕ) (parsed : Result A ParseError) (mapped : Result A B) (result : Result C B) (why : B)
+pub mapped_refused : {A B C : Type 0} (P : B → Type 0) (told : ParseError → B) (kind : Kind)
+    (text : List ℕ) (parsed : Result A ParseError) (mapped : Result A B) (result : Result C B)
+    (why : B)
     → ((e : ParseError) → IsErrorOf kind text e → P (told e))
     → (IsOk parsed ↔ IsOfKind kind text) → IfErr parsed (IsErrorIn text)
     → MatchResult parsed (λ x. mapped ≡ Ok x) (λ e. IsErrAnd mapped (λ y. y ≡ told e))
@@ -39,6 +43,7 @@ mapped_refused P told kind text (Err e) mapped result why is accepts err cases w
     refused_with P result why given (subst P (sym same) (is e (λ of_kind. cc (accepts.1 of_kind), err)))
 
 -- what was read before is of its kind
-pub mapped_read : {A B E : Type 0} (kind : Kind) (text : List ℕ) (parsed : Result A E) (mapped : Result A B) (value : A)
+pub mapped_read : {A B E : Type 0} (kind : Kind) (text : List ℕ) (parsed : Result A E)
+    (mapped : Result A B) (value : A)
     → (IsOk parsed ↔ IsOfKind kind text) → is_ok mapped ≡ is_ok parsed → mapped ≡ Ok value → IsOfKind kind text
 mapped_read kind text parsed mapped value accepts variant was = accepts.0 (sym variant ∙ ap is_ok was)

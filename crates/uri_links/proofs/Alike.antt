@@ -5,11 +5,13 @@ use Rattle.std.specs.Prelude.{bytes_eq}
 use Rattle.std.specs.Option.{option_eq}
 use Rattle.std.proofs.lemmas.Bool.Decides.{Decides-eqb, Decides-and, Decides-like}
 use Rattle.std.proofs.lemmas.Slice.Eq.{bytes_eq-Decides, slice_eq-Decides}
-use Rattle.fluent_uri.specs.Meaning.{HostMeaning, Address, FutureAddress, Name, AuthorityMeaning, Meaning}
+use Rattle.fluent_uri.specs.Meaning.{HostMeaning, Address, FutureAddress, Name, AuthorityMeaning}
+use Rattle.fluent_uri.specs.Meaning.{Meaning}
 use Rattle.fluent_uri.specs.Tokens.{Token, Char, Octet}
 use Rattle.uri_links.specs.Alike.{same_token, same_tokens, same_host, same_authority, same_meaning}
 
-same_option : {A : Type 0} (E : A → A → Bool) → ((a b : A) → Decides (E a b) (a ≡ b)) → (p q : Option A) → Decides (option_eq E p q) (p ≡ q)
+same_option : {A : Type 0} (E : A → A → Bool) → ((a b : A) → Decides (E a b) (a ≡ b))
+    → (p q : Option A) → Decides (option_eq E p q) (p ≡ q)
 same_option E d None None = (λ _. refl, λ _. refl)
 same_option E d None (Some b) = (λ e. cc, λ e. cc)
 same_option E d (Some a) None = (λ e. cc, λ e. cc)

@@ -24,30 +24,40 @@ use Rattle.uri_links.proofs.Alike.{same}
 use Rattle.uri_links.proofs.Places.{alike}
 
 -- the answer for a target is its own normal text
-pub own_normal_text : (kind : Kind) (ports : PortFunction) (base reference normal : List ℕ) → IsNormalFormOfTarget kind ports base reference normal → normal_text (meaning_of kind ports normal) ≡ normal
+pub own_normal_text : (kind : Kind) (ports : PortFunction) (base reference normal : List ℕ)
+    → IsNormalFormOfTarget kind ports base reference normal
+    → normal_text (meaning_of kind ports normal) ≡ normal
 own_normal_text kind ports base reference normal h = ap normal_text h.1.1.meaning ∙ sym h.1.1.text.text
 
 -- a normal form is a text that is its own exactly if the two mean the same
-same_answer : (ports : PortFunction) (target normal text : List ℕ) → IsNormalForm uri ports target normal → IsTextOf uri text → normal_text (meaning_of uri ports text) ≡ text
+same_answer : (ports : PortFunction) (target normal text : List ℕ)
+    → IsNormalForm uri ports target normal → IsTextOf uri text
+    → normal_text (meaning_of uri ports text) ≡ text
     → bytes_eq normal text ≡ same_meaning (meaning_of uri ports text) (meaning_of uri ports target)
 same_answer ports target normal text h of_kind own =
     let both = h.same text of_kind in
     same_from_decides {P = normal ≡ text} _ _ (bytes_eq-Decides normal text)
     (Decides-like _ (λ e. both.1 (sym e) ∙ own) (λ e. sym (both.0 (e ∙ sym own))) (same (meaning_of uri ports text) (meaning_of uri ports target)))
 
-same_answers : (ports : PortFunction) (target normal : List ℕ) (texts : List (List ℕ)) → IsNormalForm uri ports target normal → AllByRecursion (IsTextOf uri) texts → AreNormal ports texts
+same_answers : (ports : PortFunction) (target normal : List ℕ) (texts : List (List ℕ))
+    → IsNormalForm uri ports target normal → AllByRecursion (IsTextOf uri) texts
+    → AreNormal ports texts
     → AllByRecursion (λ text. bytes_eq normal text ≡ same_meaning (meaning_of uri ports text) (meaning_of uri ports target)) texts
 same_answers ports target normal [] h of_kind own = tt
 same_answers ports target normal (text ∷ texts) h of_kind own =
     (same_answer ports target normal text h of_kind.0 (cc), same_answers ports target normal texts h of_kind.1 (cc))
 
 -- so it stands where a text has the meaning of the target
-same_place : (ports : PortFunction) (target normal : List ℕ) (texts : List (List ℕ)) → IsNormalForm uri ports target normal → AllByRecursion (IsTextOf uri) texts → AreNormal ports texts
+same_place : (ports : PortFunction) (target normal : List ℕ) (texts : List (List ℕ))
+    → IsNormalForm uri ports target normal → AllByRecursion (IsTextOf uri) texts
+    → AreNormal ports texts
     → position (bytes_eq normal) texts ≡ place_of ports texts (meaning_of uri ports target)
 same_place ports target normal texts h of_kind own = alike _ _ texts (same_answers ports target normal texts h of_kind own)
 
 -- what stands where by its text is noted so by its meaning
-pub noted : (ports : PortFunction) (base reference normal : List ℕ) (texts : List (List ℕ)) (outcome : Outcome × List (List ℕ)) → IsNormalTarget uri uri_ref ports base reference normal
+pub noted : (ports : PortFunction) (base reference normal : List ℕ) (texts : List (List ℕ))
+    (outcome : Outcome × List (List ℕ))
+    → IsNormalTarget uri uri_ref ports base reference normal
     → AllByRecursion (IsTextOf uri) texts → AreNormal ports texts → placed (position (bytes_eq normal) texts) texts normal ≡ outcome → outcome_of ports base texts reference ≡ outcome
 unfolding outcome_of
 noted ports base reference normal texts outcome h of_kind own e =
@@ -56,7 +66,9 @@ noted ports base reference normal texts outcome h of_kind own e =
     ∙ (λ i. placed (sym (same_place ports target normal texts h.target.1.1 of_kind own) i) texts (sym h.target.1.1.text.text i)) ∙ e
 
 -- a reference that has no target is refused
-pub noted_refusal : (ports : PortFunction) (base reference : List ℕ) (texts : List (List ℕ)) (error : ResolveError) → IsRefusalFor (components base) (components reference) error → (error ≡ Of.OutOfMemory → ⊥)
+pub noted_refusal : (ports : PortFunction) (base reference : List ℕ) (texts : List (List ℕ))
+    (error : ResolveError)
+    → IsRefusalFor (components base) (components reference) error → (error ≡ Of.OutOfMemory → ⊥)
     → outcome_of ports base texts reference ≡ (Refused error, texts)
 unfolding outcome_of
 noted_refusal ports base reference texts Of.BaseWithFragment h m = ap (registered ports texts) h
@@ -64,6 +76,7 @@ noted_refusal ports base reference texts Of.InvalidReferenceAgainstOpaqueBase h 
 noted_refusal ports base reference texts Of.PathUnderflow h m = absurd h
 noted_refusal ports base reference texts Of.OutOfMemory h m = absurd (m refl)
 
-pub each : {A : Type 0} (P : List ℕ → Type 0) (f : A → List ℕ) → ((a : A) → P (f a)) → (xs : List A) → AllByRecursion P (map f xs)
+pub each : {A : Type 0} (P : List ℕ → Type 0) (f : A → List ℕ) → ((a : A) → P (f a)) → (xs : List A)
+    → AllByRecursion P (map f xs)
 each P f h [] = tt
 each P f h (x ∷ xs) = (h x, each P f h xs)

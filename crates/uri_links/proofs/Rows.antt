@@ -10,7 +10,8 @@ use Rattle.fluent_uri.specs.Pieces as Pieces
 use Rattle.fluent_uri.specs.Ports.{PortFunction}
 use Rattle.fluent_uri.specs.Reading as Reading
 use Rattle.fluent_uri.specs.Tokens as Tokens
-use Rattle.fluent_uri.specs.declared.resolve.ResolveError.TheVariants.{BaseWithFragment, InvalidReferenceAgainstOpaqueBase}
+use Rattle.fluent_uri.specs.declared.resolve.ResolveError.TheVariants.{BaseWithFragment}
+use Rattle.fluent_uri.specs.declared.resolve.ResolveError.TheVariants.{InvalidReferenceAgainstOpaqueBase}
 use Rattle.uri_links.specs.Alike.{same_meaning}
 use Rattle.uri_links.specs.Outcomes.{outcome_of, outcomes_of}
 use Rattle.uri_links.specs.declared.links.Outcome.{Outcome}

@@ -1,5 +1,6 @@
 -- What noting several references comes to, a reference at a time.
-use Rattle.std.proofs.Common.{◌≡◌, ℕ, ◌+◌, ◌<◌, List, [], ◌∷◌, ◌++◌, length, get_or, take, map, Ok, Err, refl, sym, ap, ◌∙◌}
+use Rattle.std.proofs.Common.{◌≡◌, ℕ, ◌+◌, ◌<◌, List, [], ◌∷◌, ◌++◌, length, get_or, take, map, Ok}
+use Rattle.std.proofs.Common.{Err, refl, sym, ap, ◌∙◌}
 use Rattle.std.specs.Prelude.{OnErr, Result}
 use Rattle.std.proofs.lemmas.List.{map-append, take_more}
 use Rattle.fluent_uri.specs.Ports.{PortFunction}
@@ -7,10 +8,12 @@ use Rattle.uri_links.specs.Outcomes.{outcome_of, outcomes_of}
 use Rattle.uri_links.specs.declared.links.Outcome.{Outcome}
 
 -- the outcomes and texts, after one more reference
-abbrev with_one : PortFunction → List ℕ → List ℕ → List Outcome × List (List ℕ) → List Outcome × List (List ℕ)
+abbrev with_one : PortFunction → List ℕ → List ℕ → List Outcome × List (List ℕ)
+    → List Outcome × List (List ℕ)
 with_one ports base reference before = let last = outcome_of ports base before.1 reference in (before.0 ++ last.0 ∷ [], last.1)
 
-pushed : (ports : PortFunction) (base : List ℕ) (texts references : List (List ℕ)) (reference : List ℕ)
+pushed : (ports : PortFunction) (base : List ℕ) (texts references : List (List ℕ))
+    (reference : List ℕ)
     → outcomes_of ports base texts (references ++ reference ∷ []) ≡ with_one ports base reference (outcomes_of ports base texts references)
 unfolding outcomes_of
 pushed ports base texts [] reference = refl
@@ -27,13 +30,18 @@ module _ {A : Type 0} (text_of : A → List ℕ) (base : List ℕ) (texts : List
   unfolding outcomes_of
   none ports = refl
 
-  one_more : (n : ℕ) (reference : A) → n < length references → reference ≡ get_or references n reference → map text_of (take (n + 1) references) ≡ map text_of (take n references) ++ text_of reference ∷ []
+  one_more : (n : ℕ) (reference : A) → n < length references
+      → reference ≡ get_or references n reference
+      → map text_of (take (n + 1) references)
+      ≡ map text_of (take n references) ++ text_of reference ∷ []
   one_more n reference h e =
       ap (map text_of) (take_more references n reference h)
       ∙ map-append text_of (take n references) (get_or references n reference ∷ [])
       ∙ ap (λ r. map text_of (take n references) ++ text_of r ∷ []) (sym e)
 
-  pub next : (ports held : PortFunction) (n : ℕ) (reference : A) (outcomes : List Outcome) (before after : List (List ℕ)) (outcome : Outcome) → n < length references → reference ≡ get_or references n reference
+  pub next : (ports held : PortFunction) (n : ℕ) (reference : A) (outcomes : List Outcome)
+      (before after : List (List ℕ)) (outcome : Outcome)
+      → n < length references → reference ≡ get_or references n reference
       → held ≡ ports → Come ports n outcomes before → outcome_of held base before (text_of reference) ≡ (outcome, after) → Come ports (n + 1) (outcomes ++ outcome ∷ []) after
   next ports held n reference outcomes before after outcome h e p come f =
       ap (outcomes_of ports base texts) (one_more n reference h e)
@@ -42,7 +50,9 @@ module _ {A : Type 0} (text_of : A → List ℕ) (base : List ℕ) (texts : List
       ∙ ap (λ (last : Outcome × List (List ℕ)). (outcomes ++ last.0 ∷ [], last.1)) (ap (λ q. outcome_of q base before (text_of reference)) (sym p) ∙ f)
 
   -- some front of the references was noted
-  pub front : {X E : Type 0} (result : Result X E) (ports : PortFunction) (n : ℕ) (outcomes : List Outcome) (after : List (List ℕ)) → Come ports n outcomes after
+  pub front : {X E : Type 0} (result : Result X E) (ports : PortFunction) (n : ℕ)
+      (outcomes : List Outcome) (after : List (List ℕ))
+      → Come ports n outcomes after
       → OnErr result ((n : ℕ) × (after ≡ (outcomes_of ports base texts (map text_of (take n references))).1))
   front (Ok _) ports n outcomes after come = tt
   front (Err _) ports n outcomes after come = (n, sym (ap (λ (all : List Outcome × List (List ℕ)). all.1) come))

@@ -1,5 +1,6 @@
 -- One more text of a register.
-use Rattle.std.proofs.Common.{◌≡◌, ℕ, Bool, true, false, String, string_bytes, List, [], ◌∷◌, ◌++◌, length, Some, None, cond, refl, sym, ap, subst, ◌∙◌}
+use Rattle.std.proofs.Common.{◌≡◌, ℕ, Bool, true, false, String, string_bytes, List, [], ◌∷◌, ◌++◌}
+use Rattle.std.proofs.Common.{length, Some, None, cond, refl, sym, ap, subst, ◌∙◌}
 use Rattle.std.specs.BTreeMap.{BTreeMap, Updates, get_by_text}
 use Rattle.std.specs.List.{IsDistinct, position}
 use Rattle.std.specs.Prelude.{bytes_eq}
@@ -20,13 +21,18 @@ pub none_distinct : (texts : List (List ℕ)) → texts ≡ [] → IsDistinct by
 unfolding IsDistinct
 none_distinct texts e = rw e tt
 
-normal_pushed : (ports : PortFunction) (texts : List (List ℕ)) (text : List ℕ) → AreNormal ports texts → normal_text (meaning_of uri ports text) ≡ text → AreNormal ports (texts ++ text ∷ [])
+normal_pushed : (ports : PortFunction) (texts : List (List ℕ)) (text : List ℕ)
+    → AreNormal ports texts → normal_text (meaning_of uri ports text) ≡ text
+    → AreNormal ports (texts ++ text ∷ [])
 normal_pushed ports texts text h e = map-append _ texts (text ∷ []) ∙ (λ i. h i ++ e i ∷ [])
 
-pub normal_after : (ports : PortFunction) (texts after : List (List ℕ)) (text : List ℕ) → after ≡ texts ++ text ∷ [] → AreNormal ports texts → normal_text (meaning_of uri ports text) ≡ text → AreNormal ports after
+pub normal_after : (ports : PortFunction) (texts after : List (List ℕ)) (text : List ℕ)
+    → after ≡ texts ++ text ∷ [] → AreNormal ports texts
+    → normal_text (meaning_of uri ports text) ≡ text → AreNormal ports after
 normal_after ports texts after text a h e = subst (AreNormal ports) (sym a) (normal_pushed ports texts text h e)
 
-pub distinct_after : (texts after : List (List ℕ)) (text : List ℕ) → after ≡ texts ++ text ∷ [] → IsDistinct bytes_eq texts → position (bytes_eq text) texts ≡ None → IsDistinct bytes_eq after
+pub distinct_after : (texts after : List (List ℕ)) (text : List ℕ) → after ≡ texts ++ text ∷ []
+    → IsDistinct bytes_eq texts → position (bytes_eq text) texts ≡ None → IsDistinct bytes_eq after
 distinct_after texts after text a h e = subst (IsDistinct bytes_eq) (sym a) (IsDistinct-push nat_list_eq_equiv texts text h (none (bytes_eq text) texts e))
 
 place_pushed : (texts : List (List ℕ)) (text other : List ℕ) → position (bytes_eq text) texts ≡ None
@@ -40,7 +46,9 @@ place_pushed texts text other e =
     ] in
     equal (bytes_eq text other) refl
 
-pub place_after : {Y : Type 0} (texts after : List (List ℕ)) (key : String Y) (old new : BTreeMap (String Y) ℕ) (text : List ℕ) (id : ℕ) → after ≡ texts ++ text ∷ [] → string_bytes key ≡ text → id ≡ length texts
+pub place_after : {Y : Type 0} (texts after : List (List ℕ)) (key : String Y)
+    (old new : BTreeMap (String Y) ℕ) (text : List ℕ) (id : ℕ)
+    → after ≡ texts ++ text ∷ [] → string_bytes key ≡ text → id ≡ length texts
     → Updates string_cmp old new key (Some id) → ((other : List ℕ) → get_by_text old other ≡ position (bytes_eq other) texts) → position (bytes_eq text) texts ≡ None
     → (other : List ℕ) → get_by_text new other ≡ position (bytes_eq other) after
 place_after texts after key old new text id a k l u h e other =

@@ -2,15 +2,18 @@
 use Rattle.std.proofs.Common.{◌≡◌, true, false, [], ◌∷◌, refl}
 use Rattle.std.specs.Prelude.{codes, map, replicate, Some, None}
 use Rattle.std.specs.List.{list_any, list_all}
-use Rattle.std.specs.Net.Reader.{read_ipv4, read_ipv6, read_segments, read_segment, read_number, read_octet}
+use Rattle.std.specs.Net.Reader.{read_ipv4, read_ipv6, read_segments, read_segment, read_number}
+use Rattle.std.specs.Net.Reader.{read_octet}
 use Rattle.std.specs.Str.{chars}
 use Rattle.uri_pct.specs.Sets.{userinfo_set, reg_name_set}
 use Rattle.uri_pct.specs.Tokens as Tokens
 use Rattle.uri_pct.specs.Tokens.{tokens_of}
-use Rattle.uri_parts.specs.Hosts.{Ipv4, Ipv6, IpvFuture, RegName, host_kind, is_host, ipv4_value, ipv6_value, is_ipv_future}
+use Rattle.uri_parts.specs.Hosts.{Ipv4, Ipv6, IpvFuture, RegName, host_kind, is_host, ipv4_value}
+use Rattle.uri_parts.specs.Hosts.{ipv6_value, is_ipv_future}
 use Rattle.uri_parts.specs.Authority.{authority_parts, is_authority_for}
 
-user_host_port : authority_parts (codes "u@h:80") ≡ record { userinfo = Some (codes "u"); host = codes "h"; port = Some (codes "80") }
+user_host_port : authority_parts (codes "u@h:80")
+    ≡ record { userinfo = Some (codes "u"); host = codes "h"; port = Some (codes "80") }
 user_host_port = refl
 
 all_empty : authority_parts (codes "@:") ≡ record { userinfo = Some []; host = []; port = Some [] }
@@ -19,13 +22,16 @@ all_empty = refl
 nothing : authority_parts [] ≡ record { userinfo = None; host = []; port = None }
 nothing = refl
 
-colon_in_userinfo : authority_parts (codes "u:p@h") ≡ record { userinfo = Some (codes "u:p"); host = codes "h"; port = None }
+colon_in_userinfo : authority_parts (codes "u:p@h")
+    ≡ record { userinfo = Some (codes "u:p"); host = codes "h"; port = None }
 colon_in_userinfo = refl
 
-address_and_empty_port : authority_parts (codes "[::ffff:192.0.2.1]:") ≡ record { userinfo = None; host = codes "[::ffff:192.0.2.1]"; port = Some [] }
+address_and_empty_port : authority_parts (codes "[::ffff:192.0.2.1]:")
+    ≡ record { userinfo = None; host = codes "[::ffff:192.0.2.1]"; port = Some [] }
 address_and_empty_port = refl
 
-address_behind_userinfo : authority_parts (codes "u@[::1]:8") ≡ record { userinfo = Some (codes "u"); host = codes "[::1]"; port = Some (codes "8") }
+address_behind_userinfo : authority_parts (codes "u@[::1]:8")
+    ≡ record { userinfo = Some (codes "u"); host = codes "[::1]"; port = Some (codes "8") }
 address_behind_userinfo = refl
 
 -- the kinds of some hosts: the first that fits

@@ -1,8 +1,11 @@
 -- An authority is read exactly where the one that is cut out is taken apart, and lies where it is cut.
-use Rattle.std.proofs.Common.{◌≡◌, ℕ, ◌+◌, Bool, true, false, cond, eqb, List, [], ◌∷◌, ◌++◌, length, drop, refl, sym, ap, ◌∙◌, arith, ◌||◌, ◌&&◌, ⊎_elim, append_assoc, length-append, subst, zero-add, lit<}
+use Rattle.std.proofs.Common.{◌≡◌, ℕ, ◌+◌, Bool, true, false, cond, eqb, List, [], ◌∷◌, ◌++◌}
+use Rattle.std.proofs.Common.{length, drop, refl, sym, ap, ◌∙◌, arith, ◌||◌, ◌&&◌, ⊎_elim}
+use Rattle.std.proofs.Common.{append_assoc, length-append, subst, zero-add, lit<}
 use Rattle.std.specs.Prelude.{codes, Some, None}
 use Rattle.std.specs.Str.{IsUtf8}
-use Rattle.std.proofs.lemmas.Bool.{cases_Bool, cond-true, cond-false, and_left, and_parts, eq-eqb, ne_eqb, eqb-true, both_ways, false_from_ne_true}
+use Rattle.std.proofs.lemmas.Bool.{cases_Bool, cond-true, cond-false, and_left, and_parts, eq-eqb}
+use Rattle.std.proofs.lemmas.Bool.{ne_eqb, eqb-true, both_ways, false_from_ne_true}
 use Rattle.std.proofs.lemmas.Bool.Decides.{nat_tests}
 use Rattle.uri_pct.specs.Sets.{TableSet, digit_set}
 use Rattle.uri_pct.specs.Tokens.{is_valid_for}
@@ -24,13 +27,16 @@ use Rattle.uri_parts.proofs.Authorities.AuthorityCuts.{length-before, behind, be
 use Rattle.uri_parts.proofs.Splitting.Cuts.{IsCut-any, cut-append, before_past_other, Lacks-cons}
 use Rattle.uri_parts.proofs.HostForms.Futures.{lacks_append}
 use Rattle.uri_parts.proofs.HostForms.Hosts.{lacks_starts}
-use Rattle.uri_parts.proofs.Authorities.NamesAndPorts.{front_nil, cut_again, starts_before, utf8_before}
-use Rattle.uri_parts.proofs.Authorities.HostReading.{bare_end, bare_length, bare_host, name_bare, host_read, found_host}
+use Rattle.uri_parts.proofs.Authorities.NamesAndPorts.{front_nil, cut_again, starts_before}
+use Rattle.uri_parts.proofs.Authorities.NamesAndPorts.{utf8_before}
+use Rattle.uri_parts.proofs.Authorities.HostReading.{bare_end, bare_length, bare_host, name_bare}
+use Rattle.uri_parts.proofs.Authorities.HostReading.{host_read, found_host}
 use Rattle.uri_parts.proofs.Splitting.Relative.{stops_at}
 use Rattle.uri_parts.proofs.TextKinds.Separations.{Separates}
 use Rattle.uri_parts.proofs.TextKinds.SpeltTexts.{valid_lacks}
 use Rattle.uri_parts.proofs.Parsing.ReadingStops.{stop_cases, utf8_from, utf8_past}
-use Rattle.uri_parts.proofs.Authorities.WholeAuthorities.{reads_host_and_port, reads_whole_authority}
+use Rattle.uri_parts.proofs.Authorities.WholeAuthorities.{reads_host_and_port}
+use Rattle.uri_parts.proofs.Authorities.WholeAuthorities.{reads_whole_authority}
 use Rattle.uri_parts.proofs.Splitting.Recompose.{starts-cons}
 
 -- where an authority lies that begins at a place, with a host at another
@@ -57,13 +63,15 @@ module _ (host behind : List ℕ) (at : Lacks (codes "@") (host ++ behind)) (is_
     abbrev text : List ℕ
     text = user ++ (64 ∷ (host ++ behind))
 
-    user_cut : (before_any (codes "@") text ≡ user) × (from_any (codes "@") text ≡ 64 ∷ (host ++ behind))
+    user_cut : (before_any (codes "@") text ≡ user)
+        × (from_any (codes "@") text ≡ 64 ∷ (host ++ behind))
     user_cut = cut-append (codes "@") user (64 ∷ (host ++ behind)) outside refl
 
     has_mark : starts 64 (from_any (codes "@") text) ≡ true
     has_mark = ap (starts 64) user_cut.1
 
-    user_at : (place : ℕ) → authority_at place text ≡ places place (place + (length user + 1)) host behind
+    user_at : (place : ℕ)
+        → authority_at place text ≡ places place (place + (length user + 1)) host behind
     user_at place =
         let first : host_start_of text ≡ 1 + length user = ap (λ t. marked_length 1 (cond t (Some (before_any (codes "@") text)) None)) has_mark ∙ ap (λ t. 1 + length t) user_cut.0 in
         let host_is : (authority_parts text).host ≡ host = ap host_before (cond-true _ _ _ has_mark ∙ ap (drop 1) user_cut.1) ∙ is_host in
@@ -76,11 +84,13 @@ module _ (host behind : List ℕ) (at : Lacks (codes "@") (host ++ behind)) (is_
 -- what is found agrees with what is cut
 pub record IsFound (kind : Kind) (rest : List ℕ) : Type 0 where
   pub len : found_length kind rest ≡ length (before_any (codes "/?#") rest)
-  pub found : (place : ℕ) → found_authority kind place rest ≡ authority_at place (before_any (codes "/?#") rest)
+  pub found : (place : ℕ)
+      → found_authority kind place rest ≡ authority_at place (before_any (codes "/?#") rest)
 
 module _ (segment : TableSet) (kind : Kind) (w : Separates segment kind) where
   -- a name and a port are the front of userinfo
-  port_front : (bs : List ℕ) → front kind.userinfo bs ≡ port_length bs + front kind.userinfo (drop (port_length bs) bs)
+  port_front : (bs : List ℕ)
+      → front kind.userinfo bs ≡ port_length bs + front kind.userinfo (drop (port_length bs) bs)
   unfolding port_length
   port_front [] =
       let a : front kind.userinfo (drop (port_length []) []) ≡ 0 = front_nil kind.userinfo in
@@ -122,22 +132,27 @@ module _ (segment : TableSet) (kind : Kind) (w : Separates segment kind) where
   unfolding host_place
   literal_first rest e = ap (λ n. drop n rest) (cond-true _ _ _ e)
 
-  literal_other : (rest : List ℕ) → starts 91 rest ≡ true → finds_authority kind rest ≡ finds_host kind rest
+  literal_other : (rest : List ℕ) → starts 91 rest ≡ true
+      → finds_authority kind rest ≡ finds_host kind rest
   unfolding finds_authority finds_other
   literal_other rest e =
       ap (λ t. t || ((starts 91 rest || passes_user kind rest) && finds_host kind (from_host kind rest))) (name_bare segment kind w rest e)
       ∙ ap (λ t. (t || passes_user kind rest) && finds_host kind (from_host kind rest)) e
       ∙ ap (finds_host kind) (literal_first rest e)
 
-  name_or_user : (rest : List ℕ) → starts 91 rest ≡ false → finds_authority kind rest ≡ (finds_name kind rest || (passes_user kind rest && finds_host kind (from_host kind rest)))
+  name_or_user : (rest : List ℕ) → starts 91 rest ≡ false
+      → finds_authority kind rest
+      ≡ (finds_name kind rest || (passes_user kind rest && finds_host kind (from_host kind rest)))
   unfolding finds_authority finds_other
   name_or_user rest e = ap (λ t. finds_name kind rest || ((t || passes_user kind rest) && finds_host kind (from_host kind rest))) e
 
-  user_place : (rest : List ℕ) → starts 91 rest ≡ false → host_place kind rest ≡ front kind.userinfo rest + 1
+  user_place : (rest : List ℕ) → starts 91 rest ≡ false
+      → host_place kind rest ≡ front kind.userinfo rest + 1
   unfolding host_place
   user_place rest e = cond-false _ _ _ e ∙ ap (λ n. n + 1) (user_is rest)
 
-  user_behind : (rest : List ℕ) → starts 91 rest ≡ false → from_host kind rest ≡ drop 1 (after kind.userinfo rest)
+  user_behind : (rest : List ℕ) → starts 91 rest ≡ false
+      → from_host kind rest ≡ drop 1 (after kind.userinfo rest)
   user_behind rest e = ap (λ n. drop n rest) (user_place rest e) ∙ sym (behind (front kind.userinfo rest) 1 rest)
 
   user_passed : (rest : List ℕ) → passes_user kind rest ≡ starts 64 (after kind.userinfo rest)
@@ -145,12 +160,14 @@ module _ (segment : TableSet) (kind : Kind) (w : Separates segment kind) where
   user_passed rest = ap (λ n. starts 64 (drop n rest)) (user_is rest)
 
   -- an authority with a host alone holds no `@`
-  host_free : (rest : List ℕ) → IsUtf8 rest → finds_host kind rest ≡ true → starts 64 (from_any (codes "@") (before_any (codes "/?#") rest)) ≡ false
+  host_free : (rest : List ℕ) → IsUtf8 rest → finds_host kind rest ≡ true
+      → starts 64 (from_any (codes "@") (before_any (codes "/?#") rest)) ≡ false
   host_free rest u h =
       let f = found_host segment kind w rest u h in
       ap (λ t. starts 64 (from_any (codes "@") t)) f.text ∙ ap (starts 64) (cut-none (codes "@") (f.host ++ f.behind) f.at).1
 
-  name_is_host : (rest : List ℕ) → finds_name kind rest ≡ true → (starts 91 rest ≡ false) × (finds_host kind rest ≡ true)
+  name_is_host : (rest : List ℕ) → finds_name kind rest ≡ true
+      → (starts 91 rest ≡ false) × (finds_host kind rest ≡ true)
   name_is_host rest h =
       let e : starts 91 rest ≡ false = false_from_ne_true _ (λ t. both_ways _ (name_bare segment kind w rest t) h) in
       (e, bare_host segment kind w rest e ∙ h)
@@ -168,11 +185,14 @@ module _ (segment : TableSet) (kind : Kind) (w : Separates segment kind) where
     utf8_mark : starts 64 tail ≡ true → IsUtf8 (drop 1 tail)
     utf8_mark e = utf8_past 64 (lit< tt) tail e (utf8_from (codes "@/?#") rest (ascii_marks (codes "@/?#") refl) u)
 
-    valid_user : is_valid_for kind.userinfo (before_any (codes "@/?#") rest) ≡ eqb (front kind.userinfo rest) (to_mark (codes "@/?#") rest)
+    valid_user : is_valid_for kind.userinfo (before_any (codes "@/?#") rest) ≡ eqb (front kind.userinfo rest)
+        (to_mark (codes "@/?#") rest)
     valid_user = cut (codes "@/?#") kind.userinfo w.userinfo_lacks w.userinfo_marks rest u
 
     -- with an `@` it is userinfo, and then a host
-    with_mark : starts 64 tail ≡ true → reads_whole_authority kind.userinfo kind.reg_name cut_text ≡ (is_valid_for kind.userinfo (before_any (codes "@/?#") rest) && finds_host kind (drop 1 tail))
+    with_mark : starts 64 tail ≡ true
+        → reads_whole_authority kind.userinfo kind.reg_name cut_text
+        ≡ (is_valid_for kind.userinfo (before_any (codes "@/?#") rest) && finds_host kind (drop 1 tail))
     unfolding reads_whole_authority
     with_mark e =
         let c = cut_again 64 (codes "/?#") rest in
@@ -182,23 +202,28 @@ module _ (segment : TableSet) (kind : Kind) (w : Separates segment kind) where
         ∙ ap (λ x. is_valid_for kind.userinfo (before_any (codes "@/?#") rest) && reads_host_and_port kind.reg_name (drop 1 x)) (c.1 ∙ t)
         ∙ ap (λ x. is_valid_for kind.userinfo (before_any (codes "@/?#") rest) && x) (sym (host_read segment kind w (drop 1 tail) (utf8_mark e)))
 
-    without_mark : starts 64 tail ≡ false → reads_whole_authority kind.userinfo kind.reg_name cut_text ≡ finds_host kind rest
+    without_mark : starts 64 tail ≡ false
+        → reads_whole_authority kind.userinfo kind.reg_name cut_text ≡ finds_host kind rest
     unfolding reads_whole_authority
     without_mark e = cond-false _ _ _ (mark_is ∙ e) ∙ sym (host_read segment kind w rest u)
 
     no_host : starts 64 tail ≡ true → finds_host kind rest ≡ false
     no_host e = false_from_ne_true _ (λ h. both_ways _ (host_free rest u h) (mark_is ∙ e))
 
-    user_to_mark : starts 64 (after kind.userinfo rest) ≡ true → front kind.userinfo rest ≡ to_mark (codes "@/?#") rest
+    user_to_mark : starts 64 (after kind.userinfo rest) ≡ true
+        → front kind.userinfo rest ≡ to_mark (codes "@/?#") rest
     user_to_mark e = stops_at (codes "@/?#") 64 refl kind.userinfo w.userinfo_lacks w.userinfo_marks rest u e
 
-    literal_user : starts 91 rest ≡ true → is_valid_for kind.userinfo (before_any (codes "@/?#") rest) ≡ false
+    literal_user : starts 91 rest ≡ true
+        → is_valid_for kind.userinfo (before_any (codes "@/?#") rest) ≡ false
     literal_user e = false_from_ne_true _ (λ v.
         both_ways _
         (lacks_starts (codes "[") (before_any (codes "@/?#") rest) 91 refl (valid_lacks kind.userinfo (codes "[") w.userinfo_lacks w.userinfo_starts (before_any (codes "@/?#") rest) (utf8_before (codes "@/?#") rest (ascii_marks (codes "@/?#") refl) u) v))
         (starts_before 91 (codes "@/?#") refl rest ∙ e))
 
-    user_read : starts 91 rest ≡ false → starts 64 tail ≡ true → (passes_user kind rest && finds_host kind (from_host kind rest)) ≡ (is_valid_for kind.userinfo (before_any (codes "@/?#") rest) && finds_host kind (drop 1 tail))
+    user_read : starts 91 rest ≡ false → starts 64 tail ≡ true
+        → (passes_user kind rest && finds_host kind (from_host kind rest))
+        ≡ (is_valid_for kind.userinfo (before_any (codes "@/?#") rest) && finds_host kind (drop 1 tail))
     user_read bare e = ⊎_elim
         (λ m.
         ap (λ t. t && finds_host kind (from_host kind rest)) (user_passed rest ∙ ap (λ n. starts 64 (drop n rest)) m ∙ e)
@@ -217,7 +242,9 @@ module _ (segment : TableSet) (kind : Kind) (w : Separates segment kind) where
     or_nothing true = refl
     or_nothing false = refl
 
-    finds_user : starts 64 tail ≡ true → finds_authority kind rest ≡ (is_valid_for kind.userinfo (before_any (codes "@/?#") rest) && finds_host kind (drop 1 tail))
+    finds_user : starts 64 tail ≡ true
+        → finds_authority kind rest
+        ≡ (is_valid_for kind.userinfo (before_any (codes "@/?#") rest) && finds_host kind (drop 1 tail))
     finds_user e = ⊎_elim
         (λ b. literal_other rest b ∙ no_host e ∙ sym (and_left _ _ (literal_user b)))
         (λ b.
@@ -227,7 +254,8 @@ module _ (segment : TableSet) (kind : Kind) (w : Separates segment kind) where
         ∙ user_read b e)
         (cases_Bool (starts 91 rest))
 
-    pub accepts : finds_authority kind rest ≡ reads_whole_authority kind.userinfo kind.reg_name cut_text
+    pub accepts : finds_authority kind rest
+        ≡ reads_whole_authority kind.userinfo kind.reg_name cut_text
     accepts = ⊎_elim
         (λ e. finds_user e ∙ sym (with_mark e))
         (λ e. ⊎_elim
@@ -256,11 +284,14 @@ module _ (segment : TableSet) (kind : Kind) (w : Separates segment kind) where
               cond-true _ _ _ h ∙ same ∙ sym (ap (authority_at place) f.text ∙ bare_at f.host f.behind f.at f.cut place);
         }
 
-    other_case : finds_name kind rest ≡ false → (len : other_length kind rest ≡ length cut_text) → ((place : ℕ) → other_authority kind place rest ≡ authority_at place cut_text) → IsFound kind rest
+    other_case : finds_name kind rest ≡ false → (len : other_length kind rest ≡ length cut_text)
+        → ((place : ℕ) → other_authority kind place rest ≡ authority_at place cut_text)
+        → IsFound kind rest
     unfolding found_length found_authority
     other_case none len found = record { len = cond-false _ _ _ none ∙ len; found = λ place. cond-false _ _ _ none ∙ found place }
 
-    literal_case : finds_name kind rest ≡ false → starts 91 rest ≡ true → finds_host kind rest ≡ true → IsFound kind rest
+    literal_case : finds_name kind rest ≡ false → starts 91 rest ≡ true
+        → finds_host kind rest ≡ true → IsFound kind rest
     unfolding other_length other_authority host_place
     literal_case none e h =
         let f = found_host segment kind w rest u h in
@@ -273,7 +304,8 @@ module _ (segment : TableSet) (kind : Kind) (w : Separates segment kind) where
         let same : other_authority kind place rest ≡ places place place f.host f.behind = λ i. record { start = place; host_start = s i; host_end = s i + n i; end = s i + m i } in
         same ∙ sym (ap (authority_at place) f.text ∙ bare_at f.host f.behind f.at f.cut place))
 
-    user_case : finds_name kind rest ≡ false → starts 91 rest ≡ false → passes_user kind rest ≡ true → finds_host kind (from_host kind rest) ≡ true → IsFound kind rest
+    user_case : finds_name kind rest ≡ false → starts 91 rest ≡ false → passes_user kind rest ≡ true
+        → finds_host kind (from_host kind rest) ≡ true → IsFound kind rest
     unfolding other_length other_authority
     user_case none e passed h =
         let m = user_to_mark (sym (user_passed rest) ∙ passed) in

@@ -1,9 +1,12 @@
 -- A host and a port are read to the end of an authority exactly where what is cut out is a host and a port.
-use Rattle.std.proofs.Common.{◌≡◌, ℕ, ◌+◌, true, false, List, [], ◌∷◌, ◌++◌, length, drop, refl, sym, ap, subst, ◌∙◌, arith, ◌||◌, ◌&&◌, ⊎_elim, inl, inr, append_assoc, length-append, lit<}
+use Rattle.std.proofs.Common.{◌≡◌, ℕ, ◌+◌, true, false, List, [], ◌∷◌, ◌++◌, length, drop, refl}
+use Rattle.std.proofs.Common.{sym, ap, subst, ◌∙◌, arith, ◌||◌, ◌&&◌, ⊎_elim, inl, inr}
+use Rattle.std.proofs.Common.{append_assoc, length-append, lit<}
 use Rattle.std.specs.Prelude.{codes, is_some}
 use Rattle.std.specs.Str.{IsUtf8}
 use Rattle.std.proofs.Math.Seq.{drop-append_seam}
-use Rattle.std.proofs.lemmas.Bool.{cases_Bool, cond-false, and_left, and_parts, eq-eqb, ne_eqb, eqb-true, both_ways, false_from_ne_true}
+use Rattle.std.proofs.lemmas.Bool.{cases_Bool, cond-false, and_left, and_parts, eq-eqb, ne_eqb}
+use Rattle.std.proofs.lemmas.Bool.{eqb-true, both_ways, false_from_ne_true}
 use Rattle.std.proofs.lemmas.Bool.Decides.{nat_tests}
 use Rattle.uri_pct.specs.Sets.{TableSet, ipv_future_set}
 use Rattle.uri_pct.specs.Tokens.{is_valid_for}
@@ -18,19 +21,26 @@ use Rattle.uri_parts.specs.Models.AuthorityReading.{name_length, finds_name, hos
 use Rattle.uri_parts.specs.Models.AuthorityReading.{passes_host, finds_host}
 use Rattle.uri_parts.specs.Grammar.{Kind}
 use Rattle.uri_parts.proofs.HostForms.Addresses.{ipv6_value-sound}
-use Rattle.uri_parts.proofs.Authorities.Authority.{host_cut, lacks_nil, lacks_at_bracketed, lacks_fewer}
+use Rattle.uri_parts.proofs.Authorities.Authority.{host_cut, lacks_nil, lacks_at_bracketed}
+use Rattle.uri_parts.proofs.Authorities.Authority.{lacks_fewer}
 use Rattle.uri_parts.proofs.Authorities.AuthorityCuts.{length-before, behind}
 use Rattle.uri_parts.proofs.Splitting.Cuts.{IsCut-any, cut-append, before_past_other, Lacks-cons}
-use Rattle.uri_parts.proofs.HostForms.Futures.{ipv6_lacks, ipv_future_lacks, is_ipv_future-sound, lacks_append}
+use Rattle.uri_parts.proofs.HostForms.Futures.{ipv6_lacks, ipv_future_lacks, is_ipv_future-sound}
+use Rattle.uri_parts.proofs.HostForms.Futures.{lacks_append}
 use Rattle.uri_parts.proofs.HostForms.Hosts.{value_cases}
 use Rattle.uri_parts.proofs.TextKinds.Separations.{Separates}
 use Rattle.uri_parts.proofs.TextKinds.SpeltTexts.{utf8_apart, valid_lacks}
 use Rattle.uri_parts.proofs.Parsing.ReadingStops.{stop_cases, utf8_from, utf8_past}
-use Rattle.uri_parts.proofs.Authorities.WholeAuthorities.{is_name, ends_in_port, reads_host_and_port}
+use Rattle.uri_parts.proofs.Authorities.WholeAuthorities.{is_name, ends_in_port}
+use Rattle.uri_parts.proofs.Authorities.WholeAuthorities.{reads_host_and_port}
 use Rattle.uri_parts.proofs.Splitting.Recompose.{starts-cons}
-use Rattle.uri_parts.proofs.Authorities.NamesAndPorts.{neither, cut_again, starts_before, utf8_before, port_read, port_whole, port_stuck, port_begins, port_lacks, name_valid}
+use Rattle.uri_parts.proofs.Authorities.NamesAndPorts.{neither, cut_again, starts_before}
+use Rattle.uri_parts.proofs.Authorities.NamesAndPorts.{utf8_before, port_read, port_whole}
+use Rattle.uri_parts.proofs.Authorities.NamesAndPorts.{port_stuck, port_begins, port_lacks}
+use Rattle.uri_parts.proofs.Authorities.NamesAndPorts.{name_valid}
 
-pub literal_lacks : (marks : List ℕ) → excludes ipv_future_set marks ≡ true → (address : List ℕ) → IsUtf8 address → is_literal address ≡ true → Lacks marks address
+pub literal_lacks : (marks : List ℕ) → excludes ipv_future_set marks ≡ true → (address : List ℕ)
+    → IsUtf8 address → is_literal address ≡ true → Lacks marks address
 unfolding is_literal
 literal_lacks marks outside address u h = ⊎_elim
     (λ n. ipv_future_lacks marks outside address u (is_ipv_future-sound address (subst (λ o. (is_some o || is_ipv_future address) ≡ true) n h)))
@@ -65,7 +75,8 @@ closed rest e =
       long = long;
     }
 
-is_closed : (rest : List ℕ) → IsUtf8 rest → reads_literal rest ≡ true → starts 93 (from_any (codes "]/?#") rest) ≡ true
+is_closed : (rest : List ℕ) → IsUtf8 rest → reads_literal rest ≡ true
+    → starts 93 (from_any (codes "]/?#") rest) ≡ true
 unfolding reads_literal is_literal
 is_closed rest u h =
     let p = and_parts (starts 93 (from_any (codes "]") rest)) _ h in
@@ -110,15 +121,18 @@ pub record FoundHost (kind : Kind) (rest : List ℕ) : Type 0 where
   pub whole : host_length kind rest ≡ length (host ++ behind)
 
 module _ (segment : TableSet) (kind : Kind) (w : Separates segment kind) where
-  pub bare_end : (rest : List ℕ) → starts 91 rest ≡ false → host_end kind rest ≡ front kind.reg_name rest
+  pub bare_end : (rest : List ℕ) → starts 91 rest ≡ false
+      → host_end kind rest ≡ front kind.reg_name rest
   unfolding host_end
   bare_end rest e = cond-false _ _ _ e
 
-  pub bare_length : (rest : List ℕ) → starts 91 rest ≡ false → host_length kind rest ≡ name_length kind rest
+  pub bare_length : (rest : List ℕ) → starts 91 rest ≡ false
+      → host_length kind rest ≡ name_length kind rest
   unfolding host_length name_length
   bare_length rest e = ap (λ n. n + port_length (drop n rest)) (bare_end rest e)
 
-  pub bare_host : (rest : List ℕ) → starts 91 rest ≡ false → finds_host kind rest ≡ finds_name kind rest
+  pub bare_host : (rest : List ℕ) → starts 91 rest ≡ false
+      → finds_host kind rest ≡ finds_name kind rest
   unfolding finds_host passes_host finds_name
   bare_host rest e =
       ap (λ t. t && begins_any (codes "/?#") (drop (host_length kind rest) rest)) (cond-false _ _ _ e)
@@ -133,7 +147,9 @@ module _ (segment : TableSet) (kind : Kind) (w : Separates segment kind) where
       ap (finds_name kind) (starts-cons 91 rest e)
       ∙ ap (λ n. begins_any (codes "/?#") (drop (n + port_length (drop n (91 ∷ r))) (91 ∷ r))) none
 
-  left_of_name : (rest : List ℕ) → finds_name kind rest ≡ begins_any (codes "/?#") (drop (port_length (after kind.reg_name rest)) (after kind.reg_name rest))
+  left_of_name : (rest : List ℕ)
+      → finds_name kind rest ≡ begins_any (codes "/?#")
+      (drop (port_length (after kind.reg_name rest)) (after kind.reg_name rest))
   unfolding finds_name name_length
   left_of_name rest = ap (begins_any (codes "/?#")) (sym (behind (front kind.reg_name rest) (port_length (after kind.reg_name rest)) rest))
 
@@ -152,7 +168,8 @@ module _ (segment : TableSet) (kind : Kind) (w : Separates segment kind) where
   utf8_behind : (rest : List ℕ) → IsUtf8 rest → IsUtf8 (from_any (codes ":/?#") rest)
   utf8_behind rest u = utf8_from (codes ":/?#") rest (ascii_marks (codes ":/?#") refl) u
 
-  name_read : (rest : List ℕ) → IsUtf8 rest → starts 91 rest ≡ false → finds_name kind rest ≡ reads_host_and_port kind.reg_name (before_any (codes "/?#") rest)
+  name_read : (rest : List ℕ) → IsUtf8 rest → starts 91 rest ≡ false
+      → finds_name kind rest ≡ reads_host_and_port kind.reg_name (before_any (codes "/?#") rest)
   name_read rest u e =
       let right = name_cut rest u e in
       let valid = cut (codes ":/?#") kind.reg_name w.reg_name_lacks w.reg_name_colon rest u in
@@ -167,7 +184,9 @@ module _ (segment : TableSet) (kind : Kind) (w : Separates segment kind) where
       ∙ sym (right ∙ and_left _ _ (valid ∙ ne_eqb _ _ s.apart)))
       (stop_cases (codes ":/?#") kind.reg_name w.reg_name_lacks w.reg_name_colon rest u)
 
-  literal_cut : (rest : List ℕ) → reads_host_and_port kind.reg_name (before_any (codes "/?#") (91 ∷ rest)) ≡ (starts 93 (from_any (codes "]/?#") rest) && (is_literal (before_any (codes "]/?#") rest) && ends_in_port (drop 1 (before_any (codes "/?#") (from_any (codes "]/?#") rest)))))
+  literal_cut : (rest : List ℕ)
+      → reads_host_and_port kind.reg_name (before_any (codes "/?#") (91 ∷ rest))
+      ≡ (starts 93 (from_any (codes "]/?#") rest) && (is_literal (before_any (codes "]/?#") rest) && ends_in_port (drop 1 (before_any (codes "/?#") (from_any (codes "]/?#") rest)))))
   unfolding reads_host_and_port
   literal_cut rest =
       let text : List ℕ = before_any (codes "/?#") rest in
@@ -180,7 +199,9 @@ module _ (segment : TableSet) (kind : Kind) (w : Separates segment kind) where
       ∙ ap (λ t. t && (is_literal address && ends_in_port (drop 1 (before_any (codes "/?#") from)))) (starts_before 93 (codes "/?#") refl from)
 
   -- behind the address the port is read
-  left_of_literal : (rest : List ℕ) → IsUtf8 rest → (c : IsClosed rest) → finds_host kind (91 ∷ rest) ≡ (reads_literal rest && begins_any (codes "/?#") (drop (port_length c.tail) c.tail))
+  left_of_literal : (rest : List ℕ) → IsUtf8 rest → (c : IsClosed rest)
+      → finds_host kind (91 ∷ rest)
+      ≡ (reads_literal rest && begins_any (codes "/?#") (drop (port_length c.tail) c.tail))
   unfolding finds_host passes_host host_length host_end
   left_of_literal rest u c =
       let end : ℕ = 1 + literal_length rest in
@@ -191,7 +212,9 @@ module _ (segment : TableSet) (kind : Kind) (w : Separates segment kind) where
   unfolding finds_host passes_host
   no_literal rest e = and_left _ _ e
 
-  literal_read : (rest : List ℕ) → IsUtf8 rest → finds_host kind (91 ∷ rest) ≡ reads_host_and_port kind.reg_name (before_any (codes "/?#") (91 ∷ rest))
+  literal_read : (rest : List ℕ) → IsUtf8 rest
+      → finds_host kind (91 ∷ rest)
+      ≡ reads_host_and_port kind.reg_name (before_any (codes "/?#") (91 ∷ rest))
   literal_read rest u = ⊎_elim
       (λ e.
       let c = closed rest e in
@@ -205,7 +228,8 @@ module _ (segment : TableSet) (kind : Kind) (w : Separates segment kind) where
       (λ e. no_literal rest (false_from_ne_true _ (λ h. both_ways _ e (is_closed rest u h))) ∙ sym (literal_cut rest ∙ and_left _ _ e))
       (cases_Bool (starts 93 (from_any (codes "]/?#") rest)))
 
-  pub host_read : (rest : List ℕ) → IsUtf8 rest → finds_host kind rest ≡ reads_host_and_port kind.reg_name (before_any (codes "/?#") rest)
+  pub host_read : (rest : List ℕ) → IsUtf8 rest
+      → finds_host kind rest ≡ reads_host_and_port kind.reg_name (before_any (codes "/?#") rest)
   host_read rest u = ⊎_elim
       (λ e.
       let r = starts-cons 91 rest e in
@@ -213,12 +237,14 @@ module _ (segment : TableSet) (kind : Kind) (w : Separates segment kind) where
       (λ e. bare_host rest e ∙ name_read rest u e)
       (cases_Bool (starts 91 rest))
 
-  name_whole : (rest : List ℕ) (i j : ℕ) → front kind.reg_name rest ≡ i → port_length (after kind.reg_name rest) ≡ j → name_length kind rest ≡ i + j
+  name_whole : (rest : List ℕ) (i j : ℕ) → front kind.reg_name rest ≡ i
+      → port_length (after kind.reg_name rest) ≡ j → name_length kind rest ≡ i + j
   unfolding name_length
   name_whole rest i j n k = omega (arith, n, k)
 
   -- where it lies
-  name_found : (rest : List ℕ) → IsUtf8 rest → starts 91 rest ≡ false → finds_name kind rest ≡ true → FoundHost kind rest
+  name_found : (rest : List ℕ) → IsUtf8 rest → starts 91 rest ≡ false → finds_name kind rest ≡ true
+      → FoundHost kind rest
   name_found rest u e h =
       let p = and_parts _ _ (sym (name_cut rest u e) ∙ sym (name_read rest u e) ∙ h) in
       let name : List ℕ = before_any (codes ":/?#") rest in
@@ -242,7 +268,8 @@ module _ (segment : TableSet) (kind : Kind) (w : Separates segment kind) where
         whole = bare_length rest e ∙ name_whole rest (length name) (length port) n k ∙ sym (length-append name port);
       }
 
-  literal_found : (rest : List ℕ) → IsUtf8 rest → finds_host kind (91 ∷ rest) ≡ true → FoundHost kind (91 ∷ rest)
+  literal_found : (rest : List ℕ) → IsUtf8 rest → finds_host kind (91 ∷ rest) ≡ true
+      → FoundHost kind (91 ∷ rest)
   unfolding host_end host_length
   literal_found rest u h =
       let c = closed rest (and_parts _ _ (sym (literal_cut rest) ∙ sym (literal_read rest u) ∙ h)).0 in

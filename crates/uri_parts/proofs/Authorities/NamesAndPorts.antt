@@ -1,15 +1,19 @@
 -- A name and a port are read to a mark exactly where what is cut out there is one.
-use Rattle.std.proofs.Common.{◌≡◌, ℕ, suc, ◌+◌, ◌<◌, Bool, true, false, eqb, List, [], ◌∷◌, length, drop, All, refl, sym, ap, ◌∙◌, arith, ◌||◌, ◌&&◌, ⊎_elim, inl, inr}
+use Rattle.std.proofs.Common.{◌≡◌, ℕ, suc, ◌+◌, ◌<◌, Bool, true, false, eqb, List, [], ◌∷◌, length}
+use Rattle.std.proofs.Common.{drop, All, refl, sym, ap, ◌∙◌, arith, ◌||◌, ◌&&◌, ⊎_elim, inl, inr}
 use Rattle.std.specs.Prelude.{codes, is_some}
 use Rattle.std.specs.Str.{IsUtf8}
 use Rattle.std.proofs.NetLemmas.Alphabet.{IsDigitOrDot}
 use Rattle.std.proofs.lemmas.Str.{IsUtf8-take}
-use Rattle.std.proofs.lemmas.Bool.{cases_Bool, cond-true, cond-false, and_left, and_parts, or_right, eq-eqb, ne_eqb, eqb-true, both_ways, false≢true, false_from_ne_true}
+use Rattle.std.proofs.lemmas.Bool.{cases_Bool, cond-true, cond-false, and_left, and_parts, or_right}
+use Rattle.std.proofs.lemmas.Bool.{eq-eqb, ne_eqb, eqb-true, both_ways, false≢true}
+use Rattle.std.proofs.lemmas.Bool.{false_from_ne_true}
 use Rattle.std.proofs.lemmas.Bool.Decides.{nat_tests}
 use Rattle.uri_pct.specs.Sets.{TableSet, LacksPercent, IsSubset, digit_set, reg_name_set, is_one_of}
 use Rattle.uri_pct.specs.Tokens.{is_valid_for}
 use Rattle.uri_pct.specs.Models.Fronts.{front_from, front, after}
-use Rattle.uri_pct.proofs.ValidTexts.Cuts.{to_mark, excludes, AreAscii, mark_boundary, cut, valid_where_read}
+use Rattle.uri_pct.proofs.ValidTexts.Cuts.{to_mark, excludes, AreAscii, mark_boundary, cut}
+use Rattle.uri_pct.proofs.ValidTexts.Cuts.{valid_where_read}
 use Rattle.uri_pct.proofs.ValidTexts.Fronts.{front-char}
 use Rattle.uri_parts.specs.Components.{before_any, from_any, starts, Lacks}
 use Rattle.uri_parts.specs.Hosts.{ipv4_value}
@@ -17,7 +21,8 @@ use Rattle.uri_parts.specs.Models.AuthorityReading.{begins_any, port_length}
 use Rattle.uri_parts.proofs.HostForms.Addresses.{ipv4_value-sound}
 use Rattle.uri_parts.proofs.Authorities.Authority.{lacks_nil, lacks_fewer}
 use Rattle.uri_parts.proofs.Authorities.AuthorityCuts.{length-before, behind_mark}
-use Rattle.uri_parts.proofs.Splitting.Cuts.{Begins, IsCut-any, before_at_mark, from_at_mark, before_past_other, from_past_other, Lacks-cons}
+use Rattle.uri_parts.proofs.Splitting.Cuts.{Begins, IsCut-any, before_at_mark, from_at_mark}
+use Rattle.uri_parts.proofs.Splitting.Cuts.{before_past_other, from_past_other, Lacks-cons}
 use Rattle.uri_parts.proofs.HostForms.Futures.{ipv4_digits, digit_reg_name}
 use Rattle.uri_parts.proofs.HostForms.Hosts.{value_cases}
 use Rattle.uri_parts.proofs.TextKinds.SpeltTexts.{valid_lacks}
@@ -62,7 +67,8 @@ cut_again mark marks (b ∷ bs) = ⊎_elim
     (cases_Bool (is_one_of (mark ∷ []) b)))
     (cases_Bool (is_one_of marks b))
 
-pub starts_before : (mark : ℕ) (marks : List ℕ) → is_one_of marks mark ≡ false → (bs : List ℕ) → starts mark (before_any marks bs) ≡ starts mark bs
+pub starts_before : (mark : ℕ) (marks : List ℕ) → is_one_of marks mark ≡ false → (bs : List ℕ)
+    → starts mark (before_any marks bs) ≡ starts mark bs
 starts_before mark marks none [] = refl
 starts_before mark marks none (b ∷ bs) = ⊎_elim
     (λ o. ap (starts mark) (before_at_mark marks b bs o) ∙ sym (false_from_ne_true _ (λ e. both_ways _ none (sym (ap (is_one_of marks) (eqb-true b mark e)) ∙ o))))
@@ -78,7 +84,9 @@ unfolding begins_any
 begins_is marks [] b = refl
 begins_is marks (c ∷ rest) b = b
 
-pub reads_to : (marks : List ℕ) (set : TableSet) → LacksPercent set → excludes set marks ≡ true → (bs : List ℕ) → IsUtf8 bs → begins_any marks (after set bs) ≡ is_valid_for set (before_any marks bs)
+pub reads_to : (marks : List ℕ) (set : TableSet) → LacksPercent set → excludes set marks ≡ true
+    → (bs : List ℕ) → IsUtf8 bs
+    → begins_any marks (after set bs) ≡ is_valid_for set (before_any marks bs)
 unfolding begins_any
 reads_to marks set lacks outside bs u = ⊎_elim
     (λ m. ap (λ n. begins_any marks (drop n bs)) m ∙ begins_is marks (from_any marks bs) (IsCut-any marks bs).begins ∙ sym (cut marks set lacks outside bs u ∙ eq-eqb _ _ m))
@@ -92,7 +100,9 @@ colon_plain b e = ap (is_one_of (codes "/?#")) (eqb-true b 58 e)
 colon_ascii : (b : ℕ) → eqb b 58 ≡ true → b < 128
 colon_ascii b e = let d = eqb-true b 58 e in omega arith
 
-pub port_read : (bs : List ℕ) → IsUtf8 bs → begins_any (codes "/?#") (drop (port_length bs) bs) ≡ ends_in_port (before_any (codes "/?#") bs)
+pub port_read : (bs : List ℕ) → IsUtf8 bs
+    → begins_any (codes "/?#")
+    (drop (port_length bs) bs) ≡ ends_in_port (before_any (codes "/?#") bs)
 unfolding begins_any port_length ends_in_port
 port_read [] u = refl
 port_read (b ∷ bs) u = ⊎_elim
@@ -109,7 +119,9 @@ port_read (b ∷ bs) u = ⊎_elim
     (cases_Bool (is_one_of (codes "/?#") b)))
     (cases_Bool (eqb b 58))
 
-pub port_whole : (bs : List ℕ) → IsUtf8 bs → begins_any (codes "/?#") (drop (port_length bs) bs) ≡ true → port_length bs ≡ length (before_any (codes "/?#") bs)
+pub port_whole : (bs : List ℕ) → IsUtf8 bs
+    → begins_any (codes "/?#") (drop (port_length bs) bs) ≡ true
+    → port_length bs ≡ length (before_any (codes "/?#") bs)
 unfolding begins_any port_length
 port_whole [] u h = refl
 port_whole (b ∷ bs) u h = ⊎_elim
@@ -127,7 +139,8 @@ port_whole (b ∷ bs) u h = ⊎_elim
     none ∙ sym (ap length (before_at_mark (codes "/?#") b bs o)))
     (cases_Bool (eqb b 58))
 
-pub port_stuck : (b : ℕ) (bs : List ℕ) → is_one_of (codes ":/?#") b ≡ false → begins_any (codes "/?#") (drop (port_length (b ∷ bs)) (b ∷ bs)) ≡ false
+pub port_stuck : (b : ℕ) (bs : List ℕ) → is_one_of (codes ":/?#") b ≡ false
+    → begins_any (codes "/?#") (drop (port_length (b ∷ bs)) (b ∷ bs)) ≡ false
 unfolding begins_any port_length
 port_stuck b bs o =
     let p : (eqb b 58 ≡ false) × (is_one_of (codes "/?#") b ≡ false) = (grind (arith, nat_tests), grind (arith, nat_tests)) in

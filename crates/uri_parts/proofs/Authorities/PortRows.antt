@@ -8,7 +8,8 @@ rows : length scheme_ports ≡ 44
 rows = refl
 
 -- each name is in lower case, and stands once: what its row says is its default port
-in_lower_case : map (λ row. str_to_ascii_lowercase row.0) scheme_ports ≡ map (λ row. row.0) scheme_ports
+in_lower_case : map (λ row. str_to_ascii_lowercase row.0) scheme_ports
+    ≡ map (λ row. row.0) scheme_ports
 in_lower_case = refl
 
 each_row : map (λ row. default_port row.0) scheme_ports ≡ map (λ row. Some row.1) scheme_ports

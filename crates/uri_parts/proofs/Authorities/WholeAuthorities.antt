@@ -1,8 +1,11 @@
 -- An authority that is cut out, taken apart from left to right: that is the test of the grammar.
-use Rattle.std.proofs.Common.{◌≡◌, ℕ, Bool, true, false, cond, eqb, List, [], ◌∷◌, ◌++◌, length, drop, refl, sym, ap, ◌∙◌, arith, ◌||◌, ◌&&◌, ⊎_elim, append_assoc, append-nil, length-append}
+use Rattle.std.proofs.Common.{◌≡◌, ℕ, Bool, true, false, cond, eqb, List, [], ◌∷◌, ◌++◌, length}
+use Rattle.std.proofs.Common.{drop, refl, sym, ap, ◌∙◌, arith, ◌||◌, ◌&&◌, ⊎_elim, append_assoc}
+use Rattle.std.proofs.Common.{append-nil, length-append}
 use Rattle.std.specs.Prelude.{codes, Option, Some, is_some, bytes_eq}
 use Rattle.std.specs.Option.{option_map_or}
-use Rattle.std.proofs.lemmas.Bool.{cases_Bool, cond-true, cond-false, and_left, eqb-true, eq-eqb, both_ways, false≢true, false_from_ne_true}
+use Rattle.std.proofs.lemmas.Bool.{cases_Bool, cond-true, cond-false, and_left, eqb-true, eq-eqb}
+use Rattle.std.proofs.lemmas.Bool.{both_ways, false≢true, false_from_ne_true}
 use Rattle.std.proofs.lemmas.Bool.Decides.{nat_tests}
 use Rattle.std.proofs.lemmas.Slice.Eq.{bytes_eq-Decides}
 use Rattle.uri_pct.specs.Sets.{TableSet, digit_set, is_one_of}
@@ -48,7 +51,9 @@ port_of : List ℕ → Option (List ℕ)
 port_of behind = when (starts 58 behind) (drop 1 behind)
 
 -- nothing else stands behind a host than a port
-port_ends : (behind : List ℕ) → (bytes_eq (marked (codes ":") (port_of behind) []) behind && option_map_or (is_valid_for digit_set) (port_of behind) true) ≡ ends_in_port behind
+port_ends : (behind : List ℕ)
+    → (bytes_eq (marked (codes ":") (port_of behind) []) behind && option_map_or (is_valid_for digit_set) (port_of behind) true)
+    ≡ ends_in_port behind
 unfolding port_of ends_in_port
 port_ends [] = refl
 port_ends (b ∷ rest) = ⊎_elim
@@ -75,7 +80,8 @@ three false true c = refl
 three false false c = refl
 
 -- with a host that is known, the rest is the port
-by_cut : (names : TableSet) (host behind rest : List ℕ) → host ++ behind ≡ rest → host_before rest ≡ host → behind_host rest ≡ behind →
+by_cut : (names : TableSet) (host behind rest : List ℕ) → host ++ behind ≡ rest
+    → host_before rest ≡ host → behind_host rest ≡ behind →
     host_test names rest ≡ (is_host names host && ends_in_port behind)
 unfolding host_test
 by_cut names host behind rest whole h b =
@@ -87,15 +93,18 @@ by_cut names host behind rest whole h b =
     ∙ ap (λ x. is_host names host && x) (port_ends behind)
 
 -- a host in no brackets
-name_host : (names : TableSet) (host : List ℕ) → starts 91 host ≡ false → is_host names host ≡ is_name names host
+name_host : (names : TableSet) (host : List ℕ) → starts 91 host ≡ false
+    → is_host names host ≡ is_name names host
 unfolding is_host is_name
 name_host names host e = cond-false _ _ _ e
 
-starts_front : (mark : ℕ) (front behind : List ℕ) → starts mark (front ++ behind) ≡ false → starts mark front ≡ false
+starts_front : (mark : ℕ) (front behind : List ℕ) → starts mark (front ++ behind) ≡ false
+    → starts mark front ≡ false
 starts_front mark [] behind e = refl
 starts_front mark (b ∷ front) behind e = e
 
-name_lemma : (names : TableSet) (rest : List ℕ) → starts 91 rest ≡ false → host_test names rest ≡ reads_host_and_port names rest
+name_lemma : (names : TableSet) (rest : List ℕ) → starts 91 rest ≡ false
+    → host_test names rest ≡ reads_host_and_port names rest
 unfolding reads_host_and_port
 name_lemma names rest e =
     let cut = IsCut-any (codes ":") rest in
@@ -106,7 +115,8 @@ name_lemma names rest e =
     ∙ sym (cond-false _ _ _ e)
 
 -- a host in brackets
-bracket_host : (names : TableSet) (address : List ℕ) → Lacks (codes "]") address → is_host names (bracketed address) ≡ is_literal address
+bracket_host : (names : TableSet) (address : List ℕ) → Lacks (codes "]") address
+    → is_host names (bracketed address) ≡ is_literal address
 unfolding is_host is_literal
 bracket_host names address lacks =
     let l = literal_at address lacks in
@@ -117,13 +127,15 @@ mark_is : (c : ℕ) → is_one_of (codes "]") c ≡ true → eqb c 93 ≡ true
 mark_is c m = grind (arith, nat_tests)
 
 -- `[` is no `]`
-before_bracket : (rest : List ℕ) → before_any (codes "]") (91 ∷ rest) ≡ 91 ∷ before_any (codes "]") rest
+before_bracket : (rest : List ℕ)
+    → before_any (codes "]") (91 ∷ rest) ≡ 91 ∷ before_any (codes "]") rest
 before_bracket rest = before_past_other (codes "]") 91 rest refl
 
 from_bracket : (rest : List ℕ) → from_any (codes "]") (91 ∷ rest) ≡ from_any (codes "]") rest
 from_bracket rest = from_past_other (codes "]") 91 rest refl
 
-begins_bracket : (behind : List ℕ) → Begins (codes "]") behind → starts 93 behind ≡ true → behind ≡ 93 ∷ drop 1 behind
+begins_bracket : (behind : List ℕ) → Begins (codes "]") behind → starts 93 behind ≡ true
+    → behind ≡ 93 ∷ drop 1 behind
 begins_bracket [] b e = absurd (false≢true e)
 begins_bracket (c ∷ behind) b e = ap (λ x. x ∷ behind) (eqb-true c 93 e)
 
@@ -131,7 +143,8 @@ no_bracket : (behind : List ℕ) → Begins (codes "]") behind → starts 93 beh
 no_bracket [] b e = refl
 no_bracket (c ∷ behind) b e = absurd (both_ways _ e (mark_is c b))
 
-closed_lemma : (names : TableSet) (rest : List ℕ) → starts 93 (from_any (codes "]") rest) ≡ true → host_test names (91 ∷ rest) ≡ reads_host_and_port names (91 ∷ rest)
+closed_lemma : (names : TableSet) (rest : List ℕ) → starts 93 (from_any (codes "]") rest) ≡ true
+    → host_test names (91 ∷ rest) ≡ reads_host_and_port names (91 ∷ rest)
 unfolding reads_host_and_port
 closed_lemma names rest e =
     let cut = IsCut-any (codes "]") rest in
@@ -149,7 +162,8 @@ closed_lemma names rest e =
 too_long : (rest : List ℕ) → (bracketed rest ++ []) ≡ 91 ∷ rest → ⊥
 too_long rest e = let n = ap length e in omega (arith, n, length-append rest (codes "]"), length-append (bracketed rest) [])
 
-open_lemma : (names : TableSet) (rest : List ℕ) → starts 93 (from_any (codes "]") rest) ≡ false → host_test names (91 ∷ rest) ≡ reads_host_and_port names (91 ∷ rest)
+open_lemma : (names : TableSet) (rest : List ℕ) → starts 93 (from_any (codes "]") rest) ≡ false
+    → host_test names (91 ∷ rest) ≡ reads_host_and_port names (91 ∷ rest)
 unfolding host_test reads_host_and_port port_of
 open_lemma names rest e =
     let cut = IsCut-any (codes "]") rest in
@@ -162,14 +176,16 @@ open_lemma names rest e =
     and_left _ _ (other (host_before (91 ∷ rest) ++ marked (codes ":") (port_of (behind_host (91 ∷ rest))) []) (91 ∷ rest) (λ d. too_long rest (sym text ∙ d)))
     ∙ sym (and_left _ _ e)
 
-host_lemma : (names : TableSet) (rest : List ℕ) → host_test names rest ≡ reads_host_and_port names rest
+host_lemma : (names : TableSet) (rest : List ℕ)
+    → host_test names rest ≡ reads_host_and_port names rest
 host_lemma names [] = name_lemma names [] refl
 host_lemma names (b ∷ rest) = ⊎_elim
     (λ e. ap (λ c. host_test names (c ∷ rest)) (eqb-true b 91 e) ∙ ⊎_elim (λ c. closed_lemma names rest c) (λ c. open_lemma names rest c) (cases_Bool (starts 93 (from_any (codes "]") rest))) ∙ sym (ap (λ c. reads_host_and_port names (c ∷ rest)) (eqb-true b 91 e)))
     (λ e. name_lemma names (b ∷ rest) e)
     (cases_Bool (eqb b 91))
 
-begins_at : (behind : List ℕ) → Begins (codes "@") behind → starts 64 behind ≡ true → behind ≡ 64 ∷ drop 1 behind
+begins_at : (behind : List ℕ) → Begins (codes "@") behind → starts 64 behind ≡ true
+    → behind ≡ 64 ∷ drop 1 behind
 begins_at [] b e = absurd (false≢true e)
 begins_at (c ∷ behind) b e = ap (λ x. x ∷ behind) (eqb-true c 64 e)
 
@@ -179,7 +195,8 @@ four true false h p = refl
 four false true h p = refl
 four false false h p = refl
 
-pub authority_reads : (users names : TableSet) (text : List ℕ) → is_authority_for users names text ≡ reads_whole_authority users names text
+pub authority_reads : (users names : TableSet) (text : List ℕ)
+    → is_authority_for users names text ≡ reads_whole_authority users names text
 unfolding is_authority_for reads_whole_authority host_test port_of
 authority_reads users names text =
     let cut = IsCut-any (codes "@") text in

@@ -1,5 +1,8 @@
 -- What is read of an address, from how many hexadecimal digits come first.
-use Rattle.std.proofs.Common.{◌≡◌, ◌≢◌, ℕ, zero, suc, ◌^◌, ◌<◌, ◌≤◌, List, [], ◌∷◌, ◌++◌, length, get_or, take, drop, Option, Some, None, decimal, refl, sym, ap, ◌∙◌, arith, inl, inr, lit≤, length-take-le, take-append-drop, get_or-take, get_or-drop, add-zero, le-ltb, lt-ltb, append_assoc}
+use Rattle.std.proofs.Common.{◌≡◌, ◌≢◌, ℕ, zero, suc, ◌^◌, ◌<◌, ◌≤◌, List, [], ◌∷◌, ◌++◌, length}
+use Rattle.std.proofs.Common.{get_or, take, drop, Option, Some, None, decimal, refl, sym, ap, ◌∙◌}
+use Rattle.std.proofs.Common.{arith, inl, inr, lit≤, length-take-le, take-append-drop, get_or-take}
+use Rattle.std.proofs.Common.{get_or-drop, add-zero, le-ltb, lt-ltb, append_assoc}
 use Rattle.std.proofs.lemmas.Bool.{cases_lt}
 use Rattle.std.proofs.Math.Seq.{get_or-append_seam}
 use Rattle.std.proofs.lemmas.Fmt.{length-decimal-le}
@@ -9,14 +12,18 @@ use Rattle.std.specs.Char.{digit_value}
 use Rattle.std.specs.Str.Parse.{AllDigits, digits_value}
 use Rattle.std.specs.Net.Text.{dotted_text}
 use Rattle.std.specs.Net.Reader.{read_number, read_ipv4, read_segment}
-use Rattle.std.proofs.NetLemmas.Numbers.{NoDigit, read_number_some_at, read_number_sound, read_number_empty}
+use Rattle.std.proofs.NetLemmas.Numbers.{NoDigit, read_number_some_at, read_number_sound}
+use Rattle.std.proofs.NetLemmas.Numbers.{read_number_empty}
 use Rattle.std.proofs.NetLemmas.Ipv4.{read_ipv4_sound, read_ipv4_none}
 use Rattle.uri_parts.specs.Models.Literals.{AreHexDigits}
 
-dotted : (a b c d : ℕ) (rest : List ℕ) → dotted_text a b c d ++ rest ≡ decimal a ++ 46 ∷ (decimal b ++ 46 ∷ (decimal c ++ 46 ∷ (decimal d ++ rest)))
+dotted : (a b c d : ℕ) (rest : List ℕ)
+    → dotted_text a b c d ++ rest
+    ≡ decimal a ++ 46 ∷ (decimal b ++ 46 ∷ (decimal c ++ 46 ∷ (decimal d ++ rest)))
 dotted a b c d rest = simp append_assoc
 
-digit_at : (text : List ℕ) (i : ℕ) → AllDigits 16 text → i < length text → digit_value (get_or text i 0) < 16
+digit_at : (text : List ℕ) (i : ℕ) → AllDigits 16 text → i < length text
+    → digit_value (get_or text i 0) < 16
 digit_at [] i h l = absurd (omega arith)
 digit_at (d ∷ text) zero h l = h.0
 digit_at (d ∷ text) (suc i) h l = digit_at text i h.1 (omega arith)
@@ -33,7 +40,8 @@ module _ (text : List ℕ) (count : ℕ) (h : AreHexDigits text count) where
   stops : count < 5 → NoDigit 16 (drop count text)
   stops few = rw (get_or-drop count text 0 0, add-zero) (h.stop few)
 
-  pub group_read : 0 < count → count < 5 → read_segment text ≡ Some (digits_value 16 (take count text), drop count text)
+  pub group_read : 0 < count → count < 5
+      → read_segment text ≡ Some (digits_value 16 (take count text), drop count text)
   unfolding read_segment
   group_read some few =
       let below = digits_value-lt 16 (take count text) h.digits in
@@ -47,7 +55,8 @@ module _ (text : List ℕ) (count : ℕ) (h : AreHexDigits text count) where
   unfolding read_segment
   nothing_read none = rw (read_number_empty 16 0xffff text (rw none at (h.stop (omega arith))))
 
-  long : count ≡ 5 → (o : Option (ℕ × ℕ)) → read_number 16 0xffff text ≡ o → read_segment text ≡ None
+  long : count ≡ 5 → (o : Option (ℕ × ℕ)) → read_number 16 0xffff text ≡ o
+      → read_segment text ≡ None
   unfolding read_segment
   long five None e = rw e
   long five (Some n) e =
@@ -65,7 +74,8 @@ module _ (text : List ℕ) (count : ℕ) (h : AreHexDigits text count) where
       let next : get_or (drop count text) 0 0 ≡ get_or text count 0 = rw (get_or-drop count text 0 0, add-zero) refl in
       rw (take-append-drop count text) at (read_ipv4_none (take count text) (drop count text) h.digits (stops few) (λ e. other (sym next ∙ e)))
 
-  dotted_late : count ≡ 5 → (o : Option (List ℕ × List ℕ)) → read_ipv4 text ≡ o → read_ipv4 text ≡ None
+  dotted_late : count ≡ 5 → (o : Option (List ℕ × List ℕ)) → read_ipv4 text ≡ o
+      → read_ipv4 text ≡ None
   dotted_late five None e = e
   dotted_late five (Some p) e =
       let (front, split, w) = read_ipv4_sound text p.0 p.1 e in

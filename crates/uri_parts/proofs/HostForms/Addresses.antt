@@ -1,5 +1,7 @@
 -- The texts of IP addresses: the characters that they are made of, and the numbers that they write.
-use Rattle.std.proofs.Common.{◌≡◌, ℕ, ◌<◌, ◌≤◌, Bool, true, false, eqb, List, [], ◌∷◌, ◌++◌, length, decimal, refl, sym, ap, ◌∙◌, subst, arith, ◌||◌, inl, inr, lit≤, append-nil, Some, None}
+use Rattle.std.proofs.Common.{◌≡◌, ℕ, ◌<◌, ◌≤◌, Bool, true, false, eqb, List, [], ◌∷◌, ◌++◌, length}
+use Rattle.std.proofs.Common.{decimal, refl, sym, ap, ◌∙◌, subst, arith, ◌||◌, inl, inr, lit≤}
+use Rattle.std.proofs.Common.{append-nil, Some, None}
 use Rattle.std.specs.Prelude.{codes}
 use Rattle.std.specs.List.{list_all}
 use Rattle.std.specs.Char.{digit_value, is_ascii_hexdigit}
@@ -25,7 +27,8 @@ is_address_char c = is_ascii_hexdigit c || is_one_of (codes ":.") c
 unfoldable pub is_address_text : List ℕ → Bool
 is_address_text text = list_all is_address_char text
 
-both : (xs ys : List ℕ) → is_address_text xs ≡ true → is_address_text ys ≡ true → is_address_text (xs ++ ys) ≡ true
+both : (xs ys : List ℕ) → is_address_text xs ≡ true → is_address_text ys ≡ true
+    → is_address_text (xs ++ ys) ≡ true
 unfolding is_address_text
 both xs ys h k = list_all-append is_address_char xs ys ∙ and_from _ _ h k
 
@@ -33,7 +36,8 @@ digit_char_ok : (c : ℕ) → digit_value c < 16 → is_address_char c ≡ true
 unfolding is_address_char
 digit_char_ok c h = grind (arith, nat_tests)
 
-digits_ok : (radix : ℕ) (text : List ℕ) → radix ≤ 16 → AllDigits radix text → is_address_text text ≡ true
+digits_ok : (radix : ℕ) (text : List ℕ) → radix ≤ 16 → AllDigits radix text
+    → is_address_text text ≡ true
 unfolding is_address_text
 digits_ok radix [] le h = refl
 digits_ok radix (c ∷ text) le h = and_from _ _ (digit_char_ok c (omega arith)) (digits_ok radix text le h.1)
@@ -41,7 +45,8 @@ digits_ok radix (c ∷ text) le h = and_from _ _ (digit_char_ok c (omega arith))
 decimal_ok : (n : ℕ) → n < 256 → is_address_text (decimal n) ≡ true
 decimal_ok n h = digits_ok 10 (decimal n) (lit≤ tt) (decimal_is_IsNumeral n (omega arith)).0.1
 
-mark_ok : (is_address_text (codes ".") ≡ true) × (is_address_text (codes ":") ≡ true) × (is_address_text (codes "::") ≡ true)
+mark_ok : (is_address_text (codes ".") ≡ true) × (is_address_text (codes ":") ≡ true)
+    × (is_address_text (codes "::") ≡ true)
 unfolding is_address_text is_address_char
 mark_ok = (refl, refl, refl)
 
@@ -56,7 +61,8 @@ address_text-ipv4 text octets h =
     let second = both _ _ (both _ _ first dot) (decimal_ok h.c h.fit.2) in
     ap is_address_text h.spelled ∙ both _ _ (both _ _ second dot) (decimal_ok h.d h.fit.3)
 
-groups_ok : (ipv4 : Bool) (lead text segments : List ℕ) → is_address_text lead ≡ true → IsGroupsAfter ipv4 lead text segments → is_address_text text ≡ true
+groups_ok : (ipv4 : Bool) (lead text segments : List ℕ) → is_address_text lead ≡ true
+    → IsGroupsAfter ipv4 lead text segments → is_address_text text ≡ true
 groups_ok ipv4 lead text [] k h = ap is_address_text h ∙ nil_ok
 groups_ok ipv4 lead text (s ∷ segments) k (inl (group, rest, e, is_group, more)) =
     ap is_address_text e
@@ -64,21 +70,25 @@ groups_ok ipv4 lead text (s ∷ segments) k (inl (group, rest, e, is_group, more
 groups_ok ipv4 lead text (s ∷ segments) k (inr (last, octets, allowed, e, dotted, same)) =
     ap is_address_text e ∙ both lead last k (address_text-ipv4 last octets dotted)
 
-pub address_text-ipv6 : (text segments : List ℕ) → IsColonHex text segments → is_address_text text ≡ true
+pub address_text-ipv6 : (text segments : List ℕ) → IsColonHex text segments
+    → is_address_text text ≡ true
 address_text-ipv6 text segments (inl h) = groups_ok true [] text segments nil_ok h.0
 address_text-ipv6 text segments (inr h) =
     ap is_address_text h.spelled
     ∙ both _ _ (both _ _ (groups_ok false [] h.head_text h.head nil_ok h.head_groups) mark_ok.2) (groups_ok true [] h.tail_text h.tail nil_ok h.tail_groups)
 
 -- such a text lacks what is none of its characters
-pub address_text-lacks : (marks : List ℕ) → ((c : ℕ) → is_address_char c ≡ true → is_one_of marks c ≡ false) → (text : List ℕ) → is_address_text text ≡ true → Lacks marks text
+pub address_text-lacks : (marks : List ℕ)
+    → ((c : ℕ) → is_address_char c ≡ true → is_one_of marks c ≡ false) → (text : List ℕ)
+    → is_address_text text ≡ true → Lacks marks text
 unfolding is_address_text
 address_text-lacks marks plain [] h = λ k d l. absurd (omega arith)
 address_text-lacks marks plain (c ∷ text) h =
     let p = and_parts _ _ h in
     Lacks-cons marks c text (plain c p.0) (address_text-lacks marks plain text p.1)
 
-pub address_text-first : (c : ℕ) (text : List ℕ) → is_address_text (c ∷ text) ≡ true → is_address_char c ≡ true
+pub address_text-first : (c : ℕ) (text : List ℕ) → is_address_text (c ∷ text) ≡ true
+    → is_address_char c ≡ true
 unfolding is_address_text
 address_text-first c text h = (and_parts _ _ h).0
 
@@ -95,7 +105,8 @@ whole_read (Some (value, rest)) x e =
     let a = p.1 in
     λ i. Some (a i, q i)
 
-pub ipv4_value-complete : (text octets : List ℕ) → IsDotted text octets → ipv4_value text ≡ Some octets
+pub ipv4_value-complete : (text octets : List ℕ) → IsDotted text octets
+    → ipv4_value text ≡ Some octets
 unfolding ipv4_value
 ipv4_value-complete text octets h =
     ap (λ t. whole_value (read_ipv4 t)) (sym (append-nil text)) ∙ ap whole_value (read_ipv4_complete text octets [] h (lit≤ tt))
@@ -106,12 +117,14 @@ ipv4_value-sound text octets e =
     let (front, split, dotted) = read_ipv4_sound text octets [] (whole_read (read_ipv4 text) octets e) in
     subst (λ t. IsDotted t octets) (sym (split ∙ append-nil front)) dotted
 
-pub ipv6_value-complete : (text segments : List ℕ) → IsColonHex text segments → ipv6_value text ≡ Some segments
+pub ipv6_value-complete : (text segments : List ℕ) → IsColonHex text segments
+    → ipv6_value text ≡ Some segments
 unfolding ipv6_value
 ipv6_value-complete text segments h =
     ap (λ t. whole_value (read_ipv6 t)) (sym (append-nil text)) ∙ ap whole_value (read_ipv6_complete text segments [] h EndsGroups-nil)
 
-pub ipv6_value-sound : (text segments : List ℕ) → ipv6_value text ≡ Some segments → IsColonHex text segments
+pub ipv6_value-sound : (text segments : List ℕ) → ipv6_value text ≡ Some segments
+    → IsColonHex text segments
 unfolding ipv6_value
 ipv6_value-sound text segments e =
     let (front, split, groups) = read_ipv6_sound text segments [] (whole_read (read_ipv6 text) segments e) in

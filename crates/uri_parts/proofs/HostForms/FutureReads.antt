@@ -1,9 +1,12 @@
 -- An IPvFuture address in brackets is what is read behind its `v`.
-use Rattle.std.proofs.Common.{◌≡◌, ℕ, ◌+◌, ◌<◌, true, false, List, [], ◌∷◌, ◌++◌, length, drop, refl, sym, ap, subst, ◌∙◌, arith, ◌||◌, eqb, ⊎_elim, append_assoc, length-append, lit<}
+use Rattle.std.proofs.Common.{◌≡◌, ℕ, ◌+◌, ◌<◌, true, false, List, [], ◌∷◌, ◌++◌, length, drop}
+use Rattle.std.proofs.Common.{refl, sym, ap, subst, ◌∙◌, arith, ◌||◌, eqb, ⊎_elim, append_assoc}
+use Rattle.std.proofs.Common.{length-append, lit<}
 use Rattle.std.specs.Prelude.{codes, is_some, Result, Ok, Err, IfOk, is_ok}
 use Rattle.std.specs.Str.{IsUtf8}
 use Rattle.std.proofs.Math.Seq.{drop-append_seam}
-use Rattle.std.proofs.lemmas.Bool.{and_from, and_parts, or_right, lt-ltb, ltb-true, eq-eqb, eqb-true, both_ways, false≢true, false_from_ne_true, cases_Bool}
+use Rattle.std.proofs.lemmas.Bool.{and_from, and_parts, or_right, lt-ltb, ltb-true, eq-eqb}
+use Rattle.std.proofs.lemmas.Bool.{eqb-true, both_ways, false≢true, false_from_ne_true, cases_Bool}
 use Rattle.std.proofs.lemmas.Bool.Decides.{nat_tests}
 use Rattle.uri_pct.specs.Sets.{TableSet, LacksPercent, is_one_of, hexdig_set, ipv_future_set}
 use Rattle.uri_pct.specs.Tokens.{is_valid_for}
@@ -11,10 +14,14 @@ use Rattle.uri_pct.specs.Models.Fronts.{front}
 use Rattle.uri_pct.proofs.ValidTexts.Cuts.{to_mark, excludes, cut}
 use Rattle.uri_parts.specs.Components.{starts, before_any, from_any, Lacks}
 use Rattle.uri_parts.specs.Hosts.{IsIpvFuture, ipv6_value, is_ipv_future}
-use Rattle.uri_parts.specs.Models.Literals.{is_literal, reads_literal, literal_length, reads_marked, marked_length, behind_version, reads_future, future_length}
+use Rattle.uri_parts.specs.Models.Literals.{is_literal, reads_literal, literal_length, reads_marked}
+use Rattle.uri_parts.specs.Models.Literals.{marked_length, behind_version, reads_future}
+use Rattle.uri_parts.specs.Models.Literals.{future_length}
 use Rattle.uri_parts.proofs.Authorities.AuthorityCuts.{length-before, behind}
-use Rattle.uri_parts.proofs.HostForms.Addresses.{is_address_char, address_text-ipv6, address_text-first, ipv6_value-sound}
-use Rattle.uri_parts.proofs.HostForms.Futures.{is_ipv_future-complete, is_ipv_future-sound, ipv_future_lacks}
+use Rattle.uri_parts.proofs.HostForms.Addresses.{is_address_char, address_text-ipv6}
+use Rattle.uri_parts.proofs.HostForms.Addresses.{address_text-first, ipv6_value-sound}
+use Rattle.uri_parts.proofs.HostForms.Futures.{is_ipv_future-complete, is_ipv_future-sound}
+use Rattle.uri_parts.proofs.HostForms.Futures.{ipv_future_lacks}
 use Rattle.uri_parts.proofs.HostForms.Hosts.{value_cases}
 use Rattle.uri_parts.proofs.HostForms.LiteralTexts.{letter_of, letter_ascii}
 use Rattle.uri_parts.proofs.Parsing.ReadingStops.{stop_cases, utf8_tail}
@@ -39,14 +46,16 @@ module _ (set : TableSet) (lacks : LacksPercent set) (mark : ℕ) (ascii : mark 
   no_mark : (b : ℕ) → is_one_of (mark ∷ []) b ≡ false → eqb b mark ≡ false
   no_mark b e = grind (arith, nat_tests)
 
-  left_behind : (spelt behind : List ℕ) → drop (length spelt + 1) (spelt ++ (mark ∷ behind)) ≡ behind
+  left_behind : (spelt behind : List ℕ)
+      → drop (length spelt + 1) (spelt ++ (mark ∷ behind)) ≡ behind
   left_behind spelt behind =
       ap (λ t. drop (length spelt + 1) t) (sym (append_assoc spelt (mark ∷ []) behind))
       ∙ ap (λ n. drop n ((spelt ++ (mark ∷ [])) ++ behind)) (sym (length-append spelt (mark ∷ [])))
       ∙ drop-append_seam (spelt ++ (mark ∷ [])) behind
 
   -- reading ends at the mark
-  front_marked : (spelt behind : List ℕ) → IsUtf8 (spelt ++ (mark ∷ behind)) → is_valid_for set spelt ≡ true → front set (spelt ++ (mark ∷ behind)) ≡ length spelt
+  front_marked : (spelt behind : List ℕ) → IsUtf8 (spelt ++ (mark ∷ behind))
+      → is_valid_for set spelt ≡ true → front set (spelt ++ (mark ∷ behind)) ≡ length spelt
   front_marked spelt behind u valid =
       let rest : List ℕ = spelt ++ (mark ∷ behind) in
       let spelt_lacks = valid_lacks set (mark ∷ []) lacks outside spelt (utf8_apart spelt mark behind ascii u).0 valid in
@@ -54,14 +63,16 @@ module _ (set : TableSet) (lacks : LacksPercent set) (mark : ℕ) (ascii : mark 
       let m : front set rest ≡ to_mark (mark ∷ []) rest = eqb-true _ _ (sym (cut (mark ∷ []) set lacks outside rest u) ∙ ap (is_valid_for set) c.0 ∙ valid) in
       m ∙ sym (length-before (mark ∷ []) rest) ∙ ap length c.0
 
-  marked : (spelt behind : List ℕ) → IsUtf8 (spelt ++ (mark ∷ behind)) → 0 < length spelt → is_valid_for set spelt ≡ true →
+  marked : (spelt behind : List ℕ) → IsUtf8 (spelt ++ (mark ∷ behind)) → 0 < length spelt
+      → is_valid_for set spelt ≡ true →
       (reads_marked set mark (spelt ++ (mark ∷ behind)) ≡ true) × (drop (marked_length set (spelt ++ (mark ∷ behind))) (spelt ++ (mark ∷ behind)) ≡ behind)
   unfolding reads_marked marked_length
   marked spelt behind u some valid =
       let n = front_marked spelt behind u valid in
       rw n (and_from _ _ (lt-ltb 0 _ some) (ap (starts mark) (drop-append_seam spelt (mark ∷ behind)) ∙ eq-eqb mark mark refl), left_behind spelt behind)
 
-  read_marked : (rest : List ℕ) → IsUtf8 rest → reads_marked set mark rest ≡ true → IsMarked set mark rest
+  read_marked : (rest : List ℕ) → IsUtf8 rest → reads_marked set mark rest ≡ true
+      → IsMarked set mark rest
   unfolding reads_marked marked_length
   read_marked rest u e =
       let p = and_parts _ _ e in
@@ -85,7 +96,9 @@ module _ (set : TableSet) (lacks : LacksPercent set) (mark : ℕ) (ascii : mark 
       (stop_cases (mark ∷ []) set lacks outside rest u)
 
 -- an IPvFuture address with a `]` behind it is read as a host
-closed : (text tail : List ℕ) → Lacks (codes "]") text → is_ipv_future text ≡ true → (reads_literal (text ++ (93 ∷ tail)) ≡ true) × (literal_length (text ++ (93 ∷ tail)) ≡ length text + 1)
+closed : (text tail : List ℕ) → Lacks (codes "]") text → is_ipv_future text ≡ true
+    → (reads_literal (text ++ (93 ∷ tail)) ≡ true)
+    × (literal_length (text ++ (93 ∷ tail)) ≡ length text + 1)
 unfolding is_literal reads_literal literal_length
 closed text tail lacks future =
     let c = cut-append (codes "]") text (93 ∷ tail) lacks refl in
@@ -100,7 +113,8 @@ module _ (letter : ℕ) (v : (eqb letter 118 || eqb letter 86) ≡ true) where
   letter_other e = grind (arith, nat_tests)
 
   -- no IPv6 address begins so
-  is_future : (text : List ℕ) → is_literal (letter ∷ text) ≡ true → is_ipv_future (letter ∷ text) ≡ true
+  is_future : (text : List ℕ) → is_literal (letter ∷ text) ≡ true
+      → is_ipv_future (letter ∷ text) ≡ true
   unfolding is_literal
   is_future text e = ⊎_elim
       (λ n. subst (λ o. (is_some o || is_ipv_future (letter ∷ text)) ≡ true) n e)
@@ -112,7 +126,9 @@ module _ (letter : ℕ) (v : (eqb letter 118 || eqb letter 86) ≡ true) where
     utf8_rest = utf8_tail letter rest (letter_ascii letter v) u
 
     -- what is read is an address with a `]` behind it
-    accepted : reads_future rest ≡ true → (reads_literal (letter ∷ rest) ≡ true) × (literal_length (letter ∷ rest) ≡ 1 + future_length rest)
+    accepted : reads_future rest ≡ true
+        → (reads_literal (letter ∷ rest) ≡ true)
+        × (literal_length (letter ∷ rest) ≡ 1 + future_length rest)
     unfolding reads_future future_length
     accepted e =
         let p = and_parts _ _ e in
@@ -180,9 +196,13 @@ module _ (text : List ℕ) (start : ℕ) (u : IsUtf8 (drop start text)) (v : (st
   pub reads_at : reads_literal (drop start text) ≡ reads_future (drop (start + 1) text)
   reads_at = (lettered (drop start text) u v).0 ∙ ap reads_future past_letter
 
-  length_at : reads_future (drop (start + 1) text) ≡ true → literal_length (drop start text) ≡ 1 + future_length (drop (start + 1) text)
+  length_at : reads_future (drop (start + 1) text) ≡ true
+      → literal_length (drop start text) ≡ 1 + future_length (drop (start + 1) text)
   length_at e = (lettered (drop start text) u v).1 (ap reads_future past_letter ∙ e) ∙ ap (λ t. 1 + future_length t) past_letter
 
-  pub end_at : {E : Type 0} (result : Result ℕ E) → is_ok result ≡ reads_future (drop (start + 1) text) → IfOk result (λ end. end ≡ start + 1 + future_length (drop (start + 1) text)) → IfOk result (λ end. end ≡ start + literal_length (drop start text))
+  pub end_at : {E : Type 0} (result : Result ℕ E)
+      → is_ok result ≡ reads_future (drop (start + 1) text)
+      → IfOk result (λ end. end ≡ start + 1 + future_length (drop (start + 1) text))
+      → IfOk result (λ end. end ≡ start + literal_length (drop start text))
   end_at (Ok end) reads is = omega (arith, is, length_at (sym reads))
   end_at (Err e) reads is = tt

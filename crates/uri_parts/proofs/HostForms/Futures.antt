@@ -1,14 +1,18 @@
 -- The test of an IPvFuture address is its grammar; and what no address in brackets holds.
-use Rattle.std.proofs.Common.{◌≡◌, ℕ, zero, suc, ◌<◌, ◌^◌, Bool, true, false, not, eqb, ltb, List, [], ◌∷◌, ◌++◌, length, get_or, drop, All, refl, sym, ap, subst, ◌∙◌, arith, ◌&&◌, ⊎_elim, inl, inr}
+use Rattle.std.proofs.Common.{◌≡◌, ℕ, zero, suc, ◌<◌, ◌^◌, Bool, true, false, not, eqb, ltb, List}
+use Rattle.std.proofs.Common.{[], ◌∷◌, ◌++◌, length, get_or, drop, All, refl, sym, ap, subst, ◌∙◌}
+use Rattle.std.proofs.Common.{arith, ◌&&◌, ⊎_elim, inl, inr}
 use Rattle.std.specs.Prelude.{codes}
 use Rattle.std.specs.Char.{is_ascii_hexdigit}
 use Rattle.std.specs.Str.{IsUtf8}
 use Rattle.std.specs.Net.Grammar.{IsDotted, IsColonHex}
 use Rattle.std.proofs.lemmas.List.Elements.{All-nil, All-cons, All-append}
 use Rattle.std.proofs.NetLemmas.Alphabet.{IsDigitOrDot, All-ipv4_text}
-use Rattle.std.proofs.lemmas.Bool.{and_from, and_parts, lt-ltb, ltb-true, false≢true, both_ways, cases_Bool}
+use Rattle.std.proofs.lemmas.Bool.{and_from, and_parts, lt-ltb, ltb-true, false≢true, both_ways}
+use Rattle.std.proofs.lemmas.Bool.{cases_Bool}
 use Rattle.std.proofs.lemmas.Bool.Decides.{nat_tests}
-use Rattle.uri_pct.specs.Sets.{TableSet, LacksPercent, is_one_of, hexdig_set, reg_name_set, ipv_future_set, is_userinfo_char, is_reg_name_char}
+use Rattle.uri_pct.specs.Sets.{TableSet, LacksPercent, is_one_of, hexdig_set, reg_name_set}
+use Rattle.uri_pct.specs.Sets.{ipv_future_set, is_userinfo_char, is_reg_name_char}
 use Rattle.uri_pct.specs.Tokens.{is_valid_for}
 use Rattle.uri_pct.proofs.ValidTexts.Cuts.{excludes}
 use Rattle.uri_parts.specs.Components.{Lacks, before_any, from_any}
@@ -16,13 +20,15 @@ use Rattle.uri_parts.specs.Hosts.{IsIpvFuture, is_ipv_future, is_future_address}
 use Rattle.uri_parts.proofs.Splitting.Cuts.{cut-append, IsCut-any}
 use Rattle.uri_parts.proofs.Parsing.ReadingStops.{utf8_tail}
 use Rattle.uri_parts.proofs.TextKinds.SpeltTexts.{utf8_apart, mark_outside, valid_lacks}
-use Rattle.uri_parts.proofs.HostForms.Addresses.{is_address_char, address_text-ipv6, address_text-lacks}
+use Rattle.uri_parts.proofs.HostForms.Addresses.{is_address_char, address_text-ipv6}
+use Rattle.uri_parts.proofs.HostForms.Addresses.{address_text-lacks}
 use Rattle.uri_parts.proofs.Splitting.Recompose.{starts-cons}
 
 letter_ascii : (c : ℕ) → is_one_of (codes "vV") c ≡ true → c < 128
 letter_ascii c e = grind (arith, nat_tests)
 
-pub is_ipv_future-complete : (text : List ℕ) → IsUtf8 text → IsIpvFuture text → is_ipv_future text ≡ true
+pub is_ipv_future-complete : (text : List ℕ) → IsUtf8 text → IsIpvFuture text
+    → is_ipv_future text ≡ true
 unfolding is_ipv_future
 is_ipv_future-complete text u h =
     let tail : List ℕ = h.version ++ 46 ∷ h.address in
@@ -75,10 +81,12 @@ lacks_one marks c e = All-cons (λ c. is_one_of marks c ≡ false) c [] e (All-n
 pub lacks_append : (marks xs ys : List ℕ) → Lacks marks xs → Lacks marks ys → Lacks marks (xs ++ ys)
 lacks_append marks xs ys h k = All-append (λ c. is_one_of marks c ≡ false) xs ys h k
 
-lacks_from : (marks : List ℕ) (P : ℕ → Type 0) → ((c : ℕ) → P c → is_one_of marks c ≡ false) → (text : List ℕ) → All P text → Lacks marks text
+lacks_from : (marks : List ℕ) (P : ℕ → Type 0) → ((c : ℕ) → P c → is_one_of marks c ≡ false)
+    → (text : List ℕ) → All P text → Lacks marks text
 lacks_from marks P plain text h k d l = plain _ (h k d l)
 
-four_fit : (a b c d : ℕ) → a < 256 → b < 256 → c < 256 → d < 256 → (k : ℕ) → get_or (a ∷ b ∷ c ∷ d ∷ []) k 0 < 2 ^ 8
+four_fit : (a b c d : ℕ) → a < 256 → b < 256 → c < 256 → d < 256 → (k : ℕ)
+    → get_or (a ∷ b ∷ c ∷ d ∷ []) k 0 < 2 ^ 8
 four_fit a b c d p q r s zero = p
 four_fit a b c d p q r s (suc zero) = q
 four_fit a b c d p q r s (suc (suc zero)) = r
@@ -86,7 +94,8 @@ four_fit a b c d p q r s (suc (suc (suc zero))) = s
 four_fit a b c d p q r s (suc (suc (suc (suc k)))) = omega arith
 
 -- a character that a set holds is no mark that it excludes
-plain : (set : TableSet) (marks : List ℕ) → excludes set marks ≡ true → (c : ℕ) → set.ascii c ≡ true → is_one_of marks c ≡ false
+plain : (set : TableSet) (marks : List ℕ) → excludes set marks ≡ true → (c : ℕ) → set.ascii c ≡ true
+    → is_one_of marks c ≡ false
 plain set marks outside c e = ⊎_elim
     (λ m. absurd (both_ways _ (mark_outside set marks outside c m) e))
     (λ m. m)
@@ -98,7 +107,8 @@ ipv4_digits text octets h =
     let fits = four_fit h.a h.b h.c h.d h.fit.0 h.fit.1 h.fit.2 h.fit.3 in
     subst (All IsDigitOrDot) (sym h.spelled) (All-ipv4_text (h.a ∷ h.b ∷ h.c ∷ h.d ∷ []) fits)
 
-pub ipv4_lacks : (marks : List ℕ) → excludes reg_name_set marks ≡ true → (text octets : List ℕ) → IsDotted text octets → Lacks marks text
+pub ipv4_lacks : (marks : List ℕ) → excludes reg_name_set marks ≡ true → (text octets : List ℕ)
+    → IsDotted text octets → Lacks marks text
 ipv4_lacks marks outside text octets h = lacks_from marks IsDigitOrDot (λ c d. plain reg_name_set marks outside c (digit_reg_name c d)) text (ipv4_digits text octets h)
 
 future_percent : LacksPercent ipv_future_set
@@ -111,7 +121,8 @@ without true true false d e = e
 without true false c d e = absurd (false≢true e)
 without false b c d e = e
 
-excludes_hex : (marks : List ℕ) → excludes ipv_future_set marks ≡ true → excludes hexdig_set marks ≡ true
+excludes_hex : (marks : List ℕ) → excludes ipv_future_set marks ≡ true
+    → excludes hexdig_set marks ≡ true
 excludes_hex [] e = refl
 excludes_hex (mark ∷ marks) e =
     let p = and_parts _ _ e in

@@ -1,8 +1,10 @@
 -- The test of a host is its grammar, and a text is a host of one kind.
-use Rattle.std.proofs.Common.{◌≡◌, ℕ, true, false, eqb, List, [], ◌∷◌, ◌++◌, refl, sym, ap, subst, ◌∙◌, arith, ◌||◌, ◌&&◌, ⊎_elim, inl, inr, ◌⊎◌, Option, Some, None}
+use Rattle.std.proofs.Common.{◌≡◌, ℕ, true, false, eqb, List, [], ◌∷◌, ◌++◌, refl, sym, ap, subst}
+use Rattle.std.proofs.Common.{◌∙◌, arith, ◌||◌, ◌&&◌, ⊎_elim, inl, inr, ◌⊎◌, Option, Some, None}
 use Rattle.std.specs.Prelude.{codes, bytes_eq, is_some}
 use Rattle.std.specs.Str.{IsUtf8}
-use Rattle.std.proofs.lemmas.Bool.{and_parts, or_right, eqb-true, cond-true, cond-false, both_ways, cases_Bool}
+use Rattle.std.proofs.lemmas.Bool.{and_parts, or_right, eqb-true, cond-true, cond-false, both_ways}
+use Rattle.std.proofs.lemmas.Bool.{cases_Bool}
 use Rattle.std.proofs.lemmas.Bool.Decides.{nat_tests}
 use Rattle.std.proofs.lemmas.Slice.Eq.{bytes_eq-Decides}
 use Rattle.std.proofs.lemmas.Option.{none-some}
@@ -10,12 +12,18 @@ use Rattle.uri_pct.specs.Sets.{TableSet, LacksPercent, is_one_of, ipv_future_set
 use Rattle.uri_pct.specs.Tokens.{is_valid_for}
 use Rattle.uri_pct.proofs.ValidTexts.Cuts.{excludes}
 use Rattle.uri_parts.specs.Components.{Lacks, starts}
-use Rattle.uri_parts.specs.Hosts.{HostKind, Ipv4, Ipv6, IpvFuture, RegName, IsHost, IsIpvFuture, IsIpv4Text, bracketed, literal_of, literal_kind, name_kind, ipv4_value, ipv6_value, is_ipv_future, host_kind, is_host}
+use Rattle.uri_parts.specs.Hosts.{HostKind, Ipv4, Ipv6, IpvFuture, RegName, IsHost, IsIpvFuture}
+use Rattle.uri_parts.specs.Hosts.{IsIpv4Text, bracketed, literal_of, literal_kind, name_kind}
+use Rattle.uri_parts.specs.Hosts.{ipv4_value, ipv6_value, is_ipv_future, host_kind, is_host}
 use Rattle.uri_parts.proofs.Splitting.Cuts.{cut-append}
 use Rattle.uri_parts.proofs.TextKinds.SpeltTexts.{utf8_apart, valid_lacks}
 use Rattle.uri_parts.proofs.Parsing.ReadingStops.{utf8_tail}
-use Rattle.uri_parts.proofs.HostForms.Addresses.{is_address_char, is_address_text, address_text-ipv6, address_text-first, ipv4_value-complete, ipv4_value-sound, ipv6_value-complete, ipv6_value-sound}
-use Rattle.uri_parts.proofs.HostForms.Futures.{is_ipv_future-complete, is_ipv_future-sound, ipv4_lacks, ipv6_lacks, ipv_future_lacks}
+use Rattle.uri_parts.proofs.HostForms.Addresses.{is_address_char, is_address_text}
+use Rattle.uri_parts.proofs.HostForms.Addresses.{address_text-ipv6, address_text-first}
+use Rattle.uri_parts.proofs.HostForms.Addresses.{ipv4_value-complete, ipv4_value-sound}
+use Rattle.uri_parts.proofs.HostForms.Addresses.{ipv6_value-complete, ipv6_value-sound}
+use Rattle.uri_parts.proofs.HostForms.Futures.{is_ipv_future-complete, is_ipv_future-sound}
+use Rattle.uri_parts.proofs.HostForms.Futures.{ipv4_lacks, ipv6_lacks, ipv_future_lacks}
 
 -- a test of the value of an address
 pub value_cases : (o : Option (List ℕ)) → (o ≡ None) ⊎ ((x : List ℕ) × (o ≡ Some x))
@@ -35,14 +43,16 @@ future_no_ipv6 text h = ⊎_elim
     absurd (letter_other h.letter h.is_v (address_text-first h.letter _ (subst (λ t. is_address_text t ≡ true) h.whole ok))))
     (value_cases (ipv6_value text))
 
-pub no_ipv4 : (text : List ℕ) → ((octets : List ℕ) → ¬ (IsIpv4Text text octets)) → ipv4_value text ≡ None
+pub no_ipv4 : (text : List ℕ) → ((octets : List ℕ) → ¬ (IsIpv4Text text octets))
+    → ipv4_value text ≡ None
 no_ipv4 text h = ⊎_elim
     (λ n. n)
     (λ (octets, e). absurd (h octets (ipv4_value-sound text octets e)))
     (value_cases (ipv4_value text))
 
 -- the test, and the kind, at each shape of a text
-pub literal_at : (address : List ℕ) → Lacks (codes "]") address → literal_of (bracketed address) ≡ address
+pub literal_at : (address : List ℕ) → Lacks (codes "]") address
+    → literal_of (bracketed address) ≡ address
 literal_at address h = (cut-append (codes "]") address (codes "]") h refl).0
 
 at_literal : (names : TableSet) (address : List ℕ) → Lacks (codes "]") address →
@@ -62,20 +72,25 @@ at_name : (names : TableSet) (text : List ℕ) → starts 91 text ≡ false →
 unfolding host_kind is_host
 at_name names text e = (cond-false _ _ _ e, cond-false _ _ _ e)
 
-pub lacks_starts : (marks text : List ℕ) (c : ℕ) → is_one_of marks c ≡ true → Lacks marks text → starts c text ≡ false
+pub lacks_starts : (marks text : List ℕ) (c : ℕ) → is_one_of marks c ≡ true → Lacks marks text
+    → starts c text ≡ false
 lacks_starts marks [] c m h = refl
 lacks_starts marks (d ∷ text) c m h = ⊎_elim
     (λ e. absurd (both_ways _ (h 0 0 (omega arith)) (subst (λ x. is_one_of marks x ≡ true) (sym (eqb-true d c e)) m)))
     (λ e. e)
     (cases_Bool (eqb d c))
 
-pub literal_sound : (names : TableSet) (text address : List ℕ) → text ≡ bracketed address → (is_some (ipv6_value address) || is_ipv_future address) ≡ true → IsHost names text (literal_kind (ipv6_value address))
+pub literal_sound : (names : TableSet) (text address : List ℕ) → text ≡ bracketed address
+    → (is_some (ipv6_value address) || is_ipv_future address) ≡ true
+    → IsHost names text (literal_kind (ipv6_value address))
 literal_sound names text address e t = ⊎_elim
     (λ n. subst (λ o. IsHost names text (literal_kind o)) (sym n) (address, e, is_ipv_future-sound address (subst (λ o. (is_some o || is_ipv_future address) ≡ true) n t)))
     (λ (segments, s). subst (λ o. IsHost names text (literal_kind o)) (sym s) (address, e, ipv6_value-sound address segments s))
     (value_cases (ipv6_value address))
 
-name_sound : (names : TableSet) (text : List ℕ) → (is_some (ipv4_value text) || is_valid_for names text) ≡ true → IsHost names text (name_kind (ipv4_value text))
+name_sound : (names : TableSet) (text : List ℕ)
+    → (is_some (ipv4_value text) || is_valid_for names text) ≡ true
+    → IsHost names text (name_kind (ipv4_value text))
 name_sound names text t = ⊎_elim
     (λ n. subst (λ o. IsHost names text (name_kind o)) (sym n)
     (subst (λ o. (is_some o || is_valid_for names text) ≡ true) n t, λ octets dotted. none-some octets (sym n ∙ ipv4_value-complete text octets dotted)))
@@ -83,7 +98,8 @@ name_sound names text t = ⊎_elim
     (value_cases (ipv4_value text))
 
 -- what passes the test is a host of its kind
-pub is_host-sound : (names : TableSet) (text : List ℕ) → is_host names text ≡ true → IsHost names text (host_kind text)
+pub is_host-sound : (names : TableSet) (text : List ℕ) → is_host names text ≡ true
+    → IsHost names text (host_kind text)
 unfolding is_host host_kind
 is_host-sound names text t = ⊎_elim
     (λ s.
@@ -107,7 +123,8 @@ module _ (names : TableSet) (percent : LacksPercent names) (outside : excludes n
     pub test : is_host names text ≡ true
 
   -- a host passes the test, and is of no other kind
-  pub is_host-complete : (text : List ℕ) (host : HostKind) → IsUtf8 text → IsHost names text host → IsFound text host
+  pub is_host-complete : (text : List ℕ) (host : HostKind) → IsUtf8 text → IsHost names text host
+      → IsFound text host
   is_host-complete text (Ipv6 segments) u (address, e, groups) =
       let at = at_literal names address (ipv6_lacks (codes "]") bracket_outside address segments groups) in
       let v = ipv6_value-complete address segments groups in

@@ -1,5 +1,7 @@
 -- A text in brackets that begins with no `v` is read as an IPv6 address with `]` behind it.
-use Rattle.std.proofs.Common.{◌≡◌, ℕ, ◌+◌, ◌-◌, ◌≤◌, Bool, true, false, List, [], ◌∷◌, ◌++◌, length, drop, Option, Some, None, option_map, refl, sym, ap, ◌∙◌, arith, ◌||◌, lit≤, eqb-true, length-append, length-drop, drop_at}
+use Rattle.std.proofs.Common.{◌≡◌, ℕ, ◌+◌, ◌-◌, ◌≤◌, Bool, true, false, List, [], ◌∷◌, ◌++◌, length}
+use Rattle.std.proofs.Common.{drop, Option, Some, None, option_map, refl, sym, ap, ◌∙◌, arith, ◌||◌}
+use Rattle.std.proofs.Common.{lit≤, eqb-true, length-append, length-drop, drop_at}
 use Rattle.std.specs.Prelude.{codes, is_some}
 use Rattle.std.specs.Net.Reader.{read_ipv6}
 use Rattle.std.proofs.lemmas.Bool.{false≢true, and_parts}
@@ -27,7 +29,8 @@ ends [] e = absurd (false≢true e)
 ends (c ∷ text) e = rw (eqb-true c 93 e) ((lit≤ tt, omega arith), λ colon. absurd (omega arith))
 
 -- the address and what follows are the text
-pub follows : (rest behind : List ℕ) → Some behind ≡ left rest → (length behind ≤ length rest) × (behind ≡ drop (length rest - length behind) rest)
+pub follows : (rest behind : List ℕ) → Some behind ≡ left rest
+    → (length behind ≤ length rest) × (behind ≡ drop (length rest - length behind) rest)
 follows rest behind e =
     map_some (λ p. p.1) (read_ipv6 rest) behind (sym e) λ p read same.
     let (front, split, groups) = read_ipv6_sound rest p.0 p.1 read in
@@ -35,13 +38,15 @@ follows rest behind e =
     let size : length rest ≡ length front + length behind = ap length whole ∙ length-append front behind in
     (omega arith, rw whole (sym (drop_at front behind _ (omega (arith, length-append front behind)))))
 
-pub place_behind : (text behind : List ℕ) (start : ℕ) → start ≤ length text → Some behind ≡ left (drop start text) → behind ≡ drop (length text - length behind) text
+pub place_behind : (text behind : List ℕ) (start : ℕ) → start ≤ length text
+    → Some behind ≡ left (drop start text) → behind ≡ drop (length text - length behind) text
 place_behind text behind start within e =
     let f = follows (drop start text) behind e in
     let size = length-drop start text in
     f.1 ∙ drop-drop _ start text ∙ ap (λ n. drop n text) (omega (arith, f.0))
 
-pub accepted : (rest behind : List ℕ) → Some behind ≡ left rest → starts 93 behind ≡ true → (reads_literal rest ≡ true) × (literal_length rest + length behind ≡ length rest + 1)
+pub accepted : (rest behind : List ℕ) → Some behind ≡ left rest → starts 93 behind ≡ true
+    → (reads_literal rest ≡ true) × (literal_length rest + length behind ≡ length rest + 1)
 unfolding is_literal reads_literal literal_length
 accepted rest behind e closed =
     map_some (λ p. p.1) (read_ipv6 rest) behind (sym e) λ p read same.
@@ -50,16 +55,22 @@ accepted rest behind e closed =
     let cut = cut-append (codes "]") front behind (ipv6_lacks (codes "]") refl front p.0 groups) (begins behind closed) in
     rw (whole, cut.0, cut.1, closed, ipv6_value-complete front p.0 groups) (refl, omega (arith, length-append front behind))
 
-unlettered : (before from : List ℕ) → (starts 118 (before ++ from) || starts 86 (before ++ from)) ≡ false → is_ipv_future before ≡ false
+unlettered : (before from : List ℕ)
+    → (starts 118 (before ++ from) || starts 86 (before ++ from)) ≡ false
+    → is_ipv_future before ≡ false
 unlettered [] from e = future_unlettered [] refl
 unlettered (c ∷ before) from e = future_unlettered (c ∷ before) e
 
-value_of : (o : Option (List ℕ)) (b : Bool) → (is_some o || b) ≡ true → b ≡ false → (x : List ℕ) × (o ≡ Some x)
+value_of : (o : Option (List ℕ)) (b : Bool) → (is_some o || b) ≡ true → b ≡ false
+    → (x : List ℕ) × (o ≡ Some x)
 value_of None b e f = absurd (false≢true (sym f ∙ e))
 value_of (Some x) b e f = (x, refl)
 
 -- an address with `]` behind it is read
-closed_read : (rest : List ℕ) → (starts 118 rest || starts 86 rest) ≡ false → reads_literal rest ≡ true → (left rest ≡ Some (from_any (codes "]") rest)) × (starts 93 (from_any (codes "]") rest) ≡ true)
+closed_read : (rest : List ℕ) → (starts 118 rest || starts 86 rest) ≡ false
+    → reads_literal rest ≡ true
+    → (left rest ≡ Some (from_any (codes "]") rest))
+    × (starts 93 (from_any (codes "]") rest) ≡ true)
 unfolding is_literal reads_literal
 closed_read rest plain e =
     let cut = IsCut-any (codes "]") rest in
@@ -75,10 +86,12 @@ not_true : (b : Bool) → (b ≡ true → ⊥) → b ≡ false
 not_true true k = absurd (k refl)
 not_true false k = refl
 
-pub unread : (rest : List ℕ) → (starts 118 rest || starts 86 rest) ≡ false → None ≡ left rest → reads_literal rest ≡ false
+pub unread : (rest : List ℕ) → (starts 118 rest || starts 86 rest) ≡ false → None ≡ left rest
+    → reads_literal rest ≡ false
 unread rest plain e = not_true _ λ t. none-some _ (e ∙ (closed_read rest plain t).0)
 
-pub unclosed : (rest behind : List ℕ) → (starts 118 rest || starts 86 rest) ≡ false → Some behind ≡ left rest → starts 93 behind ≡ false → reads_literal rest ≡ false
+pub unclosed : (rest behind : List ℕ) → (starts 118 rest || starts 86 rest) ≡ false
+    → Some behind ≡ left rest → starts 93 behind ≡ false → reads_literal rest ≡ false
 unclosed rest behind plain e other = not_true _ λ t.
     let c = closed_read rest plain t in
     let same : behind ≡ from_any (codes "]") rest = same_Some _ _ (e ∙ c.0) in

@@ -5,22 +5,27 @@ use Rattle.std.specs.declared.net.ipv6_addr.Ipv6Addr.{Ipv6Addr}
 use Rattle.std.specs.Net.Addr.{ipv4_octets, ipv6_segments}
 use Rattle.std.specs.Net.Grammar.{IsIpv4Text, IsIpv6Text}
 use Rattle.uri_parts.specs.Hosts.{ipv4_value, ipv6_value}
-use Rattle.uri_parts.proofs.HostForms.Addresses.{ipv4_value-complete, ipv4_value-sound, ipv6_value-complete, ipv6_value-sound}
+use Rattle.uri_parts.proofs.HostForms.Addresses.{ipv4_value-complete, ipv4_value-sound}
+use Rattle.uri_parts.proofs.HostForms.Addresses.{ipv6_value-complete, ipv6_value-sound}
 use Rattle.uri_parts.proofs.HostForms.Hosts.{value_cases}
 
-pub ipv4_parsed : (text : List ℕ) (a : Ipv4Addr) → IsIpv4Text text a → Some (ipv4_octets a) ≡ ipv4_value text
+pub ipv4_parsed : (text : List ℕ) (a : Ipv4Addr) → IsIpv4Text text a
+    → Some (ipv4_octets a) ≡ ipv4_value text
 ipv4_parsed text a h = sym (ipv4_value-complete text (ipv4_octets a) h)
 
-pub ipv4_refused : (text : List ℕ) → ((a : Ipv4Addr) → ¬ (IsIpv4Text text a)) → None ≡ ipv4_value text
+pub ipv4_refused : (text : List ℕ) → ((a : Ipv4Addr) → ¬ (IsIpv4Text text a))
+    → None ≡ ipv4_value text
 ipv4_refused text h = ⊎_elim
     (λ n. sym n)
     (λ (octets, e). absurd (h (record { octets = octets }) (ipv4_value-sound text octets e)))
     (value_cases (ipv4_value text))
 
-pub ipv6_parsed : (text : List ℕ) (a : Ipv6Addr) → IsIpv6Text text a → Some (ipv6_segments a) ≡ ipv6_value text
+pub ipv6_parsed : (text : List ℕ) (a : Ipv6Addr) → IsIpv6Text text a
+    → Some (ipv6_segments a) ≡ ipv6_value text
 ipv6_parsed text a h = sym (ipv6_value-complete text (ipv6_segments a) h)
 
-pub ipv6_refused : (text : List ℕ) → ((a : Ipv6Addr) → ¬ (IsIpv6Text text a)) → None ≡ ipv6_value text
+pub ipv6_refused : (text : List ℕ) → ((a : Ipv6Addr) → ¬ (IsIpv6Text text a))
+    → None ≡ ipv6_value text
 ipv6_refused text h = ⊎_elim
     (λ n. sym n)
     (λ (segments, e). absurd (h (record { segments = segments }) (ipv6_value-sound text segments e)))

@@ -1,16 +1,19 @@
 -- The positions that are read are those of the components.
-use Rattle.std.proofs.Common.{◌≡◌, ℕ, ◌+◌, Bool, true, false, cond, eqb, not, List, ◌∷◌, length, get_or, drop, refl, sym, ap, ◌∙◌, arith, ◌&&◌, ⊎_elim, lit<}
+use Rattle.std.proofs.Common.{◌≡◌, ℕ, ◌+◌, Bool, true, false, cond, eqb, not, List, ◌∷◌, length}
+use Rattle.std.proofs.Common.{get_or, drop, refl, sym, ap, ◌∙◌, arith, ◌&&◌, ⊎_elim, lit<}
 use Rattle.std.specs.Prelude.{codes, Some, None, Option, option_map}
 use Rattle.std.specs.Char.{is_ascii_alphabetic}
 use Rattle.std.specs.Str.{IsUtf8}
-use Rattle.std.proofs.lemmas.Bool.{cases_Bool, cond-true, cond-false, and_left, and_from, and_parts, ne_eqb, both_ways, not_from_false, false_from_ne_true}
+use Rattle.std.proofs.lemmas.Bool.{cases_Bool, cond-true, cond-false, and_left, and_from, and_parts}
+use Rattle.std.proofs.lemmas.Bool.{ne_eqb, both_ways, not_from_false, false_from_ne_true}
 use Rattle.uri_pct.specs.Sets.{TableSet, LacksPercent, is_one_of, scheme_set}
 use Rattle.uri_pct.specs.Models.Fronts.{front, after}
 use Rattle.uri_pct.proofs.ValidTexts.Cuts.{to_mark, excludes, ascii_marks}
 use Rattle.uri_pct.proofs.ValidTexts.Fronts.{front-within}
 use Rattle.uri_parts.specs.declared.positions.Positions.{Positions}
 use Rattle.uri_parts.specs.declared.positions.AuthorityPositions.{AuthorityPositions}
-use Rattle.uri_parts.specs.Components.{before_any, from_any, starts, has_authority, has_scheme, after_authority, components, when}
+use Rattle.uri_parts.specs.Components.{before_any, from_any, starts, has_authority, has_scheme}
+use Rattle.uri_parts.specs.Components.{after_authority, components, when}
 use Rattle.uri_parts.specs.Positions.{positions_of, marked_length, authority_at}
 use Rattle.uri_parts.specs.Grammar.{Kind}
 use Rattle.uri_parts.specs.Models.AuthorityReading.{finds_authority, found_length}
@@ -25,14 +28,20 @@ use Rattle.uri_parts.proofs.TextKinds.Separations.{Separates}
 use Rattle.uri_parts.proofs.Parsing.Accepts.{fragment_stuck, end_stuck}
 use Rattle.uri_parts.proofs.Authorities.FoundAuthorities.{is_found}
 use Rattle.uri_parts.proofs.Splitting.Hierarchies.{behind_found}
-use Rattle.uri_parts.proofs.Splitting.Relative.{scheme_lacks, scheme_marks, stops_at_colon, path_after, after_within, relative_false, segment_within, relative_within}
-use Rattle.uri_parts.proofs.Parsing.Texts.{alpha_colon, slashes_first, slashes_colon, slashes_front, slashes_read}
+use Rattle.uri_parts.proofs.Splitting.Relative.{scheme_lacks, scheme_marks, stops_at_colon}
+use Rattle.uri_parts.proofs.Splitting.Relative.{path_after, after_within, relative_false}
+use Rattle.uri_parts.proofs.Splitting.Relative.{segment_within, relative_within}
+use Rattle.uri_parts.proofs.Parsing.Texts.{alpha_colon, slashes_first, slashes_colon, slashes_front}
+use Rattle.uri_parts.proofs.Parsing.Texts.{slashes_read}
 
 no_hash : (b : ℕ) → is_one_of (codes "#") b ≡ false → eqb b 35 ≡ false
 no_hash b o = ne_eqb b 35 (λ e. both_ways _ o (ap (is_one_of (codes "#")) e))
 
 -- what is read on from a longest front was cut at a mark
-front_true : (marks : List ℕ) (set : TableSet) → LacksPercent set → excludes set marks ≡ true → (test : List ℕ → Bool) → ((b : ℕ) (rest : List ℕ) → is_one_of marks b ≡ false → test (b ∷ rest) ≡ false) → (bs : List ℕ) → IsUtf8 bs → test (after set bs) ≡ true → front set bs ≡ to_mark marks bs
+front_true : (marks : List ℕ) (set : TableSet) → LacksPercent set → excludes set marks ≡ true
+    → (test : List ℕ → Bool)
+    → ((b : ℕ) (rest : List ℕ) → is_one_of marks b ≡ false → test (b ∷ rest) ≡ false)
+    → (bs : List ℕ) → IsUtf8 bs → test (after set bs) ≡ true → front set bs ≡ to_mark marks bs
 front_true marks set lacks outside test stuck bs u e = ⊎_elim (λ h. h)
     (λ s. absurd (both_ways _ (ap test s.left ∙ stuck s.byte s.rest s.other) e))
     (stop_cases marks set lacks outside bs u)
@@ -57,7 +66,9 @@ hier_layout scheme_end place rest =
     tail_positions scheme_end (option_map (authority_at (place + 2)) authority) (place + marked_length 2 authority) (after_authority rest)
 
 module _ (segment : TableSet) (kind : Kind) (w : Separates segment kind) where
-  query_case : (end : ℕ) (r : List ℕ) → IsUtf8 r → reads_end kind r ≡ true → query_end_at kind end r ≡ option_map (λ q. end + 1 + length q) (when (starts 63 r) (before_any (codes "#") (drop 1 r)))
+  query_case : (end : ℕ) (r : List ℕ) → IsUtf8 r → reads_end kind r ≡ true
+      → query_end_at kind end r ≡ option_map (λ q. end + 1 + length q)
+      (when (starts 63 r) (before_any (codes "#") (drop 1 r)))
   unfolding reads_end query_end_at
   query_case end r u h = ⊎_elim
       (λ q.
@@ -70,15 +81,19 @@ module _ (segment : TableSet) (kind : Kind) (w : Separates segment kind) where
       (λ q. cond-false _ _ _ q ∙ sym (ap (λ t. option_map (λ q. end + 1 + length q) (when t (before_any (codes "#") (drop 1 r)))) q))
       (cases_Bool (starts 63 r))
 
-  path_front : (tail : List ℕ) → IsUtf8 tail → reads_path kind tail ≡ true → front kind.path tail ≡ to_mark (codes "?#") tail
+  path_front : (tail : List ℕ) → IsUtf8 tail → reads_path kind tail ≡ true
+      → front kind.path tail ≡ to_mark (codes "?#") tail
   unfolding reads_path
   path_front tail u h = front_true (codes "?#") kind.path w.path_lacks w.path_marks (reads_end kind) (end_stuck segment kind w) tail u (and_parts _ _ h).1
 
-  path_end : (tail : List ℕ) → reads_path kind tail ≡ true → reads_end kind (after kind.path tail) ≡ true
+  path_end : (tail : List ℕ) → reads_path kind tail ≡ true
+      → reads_end kind (after kind.path tail) ≡ true
   unfolding reads_path
   path_end tail h = (and_parts _ _ h).1
 
-  path_case : (scheme_end : Option ℕ) (authority : Option AuthorityPositions) (start : ℕ) (tail : List ℕ) → IsUtf8 tail → reads_path kind tail ≡ true →
+  path_case : (scheme_end : Option ℕ) (authority : Option AuthorityPositions) (start : ℕ)
+      (tail : List ℕ)
+      → IsUtf8 tail → reads_path kind tail ≡ true →
       path_positions kind scheme_end authority start start tail ≡ tail_positions scheme_end authority start tail
   unfolding path_positions
   path_case scheme_end authority start tail u h =
@@ -92,7 +107,8 @@ module _ (segment : TableSet) (kind : Kind) (w : Separates segment kind) where
       ∙ query_case (start + length (before_any (codes "?#") tail)) rest (utf8_from (codes "?#") tail (ascii_marks (codes "?#") refl) u) (sym (ap (reads_end kind) r) ∙ path_end tail h) in
       λ i. record { scheme_end = scheme_end; authority = authority; path_start = start; path_end = end i; query_end = q i }
 
-  authority_case : (scheme_end : Option ℕ) (place : ℕ) (rest : List ℕ) → IsUtf8 rest → reads_authority kind rest ≡ true →
+  authority_case : (scheme_end : Option ℕ) (place : ℕ) (rest : List ℕ) → IsUtf8 rest
+      → reads_authority kind rest ≡ true →
       authority_positions kind scheme_end place rest ≡ tail_positions scheme_end (Some (authority_at place (before_any (codes "/?#") rest))) (place + length (before_any (codes "/?#") rest)) (from_any (codes "/?#") rest)
   unfolding reads_authority authority_positions
   authority_case scheme_end place rest u h =
@@ -108,7 +124,8 @@ module _ (segment : TableSet) (kind : Kind) (w : Separates segment kind) where
       ∙ path_case scheme_end (Some (authority_at place host)) (place + length host) (from_any (codes "/?#") rest)
       (utf8_from (codes "/?#") rest (ascii_marks (codes "/?#") refl) u) (sym (ap (reads_path kind) r) ∙ p)
 
-  slashes_case : (scheme_end : Option ℕ) (place : ℕ) (rest : List ℕ) → IsUtf8 rest → has_authority rest ≡ true → reads_authority kind (drop 2 rest) ≡ true →
+  slashes_case : (scheme_end : Option ℕ) (place : ℕ) (rest : List ℕ) → IsUtf8 rest
+      → has_authority rest ≡ true → reads_authority kind (drop 2 rest) ≡ true →
       authority_positions kind scheme_end (place + 2) (drop 2 rest) ≡ hier_layout scheme_end place rest
   slashes_case scheme_end place rest u a h =
       let host : List ℕ = before_any (codes "/?#") (drop 2 rest) in
@@ -117,7 +134,8 @@ module _ (segment : TableSet) (kind : Kind) (w : Separates segment kind) where
       ∙ ap (λ n. tail_positions scheme_end (Some (authority_at (place + 2) host)) n (from_any (codes "/?#") (drop 2 rest))) e
       ∙ sym (ap (λ t. tail_positions scheme_end (option_map (authority_at (place + 2)) (when t host)) (place + marked_length 2 (when t host)) (cond t (from_any (codes "/?#") (drop 2 rest)) rest)) a)
 
-  none_case : (scheme_end : Option ℕ) (place : ℕ) (rest : List ℕ) → IsUtf8 rest → has_authority rest ≡ false → reads_path kind rest ≡ true →
+  none_case : (scheme_end : Option ℕ) (place : ℕ) (rest : List ℕ) → IsUtf8 rest
+      → has_authority rest ≡ false → reads_path kind rest ≡ true →
       path_positions kind scheme_end None place place rest ≡ hier_layout scheme_end place rest
   none_case scheme_end place rest u a h =
       let host : List ℕ = before_any (codes "/?#") (drop 2 rest) in
@@ -126,7 +144,9 @@ module _ (segment : TableSet) (kind : Kind) (w : Separates segment kind) where
       ∙ ap (λ n. tail_positions scheme_end None n rest) e
       ∙ sym (ap (λ t. tail_positions scheme_end (option_map (authority_at (place + 2)) (when t host)) (place + marked_length 2 (when t host)) (cond t (from_any (codes "/?#") (drop 2 rest)) rest)) a)
 
-  hier_case : (scheme_end : Option ℕ) (place : ℕ) (rest : List ℕ) → IsUtf8 rest → reads_hier kind rest ≡ true → hier_positions kind scheme_end place rest ≡ hier_layout scheme_end place rest
+  hier_case : (scheme_end : Option ℕ) (place : ℕ) (rest : List ℕ) → IsUtf8 rest
+      → reads_hier kind rest ≡ true
+      → hier_positions kind scheme_end place rest ≡ hier_layout scheme_end place rest
   unfolding reads_hier hier_positions
   hier_case scheme_end place rest u h = ⊎_elim
       (λ a. cond-true _ _ _ a ∙ slashes_case scheme_end place rest u a (sym (cond-true _ _ _ a) ∙ h))
@@ -134,7 +154,9 @@ module _ (segment : TableSet) (kind : Kind) (w : Separates segment kind) where
       (cases_Bool (has_authority rest))
 
   -- the path runs from the beginning of the text, in how many pieces it is read
-  relative_same : (text : List ℕ) → relative_positions segment kind (front scheme_set text) (after scheme_set text) ≡ path_positions kind None None 0 0 text
+  relative_same : (text : List ℕ)
+      → relative_positions segment kind (front scheme_set text)
+      (after scheme_set text) ≡ path_positions kind None None 0 0 text
   unfolding relative_positions path_positions
   relative_same text =
       let inner : List ℕ = after segment (after scheme_set text) in
@@ -145,11 +167,13 @@ module _ (segment : TableSet) (kind : Kind) (w : Separates segment kind) where
       let e : front scheme_set text + front segment (after scheme_set text) + front kind.path inner ≡ 0 + front kind.path text = omega arith in
       λ i. record { scheme_end = None; authority = None; path_start = 0; path_end = e i; query_end = query_end_at kind (e i) (a i) }
 
-  relative_path : (text : List ℕ) → reads_relative segment kind text ≡ true → reads_path kind text ≡ true
+  relative_path : (text : List ℕ) → reads_relative segment kind text ≡ true
+      → reads_path kind text ≡ true
   unfolding reads_relative
   relative_path text h = sym (path_after segment kind w text) ∙ (and_parts _ _ (and_parts (not (is_stray segment (after segment text))) _ h).1).1
 
-  schemeless_case : (text : List ℕ) → IsUtf8 text → reads_schemeless segment kind (front scheme_set text) (after scheme_set text) ≡ true →
+  schemeless_case : (text : List ℕ) → IsUtf8 text
+      → reads_schemeless segment kind (front scheme_set text) (after scheme_set text) ≡ true →
       schemeless_positions segment kind (front scheme_set text) (after scheme_set text) ≡ hier_layout None 0 text
   unfolding reads_schemeless schemeless_positions
   schemeless_case text u h = ⊎_elim
@@ -163,7 +187,9 @@ module _ (segment : TableSet) (kind : Kind) (w : Separates segment kind) where
       (cases_Bool (has_authority text))
 
   -- where there is no colon behind the characters of a scheme, there is no scheme
-  no_scheme : (text : List ℕ) → IsUtf8 text → starts 58 (after scheme_set text) ≡ false → reads_schemeless segment kind (front scheme_set text) (after scheme_set text) ≡ true → has_scheme text ≡ false
+  no_scheme : (text : List ℕ) → IsUtf8 text → starts 58 (after scheme_set text) ≡ false
+      → reads_schemeless segment kind (front scheme_set text) (after scheme_set text) ≡ true
+      → has_scheme text ≡ false
   unfolding reads_schemeless
   no_scheme text u s h = ⊎_elim
       (λ a. ap (λ r. starts 58 r && not (starts 58 text)) (slashes_first text a) ∙ and_left _ _ (slashes_colon text a))
@@ -176,12 +202,15 @@ module _ (segment : TableSet) (kind : Kind) (w : Separates segment kind) where
       let s : List ℕ = before_any (codes ":/?#") text in
       ap (λ t. hier_layout (option_map length (when t s)) (marked_length 1 (when t s)) (cond t (drop 1 (from_any (codes ":/?#") text)) text)) e
 
-  layout_none : (text : List ℕ) → has_scheme text ≡ false → positions_of (components text) ≡ hier_layout None 0 text
+  layout_none : (text : List ℕ) → has_scheme text ≡ false
+      → positions_of (components text) ≡ hier_layout None 0 text
   layout_none text e =
       let s : List ℕ = before_any (codes ":/?#") text in
       ap (λ t. hier_layout (option_map length (when t s)) (marked_length 1 (when t s)) (cond t (drop 1 (from_any (codes ":/?#") text)) text)) e
 
-  scheme_case : (text : List ℕ) → IsUtf8 text → starts 58 (after scheme_set text) ≡ true → (is_ascii_alphabetic (get_or text 0 0) && reads_hier kind (drop 1 (after scheme_set text))) ≡ true
+  scheme_case : (text : List ℕ) → IsUtf8 text → starts 58 (after scheme_set text) ≡ true
+      → (is_ascii_alphabetic (get_or text 0 0) && reads_hier kind (drop 1 (after scheme_set text)))
+      ≡ true
       → hier_positions kind (Some (front scheme_set text)) (front scheme_set text + 1) (drop 1 (after scheme_set text)) ≡ positions_of (components text)
   scheme_case text u s h =
       let p = and_parts _ _ h in
@@ -199,7 +228,8 @@ module _ (segment : TableSet) (kind : Kind) (w : Separates segment kind) where
       ∙ ap (λ r. hier_layout (Some (length (before_any (codes ":/?#") text))) (1 + length (before_any (codes ":/?#") text)) (drop 1 r)) back
       ∙ sym (layout_some text has)
 
-  pub positions_read : (text : List ℕ) → IsUtf8 text → reads segment kind text ≡ true → read_positions segment kind text ≡ positions_of (components text)
+  pub positions_read : (text : List ℕ) → IsUtf8 text → reads segment kind text ≡ true
+      → read_positions segment kind text ≡ positions_of (components text)
   unfolding reads read_positions
   positions_read text u h = ⊎_elim
       (λ s. cond-true _ _ _ s ∙ scheme_case text u s (sym (cond-true _ _ _ s) ∙ h))

@@ -1,26 +1,35 @@
 -- A whole text is read where it is of its kind.
-use Rattle.std.proofs.Common.{◌≡◌, ℕ, Bool, true, false, cond, eqb, not, List, [], ◌∷◌, get_or, drop, refl, sym, ap, ◌∙◌, ◌||◌, ◌&&◌, ⊎_elim, lit<}
+use Rattle.std.proofs.Common.{◌≡◌, ℕ, Bool, true, false, cond, eqb, not, List, [], ◌∷◌, get_or}
+use Rattle.std.proofs.Common.{drop, refl, sym, ap, ◌∙◌, ◌||◌, ◌&&◌, ⊎_elim, lit<}
 use Rattle.std.specs.Prelude.{codes, is_some}
 use Rattle.std.specs.Char.{is_ascii_alphabetic}
 use Rattle.std.specs.Str.{IsUtf8}
-use Rattle.std.proofs.lemmas.Bool.{cases_Bool, cond-true, cond-false, and_left, and_right, and_from, and_parts, eq-eqb, eqb-true, ne_eqb, not_from_true, not_from_false, not-true, both_ways, false≢true, false_from_ne_true, or_left}
+use Rattle.std.proofs.lemmas.Bool.{cases_Bool, cond-true, cond-false, and_left, and_right, and_from}
+use Rattle.std.proofs.lemmas.Bool.{and_parts, eq-eqb, eqb-true, ne_eqb, not_from_true}
+use Rattle.std.proofs.lemmas.Bool.{not_from_false, not-true, both_ways, false≢true}
+use Rattle.std.proofs.lemmas.Bool.{false_from_ne_true, or_left}
 use Rattle.uri_pct.specs.Sets.{TableSet, is_one_of, scheme_set}
 use Rattle.uri_pct.specs.Tokens.{is_valid_for}
 use Rattle.uri_pct.specs.Models.Fronts.{front, after}
 use Rattle.uri_pct.proofs.ValidTexts.Cuts.{ascii_marks, to_mark, cut, front_zero_mark}
-use Rattle.uri_parts.specs.Components.{before_any, from_any, starts, has_authority, has_scheme, after_scheme, after_authority, components, when}
-use Rattle.uri_parts.specs.Grammar.{Kind, if_some, is_scheme, is_authority, has_colon_first, is_of_kind}
+use Rattle.uri_parts.specs.Components.{before_any, from_any, starts, has_authority, has_scheme}
+use Rattle.uri_parts.specs.Components.{after_scheme, after_authority, components, when}
+use Rattle.uri_parts.specs.Grammar.{Kind, if_some, is_scheme, is_authority, has_colon_first}
+use Rattle.uri_parts.specs.Grammar.{is_of_kind}
 use Rattle.uri_parts.specs.Models.Reading.{reads_path, reads_authority, reads_relative, reads_hier}
 use Rattle.uri_parts.specs.Models.Reading.{reads_schemeless, reads}
 use Rattle.uri_parts.proofs.Parsing.ReadingStops.{utf8_from, utf8_past, utf8_slashes}
 use Rattle.uri_parts.proofs.TextKinds.Separations.{Separates}
 use Rattle.uri_parts.proofs.Parsing.Accepts.{fragment_ok, end_ok, path_lemma}
 use Rattle.uri_parts.proofs.Splitting.Hierarchies.{rest_ok, hier_lemma, slashes_lemma}
-use Rattle.uri_parts.proofs.Splitting.Relative.{scheme_lacks, scheme_marks, stops_at_colon, colon_first, relative_lemma, relative_false, relative_within}
+use Rattle.uri_parts.proofs.Splitting.Relative.{scheme_lacks, scheme_marks, stops_at_colon}
+use Rattle.uri_parts.proofs.Splitting.Relative.{colon_first, relative_lemma, relative_false}
+use Rattle.uri_parts.proofs.Splitting.Relative.{relative_within}
 use Rattle.uri_parts.proofs.Splitting.Cuts.{before_past_other, from_at_mark}
 use Rattle.uri_pct.proofs.Tests.{and_true}
 
-regroup : (a b p q f c : Bool) → (((((a && b) && p) && q) && f) && c) ≡ (a && (c && (b && (p && (q && f)))))
+regroup : (a b p q f c : Bool)
+    → (((((a && b) && p) && q) && f) && c) ≡ (a && (c && (b && (p && (q && f)))))
 regroup false b p q f c = refl
 regroup true false p q f true = refl
 regroup true false p q f false = refl
@@ -51,7 +60,8 @@ slashes_front [] e = absurd (false≢true e)
 slashes_front (b ∷ rest) e = front_zero_mark (codes ":/?#") scheme_set scheme_lacks scheme_marks b rest (ap (is_one_of (codes ":/?#")) (eqb-true b 47 (and_parts _ _ e).0))
 
 -- slashes are next behind no character of a scheme exactly where the text begins with them
-pub slashes_read : (text : List ℕ) → (eqb (front scheme_set text) 0 && has_authority (after scheme_set text)) ≡ has_authority text
+pub slashes_read : (text : List ℕ)
+    → (eqb (front scheme_set text) 0 && has_authority (after scheme_set text)) ≡ has_authority text
 slashes_read text = ⊎_elim
     (λ a. let z = slashes_front text a in and_from _ _ (eq-eqb _ 0 z) (ap (λ n. has_authority (drop n text)) z ∙ a) ∙ sym a)
     (λ a. ⊎_elim
@@ -60,11 +70,13 @@ slashes_read text = ⊎_elim
     (cases_Bool (eqb (front scheme_set text) 0)))
     (cases_Bool (has_authority text))
 
-pub alpha_colon : (text : List ℕ) → starts 58 text ≡ true → is_ascii_alphabetic (get_or text 0 0) ≡ false
+pub alpha_colon : (text : List ℕ) → starts 58 text ≡ true
+    → is_ascii_alphabetic (get_or text 0 0) ≡ false
 alpha_colon [] e = absurd (false≢true e)
 alpha_colon (b ∷ rest) e = ap is_ascii_alphabetic (eqb-true b 58 e)
 
-pub behind_some : (text : List ℕ) → has_scheme text ≡ true → after_scheme text ≡ drop 1 (from_any (codes ":/?#") text)
+pub behind_some : (text : List ℕ) → has_scheme text ≡ true
+    → after_scheme text ≡ drop 1 (from_any (codes ":/?#") text)
 behind_some text e = cond-true _ _ _ e
 
 pub behind_none : (text : List ℕ) → has_scheme text ≡ false → after_scheme text ≡ text
@@ -73,7 +85,8 @@ behind_none text e = cond-false _ _ _ e
 scheme_ok : List ℕ → Bool
 scheme_ok text = if_some (when (has_scheme text) (before_any (codes ":/?#") text)) is_scheme
 
-scheme_some : (text : List ℕ) → has_scheme text ≡ true → scheme_ok text ≡ is_scheme (before_any (codes ":/?#") text)
+scheme_some : (text : List ℕ) → has_scheme text ≡ true
+    → scheme_ok text ≡ is_scheme (before_any (codes ":/?#") text)
 unfolding scheme_ok
 scheme_some text e = ap (λ t. if_some (when t (before_any (codes ":/?#") text)) is_scheme) e
 
@@ -81,14 +94,18 @@ scheme_none : (text : List ℕ) → has_scheme text ≡ false → scheme_ok text
 unfolding scheme_ok
 scheme_none text e = ap (λ t. if_some (when t (before_any (codes ":/?#") text)) is_scheme) e
 
-scheme_head : (text : List ℕ) → has_scheme text ≡ true → is_ascii_alphabetic (get_or (before_any (codes ":/?#") text) 0 0) ≡ is_ascii_alphabetic (get_or text 0 0)
+scheme_head : (text : List ℕ) → has_scheme text ≡ true
+    → is_ascii_alphabetic (get_or (before_any (codes ":/?#") text) 0 0)
+    ≡ is_ascii_alphabetic (get_or text 0 0)
 scheme_head [] e = refl
 scheme_head (b ∷ rest) e = ⊎_elim
     (λ o. absurd (both_ways _ (not-true _ (and_parts _ _ e).1) (sym (ap (starts 58) (from_at_mark (codes ":/?#") b rest o)) ∙ (and_parts _ _ e).0)))
     (λ o. ap (λ xs. is_ascii_alphabetic (get_or xs 0 0)) (before_past_other (codes ":/?#") b rest o))
     (cases_Bool (is_one_of (codes ":/?#") b))
 
-cut_scheme : (text : List ℕ) → IsUtf8 text → is_valid_for scheme_set (before_any (codes ":/?#") text) ≡ eqb (front scheme_set text) (to_mark (codes ":/?#") text)
+cut_scheme : (text : List ℕ) → IsUtf8 text
+    → is_valid_for scheme_set (before_any (codes ":/?#") text) ≡ eqb (front scheme_set text)
+    (to_mark (codes ":/?#") text)
 cut_scheme text u = cut (codes ":/?#") scheme_set scheme_lacks scheme_marks text u
 
 pub utf8_scheme : (text : List ℕ) → IsUtf8 text → IsUtf8 (after_scheme text)
@@ -111,7 +128,8 @@ module _ (segment : TableSet) (kind : Kind) (w : Separates segment kind) where
   tail_ok : List ℕ → Bool
   tail_ok text = rest_ok segment kind w (after_scheme text)
 
-  by_parts : (text : List ℕ) → IsUtf8 text → is_of_kind kind text ≡ (scheme_ok text && (unmixed text && tail_ok text))
+  by_parts : (text : List ℕ) → IsUtf8 text
+      → is_of_kind kind text ≡ (scheme_ok text && (unmixed text && tail_ok text))
   unfolding scheme_ok unmixed tail_ok rest_ok end_ok fragment_ok
   by_parts text u =
       regroup (scheme_ok text) (if_some (components text).authority (is_authority kind)) (is_valid_for kind.path (components text).path) (if_some (components text).query (is_valid_for kind.query)) (if_some (components text).fragment (is_valid_for kind.fragment)) (unmixed text)
@@ -122,7 +140,8 @@ module _ (segment : TableSet) (kind : Kind) (w : Separates segment kind) where
   unfolding unmixed
   unmixed_scheme text e = or_left _ _ (ap (λ t. is_some (when t (before_any (codes ":/?#") text))) e)
 
-  unmixed_authority : (text : List ℕ) → has_scheme text ≡ false → has_authority text ≡ true → unmixed text ≡ not kind.needs_scheme
+  unmixed_authority : (text : List ℕ) → has_scheme text ≡ false → has_authority text ≡ true
+      → unmixed text ≡ not kind.needs_scheme
   unfolding unmixed
   unmixed_authority text e f =
       let X = not (has_colon_first (before_any (codes "?#") (after_authority (after_scheme text)))) in
@@ -131,7 +150,8 @@ module _ (segment : TableSet) (kind : Kind) (w : Separates segment kind) where
       ∙ ap (λ t. not kind.needs_scheme && (is_some (when t (before_any (codes "/?#") (drop 2 (after_scheme text)))) || X)) a
       ∙ and_true (not kind.needs_scheme)
 
-  unmixed_none : (text : List ℕ) → has_scheme text ≡ false → has_authority text ≡ false → unmixed text ≡ (not kind.needs_scheme && not (starts 58 text))
+  unmixed_none : (text : List ℕ) → has_scheme text ≡ false → has_authority text ≡ false
+      → unmixed text ≡ (not kind.needs_scheme && not (starts 58 text))
   unfolding unmixed
   unmixed_none text e f =
       let a : has_authority (after_scheme text) ≡ false = ap has_authority (behind_none text e) ∙ f in
@@ -140,18 +160,22 @@ module _ (segment : TableSet) (kind : Kind) (w : Separates segment kind) where
       ∙ ap (λ t. not kind.needs_scheme && not (has_colon_first (before_any (codes "?#") t))) (cond-false _ _ _ a ∙ behind_none text e)
       ∙ ap (λ t. not kind.needs_scheme && not t) (colon_first text e)
 
-  tail_path : (text : List ℕ) → has_scheme text ≡ false → has_authority text ≡ false → tail_ok text ≡ reads_path kind text
+  tail_path : (text : List ℕ) → has_scheme text ≡ false → has_authority text ≡ false
+      → tail_ok text ≡ reads_path kind text
   unfolding tail_ok rest_ok
   tail_path text e f =
       ap (rest_ok segment kind w) (behind_none text e)
       ∙ ap (λ t. if_some (when t (before_any (codes "/?#") (drop 2 text))) (is_authority kind) && reads_path kind (cond t (from_any (codes "/?#") (drop 2 text)) text)) f
 
-  tail_authority : (text : List ℕ) → IsUtf8 text → has_scheme text ≡ false → has_authority text ≡ true → tail_ok text ≡ reads_authority kind (drop 2 text)
+  tail_authority : (text : List ℕ) → IsUtf8 text → has_scheme text ≡ false
+      → has_authority text ≡ true → tail_ok text ≡ reads_authority kind (drop 2 text)
   unfolding tail_ok
   tail_authority text u e f = ap (rest_ok segment kind w) (behind_none text e) ∙ sym (slashes_lemma segment kind w text f u)
 
   -- a colon behind the characters of a scheme
-  with_colon : (text : List ℕ) → IsUtf8 text → starts 58 (after scheme_set text) ≡ true → (is_ascii_alphabetic (get_or text 0 0) && reads_hier kind (drop 1 (after scheme_set text))) ≡ (scheme_ok text && (unmixed text && tail_ok text))
+  with_colon : (text : List ℕ) → IsUtf8 text → starts 58 (after scheme_set text) ≡ true
+      → (is_ascii_alphabetic (get_or text 0 0) && reads_hier kind (drop 1 (after scheme_set text)))
+      ≡ (scheme_ok text && (unmixed text && tail_ok text))
   unfolding tail_ok
   with_colon text u s =
       let eq = stops_at_colon scheme_set scheme_lacks scheme_marks text u s in
@@ -169,15 +193,21 @@ module _ (segment : TableSet) (kind : Kind) (w : Separates segment kind) where
       ∙ ap (λ t. scheme_ok text && (t && tail_ok text)) (sym (unmixed_scheme text h)))
       (cases_Bool (starts 58 text))
 
-  schemeless_authority : (text : List ℕ) → has_authority text ≡ true → reads_schemeless segment kind (front scheme_set text) (after scheme_set text) ≡ reads_authority kind (drop 2 text)
+  schemeless_authority : (text : List ℕ) → has_authority text ≡ true
+      → reads_schemeless segment kind (front scheme_set text)
+      (after scheme_set text) ≡ reads_authority kind (drop 2 text)
   unfolding reads_schemeless
   schemeless_authority text a = cond-true _ _ _ (slashes_read text ∙ a) ∙ ap (λ n. reads_authority kind (drop 2 (drop n text))) (slashes_front text a)
 
-  schemeless_relative : (text : List ℕ) → has_authority text ≡ false → reads_schemeless segment kind (front scheme_set text) (after scheme_set text) ≡ reads_relative segment kind text
+  schemeless_relative : (text : List ℕ) → has_authority text ≡ false
+      → reads_schemeless segment kind (front scheme_set text)
+      (after scheme_set text) ≡ reads_relative segment kind text
   unfolding reads_schemeless
   schemeless_relative text a = cond-false _ _ _ (slashes_read text ∙ a) ∙ relative_within segment kind w text
 
-  without_colon : (text : List ℕ) → IsUtf8 text → starts 58 (after scheme_set text) ≡ false → (not kind.needs_scheme && reads_schemeless segment kind (front scheme_set text) (after scheme_set text)) ≡ (scheme_ok text && (unmixed text && tail_ok text))
+  without_colon : (text : List ℕ) → IsUtf8 text → starts 58 (after scheme_set text) ≡ false
+      → (not kind.needs_scheme && reads_schemeless segment kind (front scheme_set text) (after scheme_set text))
+      ≡ (scheme_ok text && (unmixed text && tail_ok text))
   without_colon text u s = ⊎_elim
       (λ h.
       let a : has_authority text ≡ false = false_from_ne_true _ (λ t. both_ways _ (slashes_colon text t) (sym (ap (starts 58) (slashes_first text t)) ∙ (and_parts _ _ h).0)) in

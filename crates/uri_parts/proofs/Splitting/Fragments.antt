@@ -1,5 +1,6 @@
 -- A text with another fragment in place of its own has the same components but that one.
-use Rattle.std.proofs.Common.{◌≡◌, ℕ, ◌-◌, true, false, not, List, [], ◌∷◌, ◌++◌, length, take, refl, sym, ap, subst, ◌∙◌, arith, ◌&&◌, append_assoc}
+use Rattle.std.proofs.Common.{◌≡◌, ℕ, ◌-◌, true, false, not, List, [], ◌∷◌, ◌++◌, length, take}
+use Rattle.std.proofs.Common.{refl, sym, ap, subst, ◌∙◌, arith, ◌&&◌, append_assoc}
 use Rattle.std.specs.Prelude.{codes, Option, Some, None, IfSome, IfNone, slice_range}
 use Rattle.std.specs.Str.{IsCharBoundary}
 use Rattle.std.proofs.Math.Seq.{take-append_seam}
@@ -10,19 +11,24 @@ use Rattle.std.proofs.lemmas.Bool.Decides.{nat_tests}
 use Rattle.uri_pct.specs.Sets.{TableSet, is_one_of}
 use Rattle.uri_pct.specs.Tokens.{is_valid_for}
 use Rattle.uri_parts.specs.declared.positions.Positions.{Positions}
-use Rattle.uri_parts.specs.Components.{Components, IsSplitOf, Lacks, components, recompose, marked, starts, has_scheme, before_any, from_any}
+use Rattle.uri_parts.specs.Components.{Components, IsSplitOf, Lacks, components, recompose, marked}
+use Rattle.uri_parts.specs.Components.{starts, has_scheme, before_any, from_any}
 use Rattle.uri_parts.specs.Fragments.{IsWithFragment, StaysOfKind}
-use Rattle.uri_parts.specs.Grammar.{Kind, IsOfKind, if_some, is_scheme, is_authority, are_components}
+use Rattle.uri_parts.specs.Grammar.{Kind, IsOfKind, if_some, is_scheme, is_authority}
+use Rattle.uri_parts.specs.Grammar.{are_components}
 use Rattle.uri_parts.specs.Positions.{AreAt, positions_of, before_fragment}
 use Rattle.uri_parts.proofs.Splitting.Cuts.{Begins, IsCut-any, cut-append}
 use Rattle.uri_parts.proofs.Splitting.Marks.{fragment_text, Begins-fragment_text}
-use Rattle.uri_parts.proofs.Splitting.Places.{before_hash, before_hash-append, recompose-before_hash, length-before_hash, before_mark, hash_mark}
+use Rattle.uri_parts.proofs.Splitting.Places.{before_hash, before_hash-append}
+use Rattle.uri_parts.proofs.Splitting.Places.{recompose-before_hash, length-before_hash}
+use Rattle.uri_parts.proofs.Splitting.Places.{before_mark, hash_mark}
 use Rattle.uri_parts.proofs.Splitting.Recompose.{IsSplitOf-components}
 use Rattle.uri_parts.proofs.Splitting.Splits.{components-recompose}
 use Rattle.uri_pct.proofs.Tests.{each_some}
 
 -- what begins with `#` behind a text makes no scheme of it
-colon_behind : (marks front back tail : List ℕ) → Lacks marks front → Begins marks back → Begins marks tail → starts 58 tail ≡ false
+colon_behind : (marks front back tail : List ℕ) → Lacks marks front → Begins marks back
+    → Begins marks tail → starts 58 tail ≡ false
     → starts 58 (from_any marks ((front ++ back) ++ tail)) ≡ starts 58 back
 colon_behind marks front [] tail lacks begins ends other =
     ap (λ t. starts 58 (from_any marks (t ++ tail))) (append-nil front) ∙ ap (starts 58) (cut-append marks front tail lacks ends).1 ∙ other
@@ -33,11 +39,13 @@ no_colon : (tail : List ℕ) → Begins (codes "#") tail → starts 58 tail ≡ 
 no_colon [] begins = refl
 no_colon (c ∷ tail) begins = grind (arith, nat_tests)
 
-first_colon : (text tail : List ℕ) → Begins (codes "#") tail → starts 58 (text ++ tail) ≡ starts 58 text
+first_colon : (text tail : List ℕ) → Begins (codes "#") tail
+    → starts 58 (text ++ tail) ≡ starts 58 text
 first_colon [] tail begins = no_colon tail begins
 first_colon (c ∷ text) tail begins = refl
 
-has_scheme-append : (text tail : List ℕ) → Begins (codes "#") tail → has_scheme (text ++ tail) ≡ has_scheme text
+has_scheme-append : (text tail : List ℕ) → Begins (codes "#") tail
+    → has_scheme (text ++ tail) ≡ has_scheme text
 has_scheme-append text tail begins =
     let marks = codes ":/?#" in
     let cut = IsCut-any marks text in
@@ -73,14 +81,18 @@ is_split text p fragment split =
 abbrev is_other : ℕ → Type 0
 is_other c = is_one_of (codes "#") c ≡ false
 
-fewer : (all text : List ℕ) → ((c : ℕ) → is_one_of all c ≡ false → is_other c) → Lacks all text → Lacks (codes "#") text
+fewer : (all text : List ℕ) → ((c : ℕ) → is_one_of all c ≡ false → is_other c) → Lacks all text
+    → Lacks (codes "#") text
 fewer all text less lacks = All-weaker (λ c. is_one_of all c ≡ false) is_other less text lacks
 
-Lacks-marked : (before behind : List ℕ) (part : Option (List ℕ)) → Lacks (codes "#") before → IfSome part (λ x. Lacks (codes "#") x) → Lacks (codes "#") behind → Lacks (codes "#") (marked before part behind)
+Lacks-marked : (before behind : List ℕ) (part : Option (List ℕ)) → Lacks (codes "#") before
+    → IfSome part (λ x. Lacks (codes "#") x) → Lacks (codes "#") behind
+    → Lacks (codes "#") (marked before part behind)
 Lacks-marked before behind None b p e = All-nil is_other
 Lacks-marked before behind (Some x) b p e = All-append is_other (before ++ x) behind (All-append is_other before x b p) e
 
-Lacks-before_hash : (text : List ℕ) (p : Components) → IsSplitOf text p → Lacks (codes "#") (before_hash p)
+Lacks-before_hash : (text : List ℕ) (p : Components) → IsSplitOf text p
+    → Lacks (codes "#") (before_hash p)
 Lacks-before_hash text p split =
     let Hash : List ℕ → Type 0 = Lacks (codes "#") in
     let nil : Hash [] = All-nil is_other in
@@ -98,7 +110,9 @@ before_any-hash text =
     ap (before_any (codes "#")) (before_hash-append text c split)
     ∙ (cut-append (codes "#") (before_hash c) (fragment_text c.fragment) (Lacks-before_hash text c split) (Begins-fragment_text c.fragment)).0
 
-is_with_fragment : (text made : List ℕ) (fragment : Option (List ℕ)) → made ≡ before_hash (components text) ++ fragment_text fragment → IsWithFragment text fragment made
+is_with_fragment : (text made : List ℕ) (fragment : Option (List ℕ))
+    → made ≡ before_hash (components text) ++ fragment_text fragment
+    → IsWithFragment text fragment made
 is_with_fragment text made fragment e =
     let c = components text in
     let q = record c { fragment = fragment } in
@@ -107,7 +121,8 @@ is_with_fragment text made fragment e =
       whole = e ∙ ap (λ t. t ++ fragment_text fragment) (sym (before_any-hash text));
     }
 
-boundary : (text before tail : List ℕ) → text ≡ before ++ tail → Begins (codes "#") tail → IsCharBoundary text (length before)
+boundary : (text before tail : List ℕ) → text ≡ before ++ tail → Begins (codes "#") tail
+    → IsCharBoundary text (length before)
 boundary text before tail e begins =
     let Cut : List ℕ → Type 0 = λ t. IsCharBoundary t (length before) in
     subst Cut (sym e) (before_mark before tail (hash_mark tail begins))
@@ -137,14 +152,17 @@ module _ (text : List ℕ) (p : Positions) (at : AreAt text p) (mark : ℕ) (her
   stripped made e = is_with_fragment text made None (e ∙ taken ∙ sym (append-nil _))
 
 -- a fragment behind a text that has none
-pub added : (text kept made fragment : List ℕ) → IsWithFragment text None kept → made ≡ kept ++ (35 ∷ fragment) → IsWithFragment text (Some fragment) made
+pub added : (text kept made fragment : List ℕ) → IsWithFragment text None kept
+    → made ≡ kept ++ (35 ∷ fragment) → IsWithFragment text (Some fragment) made
 added text kept made fragment w e =
     let before = before_hash (components text) in
     let front : kept ≡ before = w.whole ∙ append-nil (before_any (codes "#") text) ∙ before_any-hash text in
     is_with_fragment text made (Some fragment) (e ∙ ap (λ t. t ++ (35 ∷ fragment)) front ∙ ap (λ t. before ++ (35 ∷ t)) (sym (append-nil fragment)))
 
 -- such a text is of the kind where the fragment is valid for it, and its components lie where they lay
-of_kind : (kind : Kind) (text made : List ℕ) (fragment : Option (List ℕ)) → IsOfKind kind text → if_some fragment (is_valid_for kind.fragment) ≡ true → IsWithFragment text fragment made → IsOfKind kind made
+of_kind : (kind : Kind) (text made : List ℕ) (fragment : Option (List ℕ)) → IsOfKind kind text
+    → if_some fragment (is_valid_for kind.fragment) ≡ true → IsWithFragment text fragment made
+    → IsOfKind kind made
 of_kind kind text made fragment h valid w =
     let p = components text in
     let front = if_some p.scheme is_scheme && if_some p.authority (is_authority kind) && is_valid_for kind.path p.path && if_some p.query (is_valid_for kind.query) in
@@ -152,16 +170,20 @@ of_kind kind text made fragment h valid w =
     let kept = and_parts front _ whole.0 in
     ap (are_components kind) w.parts ∙ and_from _ _ (and_from front _ kept.0 valid) whole.1
 
-pub stripped_of_kind : (kind : Kind) (text made : List ℕ) → IsOfKind kind text → IsWithFragment text None made → IsOfKind kind made
+pub stripped_of_kind : (kind : Kind) (text made : List ℕ) → IsOfKind kind text
+    → IsWithFragment text None made → IsOfKind kind made
 stripped_of_kind kind text made h w = of_kind kind text made None h refl w
 
-pub stays_without : (set : TableSet) (text made : List ℕ) → IsWithFragment text None made → StaysOfKind set text made
+pub stays_without : (set : TableSet) (text made : List ℕ) → IsWithFragment text None made
+    → StaysOfKind set text made
 stays_without set text made w = record { of_kind = λ kind e h. stripped_of_kind kind text made h w }
 
-pub stays_with : (set : TableSet) (text made fragment : List ℕ) → is_valid_for set fragment ≡ true → IsWithFragment text (Some fragment) made → StaysOfKind set text made
+pub stays_with : (set : TableSet) (text made fragment : List ℕ) → is_valid_for set fragment ≡ true
+    → IsWithFragment text (Some fragment) made → StaysOfKind set text made
 stays_with set text made fragment valid w = record {
   of_kind = λ kind e h. of_kind kind text made (Some fragment) h (ap (λ s. is_valid_for s fragment) (sym e) ∙ valid) w;
 }
 
-pub same_places : (text made : List ℕ) (fragment : Option (List ℕ)) (p : Positions) → AreAt text p → IsWithFragment text fragment made → AreAt made p
+pub same_places : (text made : List ℕ) (fragment : Option (List ℕ)) (p : Positions) → AreAt text p
+    → IsWithFragment text fragment made → AreAt made p
 same_places text made fragment p at w = at ∙ ap positions_of (sym w.parts)

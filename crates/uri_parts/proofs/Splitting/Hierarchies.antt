@@ -1,5 +1,6 @@
 -- An authority and what follows it, as they are cut.
-use Rattle.std.proofs.Common.{◌≡◌, ℕ, Bool, true, cond, List, drop, refl, sym, ap, ◌∙◌, ◌&&◌, ⊎_elim}
+use Rattle.std.proofs.Common.{◌≡◌, ℕ, Bool, true, cond, List, drop, refl, sym, ap, ◌∙◌, ◌&&◌}
+use Rattle.std.proofs.Common.{⊎_elim}
 use Rattle.std.specs.Prelude.{codes}
 use Rattle.std.specs.Str.{IsUtf8}
 use Rattle.std.proofs.lemmas.Bool.{cases_Bool, cond-true, and_left}
@@ -15,13 +16,17 @@ use Rattle.uri_parts.proofs.Parsing.ReadingStops.{utf8_slashes}
 use Rattle.uri_parts.proofs.Authorities.WholeAuthorities.{authority_reads}
 
 module _ (segment : TableSet) (kind : Kind) (w : Separates segment kind) where
-  pub behind_found : (bs : List ℕ) → IsUtf8 bs → finds_authority kind bs ≡ true → drop (found_length kind bs) bs ≡ from_any (codes "/?#") bs
+  pub behind_found : (bs : List ℕ) → IsUtf8 bs → finds_authority kind bs ≡ true
+      → drop (found_length kind bs) bs ≡ from_any (codes "/?#") bs
   behind_found bs u h = ap (λ n. drop n bs) ((is_found segment kind w bs u h).len ∙ length-before (codes "/?#") bs)
 
-  pub found_is : (bs : List ℕ) → IsUtf8 bs → finds_authority kind bs ≡ is_authority kind (before_any (codes "/?#") bs)
+  pub found_is : (bs : List ℕ) → IsUtf8 bs
+      → finds_authority kind bs ≡ is_authority kind (before_any (codes "/?#") bs)
   found_is bs u = accepts segment kind w bs u ∙ sym (authority_reads kind.userinfo kind.reg_name (before_any (codes "/?#") bs))
 
-  authority_piece : (bs : List ℕ) → IsUtf8 bs → reads_authority kind bs ≡ (is_authority kind (before_any (codes "/?#") bs) && reads_path kind (from_any (codes "/?#") bs))
+  authority_piece : (bs : List ℕ) → IsUtf8 bs
+      → reads_authority kind bs
+      ≡ (is_authority kind (before_any (codes "/?#") bs) && reads_path kind (from_any (codes "/?#") bs))
   unfolding reads_authority
   authority_piece bs u = ⊎_elim
       (λ h. ap (λ r. finds_authority kind bs && reads_path kind r) (behind_found bs u h))
@@ -32,7 +37,8 @@ module _ (segment : TableSet) (kind : Kind) (w : Separates segment kind) where
   unfoldable pub rest_ok : List ℕ → Bool
   rest_ok rest = if_some (when (has_authority rest) (before_any (codes "/?#") (drop 2 rest))) (is_authority kind) && reads_path kind (after_authority rest)
 
-  pub slashes_lemma : (rest : List ℕ) → has_authority rest ≡ true → IsUtf8 rest → reads_authority kind (drop 2 rest) ≡ rest_ok rest
+  pub slashes_lemma : (rest : List ℕ) → has_authority rest ≡ true → IsUtf8 rest
+      → reads_authority kind (drop 2 rest) ≡ rest_ok rest
   unfolding rest_ok
   slashes_lemma rest e u =
       authority_piece (drop 2 rest) (utf8_slashes rest e u)

@@ -1,11 +1,15 @@
 -- Where each component of a recomposed text is cut: one lemma a component, over its own text.
-use Rattle.std.proofs.Common.{◌≡◌, ℕ, ◌<◌, Bool, true, false, eqb, List, [], ◌∷◌, ◌++◌, length, drop, refl, sym, ap, ◌∙◌, arith, ⊎_elim, append_assoc, rules}
+use Rattle.std.proofs.Common.{◌≡◌, ℕ, ◌<◌, Bool, true, false, eqb, List, [], ◌∷◌, ◌++◌, length}
+use Rattle.std.proofs.Common.{drop, refl, sym, ap, ◌∙◌, arith, ⊎_elim, append_assoc, rules}
 use Rattle.std.specs.Prelude.{codes, Some, None, Option, IsTrue, IfSome, IfNone}
 use Rattle.std.proofs.lemmas.List.{append-nil}
-use Rattle.std.proofs.lemmas.Bool.{cond-true, cond-false, and_left, and_right, and_from, eqb-true, not_from_false}
+use Rattle.std.proofs.lemmas.Bool.{cond-true, cond-false, and_left, and_right, and_from, eqb-true}
+use Rattle.std.proofs.lemmas.Bool.{not_from_false}
 use Rattle.std.proofs.lemmas.Bool.Decides.{nat_tests}
 use Rattle.uri_pct.specs.Sets.{is_one_of}
-use Rattle.uri_parts.specs.Components.{marked, starts, has_scheme, has_authority, after_scheme, after_authority, after_query, when, Lacks, IsRooted, before_any, from_any}
+use Rattle.uri_parts.specs.Components.{marked, starts, has_scheme, has_authority, after_scheme}
+use Rattle.uri_parts.specs.Components.{after_authority, after_query, when, Lacks, IsRooted}
+use Rattle.uri_parts.specs.Components.{before_any, from_any}
 use Rattle.uri_parts.proofs.Splitting.Cuts.{Begins, Begins-more, cut-append}
 use Rattle.uri_pct.proofs.Tests.{true_of}
 
@@ -16,11 +20,13 @@ fragment_text fragment = marked (codes "#") fragment []
 abbrev pub query_text : Option (List ℕ) → Option (List ℕ) → List ℕ
 query_text query fragment = marked (codes "?") query [] ++ fragment_text fragment
 
-pub Begins-fragment_text : (fragment : Option (List ℕ)) → Begins (codes "#") (fragment_text fragment)
+pub Begins-fragment_text : (fragment : Option (List ℕ))
+    → Begins (codes "#") (fragment_text fragment)
 Begins-fragment_text None = tt
 Begins-fragment_text (Some f) = refl
 
-pub Begins-query_text : (query fragment : Option (List ℕ)) → Begins (codes "?#") (query_text query fragment)
+pub Begins-query_text : (query fragment : Option (List ℕ))
+    → Begins (codes "?#") (query_text query fragment)
 Begins-query_text None fragment = Begins-more (codes "#") (codes "?#") (fragment_text fragment) (λ c e. grind (arith, nat_tests)) (Begins-fragment_text fragment)
 Begins-query_text (Some q) fragment = refl
 
@@ -29,7 +35,8 @@ starts-fragment_text None = refl
 starts-fragment_text (Some f) = refl
 
 -- the fragment that is read in such a text is that fragment
-pub fragment-read : (fragment : Option (List ℕ)) → when (starts 35 (fragment_text fragment)) (drop 1 (fragment_text fragment)) ≡ fragment
+pub fragment-read : (fragment : Option (List ℕ))
+    → when (starts 35 (fragment_text fragment)) (drop 1 (fragment_text fragment)) ≡ fragment
 fragment-read None = refl
 fragment-read (Some f) = ap Some (append-nil f)
 
@@ -49,7 +56,8 @@ no_slash : (c : ℕ) → is_one_of (codes "?#") c ≡ true → eqb c 47 ≡ fals
 no_slash c h = grind (arith, nat_tests)
 
 -- what stands behind a path does not make it begin with `//`
-pub has_authority-append : (path tail : List ℕ) → Begins (codes "?#") tail → has_authority (path ++ tail) ≡ has_authority path
+pub has_authority-append : (path tail : List ℕ) → Begins (codes "?#") tail
+    → has_authority (path ++ tail) ≡ has_authority path
 has_authority-append [] [] begins = refl
 has_authority-append [] (c ∷ tail) begins = and_left _ _ (no_slash c begins)
 has_authority-append (a ∷ []) [] begins = refl
@@ -63,7 +71,8 @@ slash_mark : (c : ℕ) → eqb c 47 ≡ true → is_one_of (codes "/?#") c ≡ t
 slash_mark c e = ap (is_one_of (codes "/?#")) (eqb-true c 47 e)
 
 -- a rooted path ends an authority
-pub Begins-rooted : (path tail : List ℕ) → IsRooted path → Begins (codes "?#") tail → Begins (codes "/?#") (path ++ tail)
+pub Begins-rooted : (path tail : List ℕ) → IsRooted path → Begins (codes "?#") tail
+    → Begins (codes "/?#") (path ++ tail)
 Begins-rooted [] tail rooted begins = Begins-more (codes "?#") (codes "/?#") tail (λ c e. grind (arith, nat_tests)) begins
 Begins-rooted (c ∷ path) tail rooted begins = ⊎_elim (λ e. absurd (nil_cons c path e)) (λ e. slash_mark c (true_of _ e)) rooted
 
@@ -83,7 +92,8 @@ authority-read (Some a) path tail some none begins =
 no_colon : (c : ℕ) → is_one_of (codes ":/?#") c ≡ false → eqb c 58 ≡ false
 no_colon c e = grind (arith, nat_tests)
 
-scheme_first : (s rest : List ℕ) → 0 < length s → Lacks (codes ":/?#") s → starts 58 (s ++ (58 ∷ rest)) ≡ false
+scheme_first : (s rest : List ℕ) → 0 < length s → Lacks (codes ":/?#") s
+    → starts 58 (s ++ (58 ∷ rest)) ≡ false
 scheme_first [] rest h lacks = absurd (omega arith)
 scheme_first (c ∷ s) rest h lacks = no_colon c (lacks 0 0 (omega arith))
 

@@ -1,11 +1,15 @@
 -- The components of any text are a split of it.
-use Rattle.std.proofs.Common.{◌≡◌, ℕ, ◌<◌, Bool, true, false, eqb, not, List, [], ◌∷◌, ◌++◌, length, drop, refl, sym, ap, subst, ◌∙◌, arith, ⊎_elim, inl, inr, append_assoc, rules}
+use Rattle.std.proofs.Common.{◌≡◌, ℕ, ◌<◌, Bool, true, false, eqb, not, List, [], ◌∷◌, ◌++◌, length}
+use Rattle.std.proofs.Common.{drop, refl, sym, ap, subst, ◌∙◌, arith, ⊎_elim, inl, inr}
+use Rattle.std.proofs.Common.{append_assoc, rules}
 use Rattle.std.specs.Prelude.{codes, IsTrue, IfSome, IfNone}
 use Rattle.std.proofs.lemmas.List.{append-nil}
 use Rattle.std.proofs.lemmas.Bool.{cases_Bool, and_parts, eqb-true, both_ways}
 use Rattle.std.proofs.lemmas.Bool.Decides.{nat_tests}
 use Rattle.uri_pct.specs.Sets.{is_one_of}
-use Rattle.uri_parts.specs.Components.{IsSplitOf, recompose, marked, starts, has_scheme, has_authority, after_scheme, after_authority, after_query, components, when, Lacks, IsRooted, before_any, from_any}
+use Rattle.uri_parts.specs.Components.{IsSplitOf, recompose, marked, starts, has_scheme}
+use Rattle.uri_parts.specs.Components.{has_authority, after_scheme, after_authority, after_query}
+use Rattle.uri_parts.specs.Components.{components, when, Lacks, IsRooted, before_any, from_any}
 use Rattle.uri_parts.proofs.Splitting.Cuts.{Begins, IsCut-any}
 use Rattle.uri_parts.proofs.Splitting.Marks.{has_authority-append}
 
@@ -27,7 +31,9 @@ has_authority-cons (a ∷ b ∷ text) h = let parts = and_parts _ _ h in
     ap (λ x. x ∷ b ∷ text) (eqb-true a 47 parts.0) ∙ ap (λ x. 47 ∷ x ∷ text) (eqb-true b 47 parts.1)
 
 -- the scheme and what is behind it
-scheme_whole : (text : List ℕ) → marked [] (when (has_scheme text) (before_any (codes ":/?#") text)) (codes ":") ++ after_scheme text ≡ text
+scheme_whole : (text : List ℕ)
+    → marked [] (when (has_scheme text) (before_any (codes ":/?#") text))
+    (codes ":") ++ after_scheme text ≡ text
 scheme_whole text = ⊎_elim
     (λ h.
     let back = from_any (codes ":/?#") text in
@@ -36,7 +42,9 @@ scheme_whole text = ⊎_elim
     (λ h. rw h refl)
     (cases_Bool (has_scheme text))
 
-authority_whole : (rest : List ℕ) → marked (codes "//") (when (has_authority rest) (before_any (codes "/?#") (drop 2 rest))) [] ++ after_authority rest ≡ rest
+authority_whole : (rest : List ℕ)
+    → marked (codes "//")
+    (when (has_authority rest) (before_any (codes "/?#") (drop 2 rest))) [] ++ after_authority rest ≡ rest
 authority_whole rest = ⊎_elim
     (λ h.
     let behind = drop 2 rest in
@@ -45,7 +53,9 @@ authority_whole rest = ⊎_elim
     (λ h. rw h refl)
     (cases_Bool (has_authority rest))
 
-query_whole : (end : List ℕ) → marked (codes "?") (when (starts 63 end) (before_any (codes "#") (drop 1 end))) [] ++ after_query end ≡ end
+query_whole : (end : List ℕ)
+    → marked (codes "?")
+    (when (starts 63 end) (before_any (codes "#") (drop 1 end))) [] ++ after_query end ≡ end
 query_whole end = ⊎_elim
     (λ h.
     let behind = drop 1 end in
@@ -54,14 +64,16 @@ query_whole end = ⊎_elim
     (λ h. rw h refl)
     (cases_Bool (starts 63 end))
 
-fragment_whole : (text : List ℕ) → Begins (codes "#") text → marked (codes "#") (when (starts 35 text) (drop 1 text)) [] ≡ text
+fragment_whole : (text : List ℕ) → Begins (codes "#") text
+    → marked (codes "#") (when (starts 35 text) (drop 1 text)) [] ≡ text
 fragment_whole [] begins = refl
 fragment_whole (c ∷ text) begins =
     let h : eqb c 35 ≡ true = grind (arith, nat_tests) in
     rw h (ap (λ t. 35 ∷ t) (append-nil text) ∙ ap (λ x. x ∷ text) (sym (eqb-true c 35 h)))
 
 -- what is behind a path, and does not begin with `?`, begins with `#`
-hash_left : (end : List ℕ) → Begins (codes "?#") end → starts 63 end ≡ false → Begins (codes "#") end
+hash_left : (end : List ℕ) → Begins (codes "?#") end → starts 63 end ≡ false
+    → Begins (codes "#") end
 hash_left [] begins h = tt
 hash_left (c ∷ end) begins h = grind (arith, nat_tests)
 
@@ -85,11 +97,13 @@ recompose-components text =
     ∙ ap (λ t. marked [] p.scheme (codes ":") ++ t) (authority_whole rest)
     ∙ scheme_whole text
 
-not_first : (before from : List ℕ) → starts 58 from ≡ true → starts 58 (before ++ from) ≡ false → 0 < length before
+not_first : (before from : List ℕ) → starts 58 from ≡ true → starts 58 (before ++ from) ≡ false
+    → 0 < length before
 not_first [] from h first = absurd (both_ways _ first h)
 not_first (c ∷ before) from h first = omega arith
 
-scheme_fits : (text : List ℕ) → IfSome (components text).scheme (λ s. (0 < length s) × Lacks (codes ":/?#") s)
+scheme_fits : (text : List ℕ)
+    → IfSome (components text).scheme (λ s. (0 < length s) × Lacks (codes ":/?#") s)
 scheme_fits text = ⊎_elim
     (λ h.
     let cut = IsCut-any (codes ":/?#") text in
@@ -103,14 +117,16 @@ no_scheme_fits : (text : List ℕ) → IfNone (components text).scheme (has_sche
 no_scheme_fits text = ⊎_elim (λ h. rw h tt) (λ h. rw h refl) (cases_Bool (has_scheme text))
 
 -- a path in a text that begins with one of `/?#`
-rooted_front : (path end : List ℕ) → Lacks (codes "?#") path → Begins (codes "/?#") (path ++ end) → IsRooted path
+rooted_front : (path end : List ℕ) → Lacks (codes "?#") path → Begins (codes "/?#") (path ++ end)
+    → IsRooted path
 rooted_front [] end lacks begins = inl refl
 rooted_front (c ∷ path) end lacks begins =
     let other : is_one_of (codes "?#") c ≡ false = lacks 0 0 (omega arith) in
     let slash : eqb c 47 ≡ true = grind (arith, nat_tests) in
     inr (true_to _ slash)
 
-authority_fits : (rest : List ℕ) → IfSome (when (has_authority rest) (before_any (codes "/?#") (drop 2 rest)))
+authority_fits : (rest : List ℕ)
+    → IfSome (when (has_authority rest) (before_any (codes "/?#") (drop 2 rest)))
     (λ a. Lacks (codes "/?#") a × IsRooted (before_any (codes "?#") (after_authority rest)))
 authority_fits rest = ⊎_elim
     (λ h.
@@ -122,7 +138,8 @@ authority_fits rest = ⊎_elim
     (λ h. rw h tt)
     (cases_Bool (has_authority rest))
 
-no_authority_fits : (rest : List ℕ) → IfNone (when (has_authority rest) (before_any (codes "/?#") (drop 2 rest)))
+no_authority_fits : (rest : List ℕ)
+    → IfNone (when (has_authority rest) (before_any (codes "/?#") (drop 2 rest)))
     (has_authority (before_any (codes "?#") (after_authority rest)) ≡ false)
 no_authority_fits rest = ⊎_elim
     (λ h. rw h tt)
@@ -131,7 +148,8 @@ no_authority_fits rest = ⊎_elim
     rw h (sym (has_authority-append (before_any (codes "?#") rest) (from_any (codes "?#") rest) path.begins) ∙ ap has_authority path.whole ∙ h))
     (cases_Bool (has_authority rest))
 
-query_fits : (end : List ℕ) → IfSome (when (starts 63 end) (before_any (codes "#") (drop 1 end))) (λ q. Lacks (codes "#") q)
+query_fits : (end : List ℕ)
+    → IfSome (when (starts 63 end) (before_any (codes "#") (drop 1 end))) (λ q. Lacks (codes "#") q)
 query_fits end = ⊎_elim (λ h. rw h (IsCut-any (codes "#") (drop 1 end)).lacks) (λ h. rw h tt) (cases_Bool (starts 63 end))
 
 pub IsSplitOf-components : (text : List ℕ) → IsSplitOf text (components text)

@@ -1,10 +1,13 @@
 -- The first segment of a path without a scheme.
-use Rattle.std.proofs.Common.{◌≡◌, ℕ, ◌+◌, Bool, true, false, cond, eqb, not, List, [], ◌∷◌, drop, refl, sym, ap, ◌∙◌, arith, ◌||◌, ◌&&◌, ⊎_elim}
+use Rattle.std.proofs.Common.{◌≡◌, ℕ, ◌+◌, Bool, true, false, cond, eqb, not, List, [], ◌∷◌, drop}
+use Rattle.std.proofs.Common.{refl, sym, ap, ◌∙◌, arith, ◌||◌, ◌&&◌, ⊎_elim}
 use Rattle.std.specs.Prelude.{codes}
 use Rattle.std.specs.List.{list_any}
 use Rattle.std.specs.Str.{IsUtf8, continuation_len}
 use Rattle.std.proofs.lemmas.List.{drop-drop}
-use Rattle.std.proofs.lemmas.Bool.{cases_Bool, cond-true, cond-false, and_left, and_right, and_parts, eqb-true, not_from_true, not-false, both_ways, false≢true, and_cases, false_from_ne_true, or_left}
+use Rattle.std.proofs.lemmas.Bool.{cases_Bool, cond-true, cond-false, and_left, and_right}
+use Rattle.std.proofs.lemmas.Bool.{and_parts, eqb-true, not_from_true, not-false, both_ways}
+use Rattle.std.proofs.lemmas.Bool.{false≢true, and_cases, false_from_ne_true, or_left}
 use Rattle.std.proofs.lemmas.Bool.Decides.{nat_tests}
 use Rattle.uri_pct.specs.Sets.{TableSet, LacksPercent, is_one_of, scheme_set}
 use Rattle.uri_pct.specs.Models.Fronts.{front_from, front, after, allows_first, begins_hex}
@@ -16,19 +19,25 @@ use Rattle.uri_parts.specs.Models.Reading.{is_stray, reads_end, reads_path, read
 use Rattle.uri_parts.proofs.Parsing.ReadingStops.{stop_cases}
 use Rattle.uri_parts.proofs.TextKinds.Separations.{Separates}
 use Rattle.uri_parts.proofs.Parsing.Accepts.{end_stuck, none_of_four}
-use Rattle.uri_parts.proofs.Splitting.Cuts.{before_past_other, from_past_other, before_at_mark, from_at_mark}
+use Rattle.uri_parts.proofs.Splitting.Cuts.{before_past_other, from_past_other, before_at_mark}
+use Rattle.uri_parts.proofs.Splitting.Cuts.{from_at_mark}
 
 -- where reading stops at a mark it stops at the first
-pub stops_at : (marks : List ℕ) (mark : ℕ) → is_one_of marks mark ≡ true → (set : TableSet) → LacksPercent set → excludes set marks ≡ true → (bs : List ℕ) → IsUtf8 bs → starts mark (after set bs) ≡ true → front set bs ≡ to_mark marks bs
+pub stops_at : (marks : List ℕ) (mark : ℕ) → is_one_of marks mark ≡ true → (set : TableSet)
+    → LacksPercent set → excludes set marks ≡ true → (bs : List ℕ) → IsUtf8 bs
+    → starts mark (after set bs) ≡ true → front set bs ≡ to_mark marks bs
 stops_at marks mark m set lacks outside bs u e = ⊎_elim (λ h. h)
     (λ w. absurd (both_ways _ w.other (ap (is_one_of marks) (eqb-true w.byte mark (sym (ap (starts mark) w.left) ∙ e)) ∙ m)))
     (stop_cases marks set lacks outside bs u)
 
-pub stops_at_colon : (set : TableSet) → LacksPercent set → excludes set (codes ":/?#") ≡ true → (bs : List ℕ) → IsUtf8 bs → starts 58 (after set bs) ≡ true → front set bs ≡ to_mark (codes ":/?#") bs
+pub stops_at_colon : (set : TableSet) → LacksPercent set → excludes set (codes ":/?#") ≡ true
+    → (bs : List ℕ) → IsUtf8 bs → starts 58 (after set bs) ≡ true
+    → front set bs ≡ to_mark (codes ":/?#") bs
 stops_at_colon = stops_at (codes ":/?#") 58 refl
 
 -- nothing is read of a text that begins with `:`
-pub at_colon : (set : TableSet) → LacksPercent set → excludes set (codes ":/?#") ≡ true → (bs : List ℕ) → starts 58 bs ≡ true → after set bs ≡ bs
+pub at_colon : (set : TableSet) → LacksPercent set → excludes set (codes ":/?#") ≡ true
+    → (bs : List ℕ) → starts 58 bs ≡ true → after set bs ≡ bs
 at_colon set lacks outside [] e = absurd (false≢true e)
 at_colon set lacks outside (b ∷ rest) e = ap (λ n. drop n (b ∷ rest)) (front_zero_mark (codes ":/?#") set lacks outside b rest (ap (is_one_of (codes ":/?#")) (eqb-true b 58 e)))
 
@@ -44,11 +53,13 @@ four_of_slash b q = grind (arith, nat_tests)
 no_colon_slash : (b : ℕ) → is_one_of (codes "/") b ≡ true → eqb b 58 ≡ false
 no_colon_slash b q = grind (arith, nat_tests)
 
-no_four : (b : ℕ) → is_one_of (codes "?#") b ≡ false → is_one_of (codes "/") b ≡ false → eqb b 58 ≡ false → is_one_of (codes ":/?#") b ≡ false
+no_four : (b : ℕ) → is_one_of (codes "?#") b ≡ false → is_one_of (codes "/") b ≡ false
+    → eqb b 58 ≡ false → is_one_of (codes ":/?#") b ≡ false
 no_four b q s c = grind (arith, nat_tests)
 
 -- the first segment holds `:` where that is the first of the four marks
-any_colon : (bs : List ℕ) → has_colon_first (before_any (codes "?#") bs) ≡ starts 58 (from_any (codes ":/?#") bs)
+any_colon : (bs : List ℕ)
+    → has_colon_first (before_any (codes "?#") bs) ≡ starts 58 (from_any (codes ":/?#") bs)
 any_colon [] = refl
 any_colon (b ∷ rest) =
     let F = before_any (codes "?#") rest in
@@ -68,7 +79,8 @@ from_colon [] e = refl
 from_colon (b ∷ rest) e = from_at_mark (codes ":/?#") b rest (ap (is_one_of (codes ":/?#")) (eqb-true b 58 e))
 
 -- with no scheme, that is where the text begins with `:`
-pub colon_first : (bs : List ℕ) → has_scheme bs ≡ false → has_colon_first (before_any (codes "?#") bs) ≡ starts 58 bs
+pub colon_first : (bs : List ℕ) → has_scheme bs ≡ false
+    → has_colon_first (before_any (codes "?#") bs) ≡ starts 58 bs
 colon_first bs e = any_colon bs ∙ ⊎_elim
     (λ s. s ∙ sym (⊎_elim (λ f. absurd (both_ways _ f s)) (λ f. not-false _ f) (and_cases (starts 58 (from_any (codes ":/?#") bs)) _ e)))
     (λ s. s ∙ sym (false_from_ne_true _ (λ t. both_ways _ s (ap (starts 58) (from_colon bs t) ∙ t))))
@@ -81,7 +93,8 @@ pub scheme_marks : excludes scheme_set (codes ":/?#") ≡ true
 scheme_marks = refl
 
 module _ (segment : TableSet) (kind : Kind) (w : Separates segment kind) where
-  colon_same : (bs : List ℕ) → IsUtf8 bs → has_scheme bs ≡ false → starts 58 (after segment bs) ≡ starts 58 bs
+  colon_same : (bs : List ℕ) → IsUtf8 bs → has_scheme bs ≡ false
+      → starts 58 (after segment bs) ≡ starts 58 bs
   colon_same bs u e = ⊎_elim
       (λ s. s ∙ sym (⊎_elim
       (λ f. absurd (both_ways _ f (sym (ap (λ n. starts 58 (drop n bs)) (stops_at_colon segment w.segment_lacks w.segment_marks bs u s)) ∙ s)))
@@ -90,7 +103,8 @@ module _ (segment : TableSet) (kind : Kind) (w : Separates segment kind) where
       (cases_Bool (starts 58 (after segment bs)))
 
   -- where the first segment stops at no colon, the path stops too
-  stuck_too : (b : ℕ) (rest : List ℕ) → is_one_of (codes ":/") b ≡ false → front segment (b ∷ rest) ≡ 0 → front kind.path (b ∷ rest) ≡ 0
+  stuck_too : (b : ℕ) (rest : List ℕ) → is_one_of (codes ":/") b ≡ false
+      → front segment (b ∷ rest) ≡ 0 → front kind.path (b ∷ rest) ≡ 0
   stuck_too b rest e z =
       let c = front_cons segment b rest in
       front_cons kind.path b rest
@@ -104,7 +118,8 @@ module _ (segment : TableSet) (kind : Kind) (w : Separates segment kind) where
       (λ a. cond-false _ _ _ (w.rest b rest e a)) (cases_Bool (allows_first segment b rest)))
       (cases_Bool (segment.pct_encoded && eqb b 37))
 
-  path_stuck : (b : ℕ) (rest : List ℕ) → is_one_of (codes ":/?#") b ≡ false → front segment (b ∷ rest) ≡ 0 → reads_path kind (b ∷ rest) ≡ false
+  path_stuck : (b : ℕ) (rest : List ℕ) → is_one_of (codes ":/?#") b ≡ false
+      → front segment (b ∷ rest) ≡ 0 → reads_path kind (b ∷ rest) ≡ false
   unfolding reads_path
   path_stuck b rest e z =
       let p = none_of_four b e in
@@ -118,7 +133,8 @@ module _ (segment : TableSet) (kind : Kind) (w : Separates segment kind) where
   unfolding reads_path
   path_after bs = ap (λ r. not (is_stray kind.path r) && reads_end kind r) (after_within bs)
 
-  percent_path : (r : List ℕ) → starts 37 r ≡ true → front segment r ≡ 0 → is_stray segment r ≡ true → reads_path kind r ≡ false
+  percent_path : (r : List ℕ) → starts 37 r ≡ true → front segment r ≡ 0 → is_stray segment r ≡ true
+      → reads_path kind r ≡ false
   unfolding reads_path
   percent_path [] e z s = absurd (false≢true e)
   percent_path (b ∷ rest) e z s =
@@ -128,19 +144,23 @@ module _ (segment : TableSet) (kind : Kind) (w : Separates segment kind) where
       ap (λ n. not (is_stray kind.path (drop n (b ∷ rest))) && reads_end kind (drop n (b ∷ rest))) n ∙ and_left _ _ (not_from_true _ stray)
 
   -- a stray `%` stops the path as well
-  no_matter : (bs : List ℕ) (x : Bool) → (not (is_stray segment (after segment bs)) && (x && reads_path kind (after segment bs))) ≡ (x && reads_path kind (after segment bs))
+  no_matter : (bs : List ℕ) (x : Bool)
+      → (not (is_stray segment (after segment bs)) && (x && reads_path kind (after segment bs)))
+      ≡ (x && reads_path kind (after segment bs))
   no_matter bs x = ⊎_elim
       (λ s. and_left _ _ (not_from_true _ s) ∙ sym (and_right _ _ (percent_path (after segment bs) (and_parts _ _ s).1 (front-after segment bs) s)))
       (λ s. ap (λ t. not t && (x && reads_path kind (after segment bs))) s)
       (cases_Bool (is_stray segment (after segment bs)))
 
-  pub relative_lemma : (bs : List ℕ) → IsUtf8 bs → has_scheme bs ≡ false → reads_relative segment kind bs ≡ (not (starts 58 bs) && reads_path kind bs)
+  pub relative_lemma : (bs : List ℕ) → IsUtf8 bs → has_scheme bs ≡ false
+      → reads_relative segment kind bs ≡ (not (starts 58 bs) && reads_path kind bs)
   unfolding reads_relative
   relative_lemma bs u e =
       no_matter bs (not (starts 58 (after segment bs)))
       ∙ ap (λ t. not t && reads_path kind (after segment bs)) (colon_same bs u e) ∙ ap (λ t. not (starts 58 bs) && t) (path_after bs)
 
-  pub relative_false : (bs : List ℕ) → IsUtf8 bs → has_scheme bs ≡ true → reads_relative segment kind bs ≡ false
+  pub relative_false : (bs : List ℕ) → IsUtf8 bs → has_scheme bs ≡ true
+      → reads_relative segment kind bs ≡ false
   unfolding reads_relative
   relative_false bs u e =
       no_matter bs (not (starts 58 (after segment bs)))
@@ -153,6 +173,7 @@ module _ (segment : TableSet) (kind : Kind) (w : Separates segment kind) where
   pub segment_within : (bs : List ℕ) → after segment (after scheme_set bs) ≡ after segment bs
   segment_within bs = drop-drop (front segment (after scheme_set bs)) (front scheme_set bs) bs ∙ ap (λ n. drop n bs) (sym (front-within scheme_set segment w.scheme_within scheme_lacks bs))
 
-  pub relative_within : (bs : List ℕ) → reads_relative segment kind (after scheme_set bs) ≡ reads_relative segment kind bs
+  pub relative_within : (bs : List ℕ)
+      → reads_relative segment kind (after scheme_set bs) ≡ reads_relative segment kind bs
   unfolding reads_relative
   relative_within bs = ap (λ r. not (is_stray segment r) && (not (starts 58 r) && reads_path kind r)) (segment_within bs)

@@ -1,11 +1,15 @@
 -- The components of a text are its only split.
 use Rattle.std.proofs.Common.{◌≡◌, ℕ, List, [], ◌++◌, drop, ap, subst, ◌∙◌}
 use Rattle.std.specs.Prelude.{codes, Option}
-use Rattle.uri_parts.specs.Components.{Components, IsSplitOf, recompose, marked, starts, has_authority, after_scheme, after_authority, after_query, components, when, before_any, from_any}
+use Rattle.uri_parts.specs.Components.{Components, IsSplitOf, recompose, marked, starts}
+use Rattle.uri_parts.specs.Components.{has_authority, after_scheme, after_authority, after_query}
+use Rattle.uri_parts.specs.Components.{components, when, before_any, from_any}
 use Rattle.uri_parts.proofs.Splitting.Cuts.{cut-append}
-use Rattle.uri_parts.proofs.Splitting.Marks.{query_text, Begins-query_text, fragment-read, query-read, authority-read, scheme-read}
+use Rattle.uri_parts.proofs.Splitting.Marks.{query_text, Begins-query_text, fragment-read}
+use Rattle.uri_parts.proofs.Splitting.Marks.{query-read, authority-read, scheme-read}
 
-same_components : {s1 s2 a1 a2 q1 q2 f1 f2 : Option (List ℕ)} {p1 p2 : List ℕ} → s1 ≡ s2 → a1 ≡ a2 → p1 ≡ p2 → q1 ≡ q2 → f1 ≡ f2
+same_components : {s1 s2 a1 a2 q1 q2 f1 f2 : Option (List ℕ)} {p1 p2 : List ℕ} → s1 ≡ s2 → a1 ≡ a2
+    → p1 ≡ p2 → q1 ≡ q2 → f1 ≡ f2
     → (let x : Components = record { scheme = s1; authority = a1; path = p1; query = q1; fragment = f1 } in x) ≡ record { scheme = s2; authority = a2; path = p2; query = q2; fragment = f2 }
 same_components s a p q f = λ i. record { scheme = s i; authority = a i; path = p i; query = q i; fragment = f i }
 

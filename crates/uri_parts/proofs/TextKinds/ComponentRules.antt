@@ -6,9 +6,11 @@ use Rattle.uri_pct.specs.Sets.{TableSet}
 use Rattle.uri_pct.specs.Tokens.{is_valid_for, IsValidFor}
 use Rattle.uri_parts.specs.Components.{Components, components}
 use Rattle.uri_parts.specs.Authority.{is_authority_for}
-use Rattle.uri_parts.specs.Grammar.{Kind, if_some, is_scheme, is_authority, are_components, IsOfKind}
+use Rattle.uri_parts.specs.Grammar.{Kind, if_some, is_scheme, is_authority, are_components}
+use Rattle.uri_parts.specs.Grammar.{IsOfKind}
 
-present : (part : Option (List ℕ)) (test : List ℕ → Bool) (x : List ℕ) → if_some part test ≡ true → part ≡ Some x → test x ≡ true
+present : (part : Option (List ℕ)) (test : List ℕ → Bool) (x : List ℕ) → if_some part test ≡ true
+    → part ≡ Some x → test x ≡ true
 present part test x h e = sym (ap (λ o. if_some o test) e) ∙ h
 
 -- the tests of the grammar, one by one
@@ -33,20 +35,26 @@ meets kind p h =
     let s = and_parts S A a.0 in
     record { scheme = s.0; authority = s.1; path = a.1; query = t.1; fragment = q.1 }
 
-pub scheme_valid : (kind : Kind) (text part : List ℕ) → IsOfKind kind text → (components text).scheme ≡ Some part → is_scheme part ≡ true
+pub scheme_valid : (kind : Kind) (text part : List ℕ) → IsOfKind kind text
+    → (components text).scheme ≡ Some part → is_scheme part ≡ true
 scheme_valid kind text part h e = present _ is_scheme part (meets kind (components text) h).scheme e
 
-pub authority_valid : (kind : Kind) (users names : TableSet) (text part : List ℕ) → IsOfKind kind text → users ≡ kind.userinfo → names ≡ kind.reg_name → (components text).authority ≡ Some part → is_authority_for users names part ≡ true
+pub authority_valid : (kind : Kind) (users names : TableSet) (text part : List ℕ)
+    → IsOfKind kind text → users ≡ kind.userinfo → names ≡ kind.reg_name
+    → (components text).authority ≡ Some part → is_authority_for users names part ≡ true
 authority_valid kind users names text part h s t e =
     ap (λ v. is_authority_for v names part) s ∙ ap (λ v. is_authority_for kind.userinfo v part) t ∙ present _ (is_authority kind) part (meets kind (components text) h).authority e
 
-pub path_valid : (kind : Kind) (set : TableSet) (text : List ℕ) → IsOfKind kind text → set ≡ kind.path → IsValidFor set (components text).path
+pub path_valid : (kind : Kind) (set : TableSet) (text : List ℕ) → IsOfKind kind text
+    → set ≡ kind.path → IsValidFor set (components text).path
 path_valid kind set text h s = ap (λ t. is_valid_for t (components text).path) s ∙ (meets kind (components text) h).path
 
-pub query_valid : (kind : Kind) (set : TableSet) (text part : List ℕ) → IsOfKind kind text → set ≡ kind.query → (components text).query ≡ Some part → IsValidFor set part
+pub query_valid : (kind : Kind) (set : TableSet) (text part : List ℕ) → IsOfKind kind text
+    → set ≡ kind.query → (components text).query ≡ Some part → IsValidFor set part
 query_valid kind set text part h s e = ap (λ t. is_valid_for t part) s ∙ present _ (is_valid_for kind.query) part (meets kind (components text) h).query e
 
-pub fragment_valid : (kind : Kind) (set : TableSet) (text part : List ℕ) → IsOfKind kind text → set ≡ kind.fragment → (components text).fragment ≡ Some part → IsValidFor set part
+pub fragment_valid : (kind : Kind) (set : TableSet) (text part : List ℕ) → IsOfKind kind text
+    → set ≡ kind.fragment → (components text).fragment ≡ Some part → IsValidFor set part
 fragment_valid kind set text part h s e = ap (λ t. is_valid_for t part) s ∙ present _ (is_valid_for kind.fragment) part (meets kind (components text) h).fragment e
 
 -- each component of a text of a kind meets its rule

@@ -1,14 +1,20 @@
 -- The kinds keep apart what has to be apart, and their tables stand for their sets.
-use Rattle.std.proofs.Common.{◌≡◌, ℕ, Bool, true, false, refl, sym, ap, subst, ◌∙◌, arith, ◌||◌, ◌&&◌, not, ⊎_elim, List, []}
+use Rattle.std.proofs.Common.{◌≡◌, ℕ, Bool, true, false, refl, sym, ap, subst, ◌∙◌, arith, ◌||◌}
+use Rattle.std.proofs.Common.{◌&&◌, not, ⊎_elim, List, []}
 use Rattle.std.specs.Prelude.{codes, is_some}
 use Rattle.std.specs.Char.{is_ascii_digit}
 use Rattle.std.specs.Str.{chars}
-use Rattle.std.proofs.lemmas.Bool.{cases_lt, cond-true, cond-false, lt-ltb, le-ltb, and_parts, and_from}
+use Rattle.std.proofs.lemmas.Bool.{cases_lt, cond-true, cond-false, lt-ltb, le-ltb, and_parts}
+use Rattle.std.proofs.lemmas.Bool.{and_from}
 use Rattle.std.proofs.lemmas.Bool.Decides.{nat_tests}
-use Rattle.uri_pct.specs.Sets.{TableSet, is_one_of, is_scheme_char, is_segment_nz_nc_char, is_path_char, is_reg_name_char, is_userinfo_char, segment_nz_nc_set, path_set, userinfo_set, reg_name_set, query_set, fragment_set, allows_past_ascii}
+use Rattle.uri_pct.specs.Sets.{TableSet, is_one_of, is_scheme_char, is_segment_nz_nc_char}
+use Rattle.uri_pct.specs.Sets.{is_path_char, is_reg_name_char, is_userinfo_char, segment_nz_nc_set}
+use Rattle.uri_pct.specs.Sets.{path_set, userinfo_set, reg_name_set, query_set, fragment_set}
+use Rattle.uri_pct.specs.Sets.{allows_past_ascii}
 use Rattle.uri_pct.specs.Tokens.{is_valid_for, tokens_of}
 use Rattle.uri_pct.specs.Models.Fronts.{allows_first}
-use Rattle.uri_parts.specs.Grammar.{Kind, uri, uri_ref, iri, iri_ref, IsOfKind, first_segment_set, one_of_four}
+use Rattle.uri_parts.specs.Grammar.{Kind, uri, uri_ref, iri, iri_ref, IsOfKind, first_segment_set}
+use Rattle.uri_parts.specs.Grammar.{one_of_four}
 use Rattle.uri_parts.specs.Components.{components}
 use Rattle.uri_parts.proofs.TextKinds.Separations.{Separates}
 
@@ -18,7 +24,8 @@ scheme_in_segment c e = grind (arith, nat_tests)
 segment_in_path : (c : ℕ) → is_segment_nz_nc_char c ≡ true → is_path_char c ≡ true
 segment_in_path c e = grind (arith, nat_tests)
 
-path_in_segment : (c : ℕ) → is_one_of (codes ":/") c ≡ false → is_segment_nz_nc_char c ≡ false → is_path_char c ≡ false
+path_in_segment : (c : ℕ) → is_one_of (codes ":/") c ≡ false → is_segment_nz_nc_char c ≡ false
+    → is_path_char c ≡ false
 path_in_segment c m e = grind (arith, nat_tests)
 
 name_in_userinfo : (c : ℕ) → is_reg_name_char c ≡ true → is_userinfo_char c ≡ true
@@ -44,14 +51,17 @@ kind_with ucschar iprivate needs_scheme = record {
   needs_scheme = needs_scheme;
 }
 
-first_rest : (ucschar : Bool) (b : ℕ) (bs : List ℕ) → is_one_of (codes ":/") b ≡ false → allows_first (segment_with ucschar) b bs ≡ false → allows_first (international ucschar path_set) b bs ≡ false
+first_rest : (ucschar : Bool) (b : ℕ) (bs : List ℕ) → is_one_of (codes ":/") b ≡ false
+    → allows_first (segment_with ucschar) b bs ≡ false
+    → allows_first (international ucschar path_set) b bs ≡ false
 unfolding allows_first allows_past_ascii
 first_rest ucschar b bs m e = ⊎_elim
     (λ h. let l = lt-ltb b 128 h in cond-true _ _ _ l ∙ path_in_segment b m (sym (cond-true _ _ _ l) ∙ e))
     (λ h. let l = le-ltb b 128 h in cond-false _ _ _ l ∙ (sym (cond-false _ _ _ l) ∙ e))
     (cases_lt b 128)
 
-separates : (ucschar iprivate needs_scheme : Bool) → Separates (segment_with ucschar) (kind_with ucschar iprivate needs_scheme)
+separates : (ucschar iprivate needs_scheme : Bool)
+    → Separates (segment_with ucschar) (kind_with ucschar iprivate needs_scheme)
 separates ucschar iprivate needs_scheme = record {
   userinfo_lacks = refl;
   reg_name_lacks = refl;
@@ -77,27 +87,34 @@ separates ucschar iprivate needs_scheme = record {
   rest = first_rest ucschar;
 }
 
-one_separates : (international needs_scheme : Bool) (kind : Kind) → kind ≡ one_of_four international needs_scheme → kind.path.ucschar ≡ international → Separates (first_segment_set kind) kind
+one_separates : (international needs_scheme : Bool) (kind : Kind)
+    → kind ≡ one_of_four international needs_scheme → kind.path.ucschar ≡ international
+    → Separates (first_segment_set kind) kind
 one_separates false needs_scheme kind e u = subst (λ k. Separates (first_segment_set k) k) (sym e) (separates false false needs_scheme)
 one_separates true needs_scheme kind e u = subst (λ k. Separates (first_segment_set k) k) (sym e) (separates true true needs_scheme)
 
 -- each of the four kinds does
-pub known_separates : (kind : Kind) → kind ≡ one_of_four kind.path.ucschar kind.needs_scheme → Separates (first_segment_set kind) kind
+pub known_separates : (kind : Kind) → kind ≡ one_of_four kind.path.ucschar kind.needs_scheme
+    → Separates (first_segment_set kind) kind
 known_separates kind known = one_separates kind.path.ucschar kind.needs_scheme kind known refl
 
 -- where a scheme is needed it is there, and a text that has one is a reference too
-pub with_scheme : (needed present other : Bool) → needed ≡ true → (present || (not needed && other)) ≡ true → present ≡ true
+pub with_scheme : (needed present other : Bool) → needed ≡ true
+    → (present || (not needed && other)) ≡ true → present ≡ true
 with_scheme needed true other n h = refl
 with_scheme needed false other n h = absurd (cc (ap not n))
 
-needed_or_not : (needed present other : Bool) → (present || (not needed && other)) ≡ true → (present || other) ≡ true
+needed_or_not : (needed present other : Bool) → (present || (not needed && other)) ≡ true
+    → (present || other) ≡ true
 needed_or_not needed true other h = refl
 needed_or_not needed false other h = (and_parts (not needed) other h).1
 
-pub scheme_there : (kind : Kind) (text : List ℕ) → kind.needs_scheme ≡ true → IsOfKind kind text → is_some (components text).scheme ≡ true
+pub scheme_there : (kind : Kind) (text : List ℕ) → kind.needs_scheme ≡ true → IsOfKind kind text
+    → is_some (components text).scheme ≡ true
 scheme_there kind text n h = with_scheme kind.needs_scheme (is_some (components text).scheme) _ n (and_parts _ _ h).1
 
-pub is_reference : (kind : Kind) (text : List ℕ) → IsOfKind kind text → IsOfKind (record kind { needs_scheme = false }) text
+pub is_reference : (kind : Kind) (text : List ℕ) → IsOfKind kind text
+    → IsOfKind (record kind { needs_scheme = false }) text
 is_reference kind text h =
     let parts = and_parts _ _ h in
     and_from _ _ parts.0 (needed_or_not kind.needs_scheme _ _ parts.1)

@@ -1,7 +1,8 @@
 -- What the sets of a kind have to keep apart for its texts to be read from left to right.
 use Rattle.std.proofs.Common.{◌≡◌, ℕ, true, false, List}
 use Rattle.std.specs.Prelude.{codes}
-use Rattle.uri_pct.specs.Sets.{TableSet, LacksPercent, IsSubset, is_one_of, scheme_set, digit_set, reg_name_set}
+use Rattle.uri_pct.specs.Sets.{TableSet, LacksPercent, IsSubset, is_one_of, scheme_set, digit_set}
+use Rattle.uri_pct.specs.Sets.{reg_name_set}
 use Rattle.uri_pct.specs.Models.Fronts.{allows_first}
 use Rattle.uri_pct.proofs.ValidTexts.Cuts.{excludes}
 use Rattle.uri_parts.specs.Grammar.{Kind}
@@ -31,4 +32,5 @@ pub record Separates (segment : TableSet) (kind : Kind) : Type 0 where
   pub scheme_within : IsSubset scheme_set segment
   pub within : IsSubset segment kind.path
   pub octets : kind.path.pct_encoded ≡ segment.pct_encoded
-  pub rest : (b : ℕ) (bs : List ℕ) → is_one_of (codes ":/") b ≡ false → allows_first segment b bs ≡ false → allows_first kind.path b bs ≡ false
+  pub rest : (b : ℕ) (bs : List ℕ) → is_one_of (codes ":/") b ≡ false
+      → allows_first segment b bs ≡ false → allows_first kind.path b bs ≡ false

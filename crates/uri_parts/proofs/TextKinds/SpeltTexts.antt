@@ -1,5 +1,6 @@
 -- What a text lacks that a set's characters spell, and UTF-8 on both sides of an ASCII character.
-use Rattle.std.proofs.Common.{◌≡◌, ℕ, ◌<◌, ◌≤◌, true, false, List, ◌∷◌, ◌++◌, length, get_or, drop, length-append, sym, subst, ◌∙◌, arith}
+use Rattle.std.proofs.Common.{◌≡◌, ℕ, ◌<◌, ◌≤◌, true, false, List, ◌∷◌, ◌++◌, length, get_or, drop}
+use Rattle.std.proofs.Common.{length-append, sym, subst, ◌∙◌, arith}
 use Rattle.std.specs.Str.{IsUtf8}
 use Rattle.std.proofs.Math.Seq.{get_or-append_seam, take-append_seam, drop-append_seam}
 use Rattle.std.proofs.lemmas.Str.{IsUtf8-take, IsUtf8-drop, IsCharBoundary-before_ascii}
@@ -8,7 +9,8 @@ use Rattle.std.proofs.lemmas.Bool.{and_parts, eqb-true, not-true}
 use Rattle.uri_pct.specs.Sets.{TableSet, LacksPercent, is_one_of}
 use Rattle.uri_pct.specs.Tokens.{is_valid_for}
 use Rattle.uri_pct.specs.Models.Fronts.{front}
-use Rattle.uri_pct.proofs.ValidTexts.Cuts.{to_mark, excludes, of_each, front_le_mark, valid_where_read}
+use Rattle.uri_pct.proofs.ValidTexts.Cuts.{to_mark, excludes, of_each, front_le_mark}
+use Rattle.uri_pct.proofs.ValidTexts.Cuts.{valid_where_read}
 use Rattle.uri_parts.specs.Components.{Lacks, before_any}
 use Rattle.uri_parts.proofs.Splitting.Cuts.{IsCut-any}
 use Rattle.uri_parts.proofs.Parsing.ReadingStops.{utf8_tail}
@@ -16,7 +18,8 @@ use Rattle.uri_parts.proofs.Parsing.ReadingStops.{utf8_tail}
 inside_seam : (xs : List ℕ) (c : ℕ) (ys : List ℕ) → length xs < length (xs ++ c ∷ ys)
 inside_seam xs c ys = omega (arith, length-append xs (c ∷ ys))
 
-pub utf8_apart : (xs : List ℕ) (c : ℕ) (ys : List ℕ) → c < 128 → IsUtf8 (xs ++ c ∷ ys) → IsUtf8 xs × IsUtf8 ys
+pub utf8_apart : (xs : List ℕ) (c : ℕ) (ys : List ℕ) → c < 128 → IsUtf8 (xs ++ c ∷ ys)
+    → IsUtf8 xs × IsUtf8 ys
 utf8_apart xs c ys h u =
     let text : List ℕ = xs ++ c ∷ ys in
     let n = length xs in
@@ -29,11 +32,13 @@ utf8_apart xs c ys h u =
     )
 
 -- a mark is no character of a set that excludes it
-pub mark_outside : (set : TableSet) (marks : List ℕ) → excludes set marks ≡ true → (c : ℕ) → is_one_of marks c ≡ true → set.ascii c ≡ false
+pub mark_outside : (set : TableSet) (marks : List ℕ) → excludes set marks ≡ true → (c : ℕ)
+    → is_one_of marks c ≡ true → set.ascii c ≡ false
 mark_outside set marks outside c m = not-true _ (and_parts _ _ (and_parts _ _ (of_each _ marks outside c m)).1).0
 
 -- what a set spells lacks the marks that the set excludes
-pub valid_lacks : (set : TableSet) (marks : List ℕ) → LacksPercent set → excludes set marks ≡ true → (text : List ℕ) → IsUtf8 text → is_valid_for set text ≡ true → Lacks marks text
+pub valid_lacks : (set : TableSet) (marks : List ℕ) → LacksPercent set → excludes set marks ≡ true
+    → (text : List ℕ) → IsUtf8 text → is_valid_for set text ≡ true → Lacks marks text
 valid_lacks set marks lacks outside text u valid =
     let read : front set text ≡ length text = eqb-true _ _ (sym (valid_where_read set text lacks u) ∙ valid) in
     let le : front set text ≤ to_mark marks text = front_le_mark marks set lacks outside text u in

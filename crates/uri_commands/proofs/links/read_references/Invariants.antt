@@ -8,5 +8,6 @@ use Rattle.uri_commands.proofs.links.read_references.Given as goal
 abbrev pub invariant-loop-word : goal.invariant-loop-word
 invariant-loop-word l = record {
   of_kind : are_of_kind uri_ref (l.reference ∷ texts (take l.word-index l.others)) ≡ true;
-  kept : l.is_refused ≡ false → map uri_ref_text l.references.items ≡ l.reference ∷ texts (take l.word-index l.others);
+  kept : l.is_refused ≡ false
+      → map uri_ref_text l.references.items ≡ l.reference ∷ texts (take l.word-index l.others);
 }

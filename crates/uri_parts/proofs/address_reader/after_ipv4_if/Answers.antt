@@ -1,8 +1,10 @@
 use Rattle.std.proofs.Common.{arith}
 use Rattle.std.proofs.lemmas.List.{get_or_past}
 use Rattle.uri_parts.proofs.HostForms.AddressReads.{undotted, long_undotted}
-use Rattle.uri_parts.proofs.address_reader.after_ipv4_if.Goals.{else-fits-via-then-fits+then-digits-lt5+then-digits-text+else-text-digits-eq46, else-fits-via-then-fits+then-digits-lt5+else-digits-text}
-use Rattle.uri_parts.proofs.address_reader.after_ipv4_if.Goals.{else-fits-via-then-fits+else-digits-lt5, else-fits-via-else-fits}
+use Rattle.uri_parts.proofs.address_reader.after_ipv4_if.Goals.{else-fits-via-then-fits+then-digits-lt5+then-digits-text+else-text-digits-eq46}
+use Rattle.uri_parts.proofs.address_reader.after_ipv4_if.Goals.{else-fits-via-then-fits+then-digits-lt5+else-digits-text}
+use Rattle.uri_parts.proofs.address_reader.after_ipv4_if.Goals.{else-fits-via-then-fits+else-digits-lt5}
+use Rattle.uri_parts.proofs.address_reader.after_ipv4_if.Goals.{else-fits-via-else-fits}
 use Rattle.uri_parts.proofs.address_reader.after_ipv4_if.Goals as goal
 
 pub returns-else-fits : goal.returns-else-fits

@@ -1,5 +1,6 @@
 use Rattle.std.proofs.Common.{◌≡◌, ◌-◌, arith}
-use Rattle.uri_parts.proofs.HostForms.GroupReads.{ended, at_end, no_separator, ends_in_ipv4, no_group, goes_on}
+use Rattle.uri_parts.proofs.HostForms.GroupReads.{ended, at_end, no_separator, ends_in_ipv4}
+use Rattle.uri_parts.proofs.HostForms.GroupReads.{no_group, goes_on}
 use Rattle.uri_parts.proofs.address_reader.read_groups.Goals as goal
 
 pub returns-in_default-clause-found : goal.returns-in_default-clause-found

@@ -1,14 +1,20 @@
-use Rattle.std.proofs.Common.{◌≡◌, ℕ, ◌+◌, ◌*◌, ◌<◌, ◌≤◌, List, take, get_or, length, arith, sym, lit≤}
+use Rattle.std.proofs.Common.{◌≡◌, ℕ, ◌+◌, ◌*◌, ◌<◌, ◌≤◌, List, take, get_or, length, arith, sym}
+use Rattle.std.proofs.Common.{lit≤}
 use Rattle.std.proofs.lemmas.List.{get_or_past}
 use Rattle.std.proofs.lemmas.Int.Digits.{digits_more, digits_value_more}
 use Rattle.std.specs.Char.{digit_value}
 use Rattle.std.specs.Str.Parse.{AllDigits, digits_value}
-use Rattle.std.proofs.NetLemmas.Numbers.{read_number_some_at, read_number_large_at, read_number_empty}
-use Rattle.uri_parts.proofs.address_reader.small_number.Goals.{else-loop-byte-test, then-loop-byte-test+in_default}
+use Rattle.std.proofs.NetLemmas.Numbers.{read_number_some_at, read_number_large_at}
+use Rattle.std.proofs.NetLemmas.Numbers.{read_number_empty}
+use Rattle.uri_parts.proofs.address_reader.small_number.Goals.{else-loop-byte-test}
+use Rattle.uri_parts.proofs.address_reader.small_number.Goals.{then-loop-byte-test+in_default}
 use Rattle.uri_parts.proofs.address_reader.small_number.Goals as goal
 
 -- one more digit
-more : (s : List ℕ) (i j value byte digit : ℕ) → i ≡ j → j < length s → AllDigits 10 (take i s) → value ≡ digits_value 10 (take i s) → byte ≡ get_or s j 0 → (digit_value byte < 10) × (digit ≡ digit_value byte) → AllDigits 10 (take (i + 1) s) × (value * 10 + digit ≡ digits_value 10 (take (i + 1) s))
+more : (s : List ℕ) (i j value byte digit : ℕ) → i ≡ j → j < length s → AllDigits 10 (take i s)
+    → value ≡ digits_value 10 (take i s) → byte ≡ get_or s j 0
+    → (digit_value byte < 10) × (digit ≡ digit_value byte)
+    → AllDigits 10 (take (i + 1) s) × (value * 10 + digit ≡ digits_value 10 (take (i + 1) s))
 more s i j value byte digit same within all is read h =
     let inside : i < length s = omega arith in
     let at : byte ≡ get_or s i 0 = rw same read in
@@ -18,7 +24,8 @@ more s i j value byte digit same within all is read h =
 past : (s : List ℕ) (i j : ℕ) → i ≡ j → length s ≤ j → 10 ≤ digit_value (get_or s i 0)
 past s i j same end = rw (same, get_or_past s j 0 end) (lit≤ tt)
 
-other : (s : List ℕ) (i j byte : ℕ) → i ≡ j → byte ≡ get_or s j 0 → ¬ (digit_value byte < 10) → 10 ≤ digit_value (get_or s i 0)
+other : (s : List ℕ) (i j byte : ℕ) → i ≡ j → byte ≡ get_or s j 0 → ¬ (digit_value byte < 10)
+    → 10 ≤ digit_value (get_or s i 0)
 other s i j byte same read h = rw (same, ← read) (let d = digit_value byte in omega arith)
 
 pub returns-then-next-gt255-clause-value : goal.returns-then-next-gt255-clause-value

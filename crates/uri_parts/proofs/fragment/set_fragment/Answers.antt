@@ -3,14 +3,18 @@ use Rattle.std.specs.Prelude.{option_map, string_bytes}
 use Rattle.std.specs.Str.{IsCharBoundary}
 use Rattle.uri_pct.specs.EStrs.{text_of}
 use Rattle.uri_parts.specs.Fragments.{IsWithFragment}
-use Rattle.uri_parts.proofs.Splitting.Fragments.{mark_boundary, stripped, added, stays_with, stays_without, same_places}
+use Rattle.uri_parts.proofs.Splitting.Fragments.{mark_boundary, stripped, added, stays_with}
+use Rattle.uri_parts.proofs.Splitting.Fragments.{stays_without, same_places}
 use Rattle.uri_parts.proofs.fragment.set_fragment.Goals as goal
 
 -- the text that is left without a fragment, and the one with another
-without : (g : _) (c : goal.After-truncate g) → IsWithFragment (string_bytes c.args.text.now) None (string_bytes c.truncate.new.self)
+without : (g : _) (c : goal.After-truncate g)
+    → IsWithFragment (string_bytes c.args.text.now) None (string_bytes c.truncate.new.self)
 without g c = stripped (string_bytes c.args.text.now) c.args.positions.now c.requires c.before_fragment-kept.result c.before_fragment-kept.ensures _ c.truncate.ensures.bytes
 
-with : (g : _) (c : goal.After-replace_end g) → IsWithFragment (string_bytes c.args.text.now) (Some c.as_str.result.now) (string_bytes c.replace_end.new.text)
+with : (g : _) (c : goal.After-replace_end g)
+    → IsWithFragment (string_bytes c.args.text.now) (Some c.as_str.result.now)
+    (string_bytes c.replace_end.new.text)
 with g c =
     let text = string_bytes c.args.text.now in
     let mark = c.before_fragment-kept.result in

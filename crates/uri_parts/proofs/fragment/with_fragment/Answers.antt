@@ -6,12 +6,15 @@ use Rattle.uri_parts.proofs.Splitting.Fragments.{added, stays_with, stays_withou
 use Rattle.uri_parts.proofs.fragment.with_fragment.Goals as goal
 
 -- the text that is made without a fragment, and with one
-without : (g : _) (c : goal.In_ok-push_str g) → IsWithFragment c.args.text.now None (string_bytes c.push_str.new.self)
+without : (g : _) (c : goal.In_ok-push_str g)
+    → IsWithFragment c.args.text.now None (string_bytes c.push_str.new.self)
 without g c =
     let copied = c.in_ok-push_str.ensures.bytes ∙ ap (λ t. t ++ c.without_fragment-kept.result.now) c.new-made.ensures.bytes in
     subst (IsWithFragment c.args.text.now None) (sym copied) c.without_fragment-kept.ensures.fragment
 
-with : (g : _) (c : goal.In_ok-push_fragment g) → IsWithFragment c.args.text.now (Some c.as_str.result.now) (string_bytes c.push_fragment.new.text)
+with : (g : _) (c : goal.In_ok-push_fragment g)
+    → IsWithFragment c.args.text.now (Some c.as_str.result.now)
+    (string_bytes c.push_fragment.new.text)
 with g c =
     let kept = c.without_fragment-kept.result.now in
     let fragment = c.as_str.result.now in

@@ -2,7 +2,8 @@ use Rattle.std.proofs.Common.{◌≡◌, ◌≤◌, true, false, length, arith, 
 use Rattle.std.proofs.lemmas.Str.{IsUtf8-drop}
 use Rattle.uri_parts.specs.Components.{starts}
 use Rattle.uri_parts.proofs.HostForms.FutureReads.{reads_at, end_at}
-use Rattle.uri_parts.proofs.HostForms.Ipv6Literals.{follows, place_behind, accepted, unread, unclosed}
+use Rattle.uri_parts.proofs.HostForms.Ipv6Literals.{follows, place_behind, accepted, unread}
+use Rattle.uri_parts.proofs.HostForms.Ipv6Literals.{unclosed}
 use Rattle.uri_parts.proofs.literal.literal_end.Goals.{in-Some+else-sees, in_default}
 use Rattle.uri_parts.proofs.literal.literal_end.Goals as goal
 

@@ -1,13 +1,19 @@
 use Rattle.std.specs.Prelude.{bytes_eq}
-use Rattle.std.proofs.Common.{rules, true, arith, ap, ℕ, List, [], get_or, length, ◌≡◌, ◌≢◌, MatchOption, codes, string_bytes, sym, ◌∙◌, subst}
+use Rattle.std.proofs.Common.{rules, true, arith, ap, ℕ, List, [], get_or, length, ◌≡◌, ◌≢◌}
+use Rattle.std.proofs.Common.{MatchOption, codes, string_bytes, sym, ◌∙◌, subst}
 use borrow.Author.Tests.{ltb-true, ltb-false}
 use Rattle.uri_commands.specs.Asked.{asked}
-use Rattle.uri_commands.specs.Commands.{Parse, Normalize, Resolve, IsCommand, word_of_base, words_of, texts}
+use Rattle.uri_commands.specs.Commands.{Parse, Normalize, Resolve, IsCommand, word_of_base}
+use Rattle.uri_commands.specs.Commands.{words_of, texts}
 use Rattle.uri_commands.specs.declared.command.BaseName.{BaseName}
 use Rattle.uri_commands.specs.declared.command.KindName.{KindName}
-use Rattle.uri_commands.proofs.Commands.{texts_of_three, texts_of_four, length_of_words, not_a_base, or_links}
+use Rattle.uri_commands.proofs.Commands.{texts_of_three, texts_of_four, length_of_words, not_a_base}
+use Rattle.uri_commands.proofs.Commands.{or_links}
 use Rattle.uri_commands.proofs.command.Command.from_words.Goals as goal
-use Rattle.uri_commands.proofs.command.Command.from_words.Goals.{in_default-via-then-words-lt3, in_default-via-in-len3-2+else-eq-2, in_default-via-in-len4+else-eq-3, in_default-via-else-words-lt3+else-words-lt4+else-words-lt5}
+use Rattle.uri_commands.proofs.command.Command.from_words.Goals.{in_default-via-then-words-lt3}
+use Rattle.uri_commands.proofs.command.Command.from_words.Goals.{in_default-via-in-len3-2+else-eq-2}
+use Rattle.uri_commands.proofs.command.Command.from_words.Goals.{in_default-via-in-len4+else-eq-3}
+use Rattle.uri_commands.proofs.command.Command.from_words.Goals.{in_default-via-else-words-lt3+else-words-lt4+else-words-lt5}
 
 pub returns-in_ok-kind_named-in-len3 : goal.returns-in_ok-kind_named-in-len3
 returns-in_ok-kind_named-in-len3 c =
@@ -36,7 +42,8 @@ returns-in_ok-kind-in-len4 c =
     let command : string_bytes c.command-item-then-words-lt5.result ≡ codes "resolve" = search rules in
     cc (c.in_ok-kind-in-len4.ensures, c.as_str-in-len4.ensures.value, c.as_str-in-len4-2.ensures.value, c.as_str-in-len4-3.ensures.value)
 
-no_parse : (c : goal.After-links_from_words) (k : KindName) (t : List ℕ) → texts c.args.words.now ≢ words_of (Parse k t)
+no_parse : (c : goal.After-links_from_words) (k : KindName) (t : List ℕ)
+    → texts c.args.words.now ≢ words_of (Parse k t)
 no_parse c k t is =
     let l : length c.args.words.now ≡ 3 = length_of_words c.args.words.now _ is in
     elim c.in_default.branch [
@@ -50,7 +57,8 @@ no_parse c k t is =
       | in_default-via-else-words-lt3+else-words-lt4+else-words-lt5 w ↦ absurd (omega (arith, ltb-false))
     ]
 
-no_normalize : (c : goal.After-links_from_words) (k : KindName) (t : List ℕ) → texts c.args.words.now ≢ words_of (Normalize k t)
+no_normalize : (c : goal.After-links_from_words) (k : KindName) (t : List ℕ)
+    → texts c.args.words.now ≢ words_of (Normalize k t)
 no_normalize c k t is =
     let l : length c.args.words.now ≡ 3 = length_of_words c.args.words.now _ is in
     elim c.in_default.branch [
@@ -64,7 +72,8 @@ no_normalize c k t is =
       | in_default-via-else-words-lt3+else-words-lt4+else-words-lt5 w ↦ absurd (omega (arith, ltb-false))
     ]
 
-no_resolve : (c : goal.After-links_from_words) (k : BaseName) (b r : List ℕ) → texts c.args.words.now ≢ words_of (Resolve k b r)
+no_resolve : (c : goal.After-links_from_words) (k : BaseName) (b r : List ℕ)
+    → texts c.args.words.now ≢ words_of (Resolve k b r)
 no_resolve c k b r is =
     let l : length c.args.words.now ≡ 4 = length_of_words c.args.words.now _ is in
     elim c.in_default.branch [

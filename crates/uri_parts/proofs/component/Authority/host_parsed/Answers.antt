@@ -3,7 +3,8 @@ use Rattle.std.specs.Prelude.{codes}
 use Rattle.uri_parts.specs.Addresses.{ipv4_octets, ipv6_segments}
 use Rattle.uri_parts.specs.Components.{starts, before_any}
 use Rattle.uri_parts.specs.Hosts.{host_kind, ipv4_value}
-use Rattle.uri_parts.proofs.Authorities.AuthorityPlaces.{holds, name_valid, name_kind_of, literal_kind_of}
+use Rattle.uri_parts.proofs.Authorities.AuthorityPlaces.{holds, name_valid, name_kind_of}
+use Rattle.uri_parts.proofs.Authorities.AuthorityPlaces.{literal_kind_of}
 use Rattle.uri_parts.proofs.component.Authority.host_parsed.Goals as goal
 
 pub new_or_panic-requires : goal.new_or_panic-requires

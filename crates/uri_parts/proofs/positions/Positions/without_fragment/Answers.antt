@@ -1,6 +1,7 @@
 use Rattle.std.proofs.Common.{None, ◌∙◌}
 use Rattle.uri_parts.specs.Fragments.{IsWithFragment}
-use Rattle.uri_parts.proofs.Splitting.Fragments.{mark_boundary, from_start, stripped, stripped_of_kind, same_places}
+use Rattle.uri_parts.proofs.Splitting.Fragments.{mark_boundary, from_start, stripped}
+use Rattle.uri_parts.proofs.Splitting.Fragments.{stripped_of_kind, same_places}
 use Rattle.uri_parts.proofs.positions.Positions.without_fragment.Goals as goal
 
 pub range-requires-clause-end_boundary : goal.range-requires-clause-end_boundary
