@@ -5,7 +5,7 @@ use Rattle.std.specs.Option.{option_map_or}
 use Rattle.uri_ops.specs.declared.build.draft.Draft.{Draft}
 use Rattle.uri_ops.specs.BuilderParts.{BuilderParts, takes_host, takes_port}
 use Rattle.uri_ops.specs.Dots.{is_empty}
-use Rattle.uri_ops.specs.Models.Drafts.{parts_in}
+use Rattle.uri_ops.specs.Drafts.{parts_in}
 
 abbrev pub draft_parts : Draft → BuilderParts
 draft_parts d = parts_in d.lengths (string_bytes d.text) d.failed

@@ -1,8 +1,6 @@
--- What the code does on its way, as functions of a text. Of public contracts only those of the
--- builder rest on these: `Drafts` says which parts its text holds.
+-- What the code does on its way, as functions of a text. No public contract says it by these.
 pub mod Directories
 pub mod DraftPlaces
-pub mod Drafts
 pub mod EncodedPlaces
 pub mod Places
 pub mod Readings

@@ -11,7 +11,7 @@ use Rattle.uri_ops.specs.declared.build.draft.Draft.{Draft}
 use Rattle.uri_ops.specs.declared.build.draft.Lengths.{Lengths}
 use Rattle.uri_ops.specs.BuilderParts.{BuilderParts, is_scheme_text, is_text_for, with_authority, with_fragment, with_path, with_query, with_scheme}
 use Rattle.uri_ops.specs.Builders.{draft_parts, is_unended, lacks_all, lacks_authority, lacks_path}
-use Rattle.uri_ops.specs.Models.Drafts.{behind_part, parts_in}
+use Rattle.uri_ops.specs.Drafts.{behind_part, parts_in}
 use Rattle.uri_ops.proofs.Builders.BuilderSteps.{authority_step, fragment_step, path_step, query_step, scheme_step}
 use Rattle.uri_ops.proofs.Builders.Drafting.{IsStep, none_in}
 

@@ -17,7 +17,7 @@ use Rattle.uri_ops.specs.BuilderParts.{BuilderParts, is_authority_text, is_text_
 use Rattle.uri_ops.specs.Builders.{any_authority, draft_parts, ends_in_authority, is_unended, lacks_path}
 use Rattle.uri_ops.specs.ComponentSets.{HasComponentSets}
 use Rattle.uri_ops.specs.Dots.{is_empty}
-use Rattle.uri_ops.specs.Models.Drafts.{behind_part, part_in, parts_in}
+use Rattle.uri_ops.specs.Drafts.{behind_part, part_in, parts_in}
 use Rattle.uri_ops.specs.HostParts.{IsHostText}
 use Rattle.uri_ops.proofs.Builders.BuilderAuthorities.{host_parts, port_parts, user_parts}
 use Rattle.uri_ops.proofs.Builders.BuilderSteps.{more_step}

@@ -4,7 +4,7 @@ use Rattle.std.specs.Prelude.{codes, Option, Some, None, option_map, unwrap_or}
 use Rattle.uri_parts.specs.Components.{recompose}
 use Rattle.uri_ops.specs.declared.build.draft.Lengths.{Lengths}
 use Rattle.uri_ops.specs.BuilderParts.{BuilderParts, with_authority, with_fragment, with_more_authority, with_path, with_query, with_scheme}
-use Rattle.uri_ops.specs.Models.Drafts.{IsDraft, behind_part, part_in, parts_in}
+use Rattle.uri_ops.specs.Drafts.{IsDraft, behind_part, part_in, parts_in}
 use Rattle.uri_ops.proofs.Builders.Drafting.{IsStep, authority_text, fragment_text, more_text, path_text, query_text, stepped}
 
 abbrev whole : Option (List ℕ) → Option (List ℕ) → List ℕ → Option (List ℕ) → Option (List ℕ) → List ℕ

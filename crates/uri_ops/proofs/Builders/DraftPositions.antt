@@ -9,7 +9,7 @@ use Rattle.uri_ops.specs.declared.build.draft.Lengths.{Lengths}
 use Rattle.uri_ops.specs.declared.build.places.HostPlace.{HostPlace}
 use Rattle.uri_ops.specs.BuilderParts.{BuilderParts, as_components, parts_text}
 use Rattle.uri_ops.specs.Builders.{draft_parts}
-use Rattle.uri_ops.specs.Models.Drafts.{lengths_of}
+use Rattle.uri_ops.specs.Drafts.{lengths_of}
 use Rattle.uri_ops.specs.Models.DraftPlaces.{IsHostAt, KnowsHost, authority_by, positions_by, span}
 use Rattle.uri_ops.proofs.Builders.DraftHosts.{some_is}
 use Rattle.uri_ops.proofs.Normal.WrittenPlaces.{length-behind, length-before}

@@ -7,7 +7,7 @@ use Rattle.uri_parts.specs.Components.{marked, recompose}
 use Rattle.uri_parts.specs.Grammar.{Kind, if_some}
 use Rattle.uri_ops.specs.declared.build.draft.Lengths.{Lengths}
 use Rattle.uri_ops.specs.BuilderParts.{BuilderParts, is_authority_text, is_scheme_text, is_text_for, meet_rules, parts_text}
-use Rattle.uri_ops.specs.Models.Drafts.{IsDraft, behind_part, lengths_of, part_in, parts_in}
+use Rattle.uri_ops.specs.Drafts.{IsDraft, behind_part, lengths_of, part_in, parts_in}
 
 -- a part with its marks is passed over by its length
 behind_marked : (before behind : List ℕ) (marks : ℕ) → marks ≡ length before + length behind → (o : Option (List ℕ)) (rest : List ℕ) → behind_part marks (option_map length o) (marked before o behind ++ rest) ≡ rest

@@ -9,7 +9,7 @@ ghost use Rattle.uri_ops.specs.BuilderParts.{Adds, as_components, is_text_for, n
 ghost use Rattle.uri_ops.specs.BuilderParts.{with_authority, with_fragment, with_host, with_path};
 ghost use Rattle.uri_ops.specs.BuilderParts.{with_port, with_query, with_scheme, with_userinfo};
 ghost use Rattle.uri_ops.specs.Built.{refusal_of};
-ghost use Rattle.uri_ops.specs.Models.Drafts.{IsDraft, behind_part};
+ghost use Rattle.uri_ops.specs.Drafts.{IsDraft, behind_part};
 ghost use Rattle.uri_ops.specs.HostParts.{IsHostText};
 
 use crate::build::BuildError;

@@ -1,6 +1,6 @@
 use Rattle.std.proofs.Common.{sym, ◌∙◌, string_bytes, take, drop}
 use Rattle.uri_ops.specs.Built.{refusal_of}
-use Rattle.uri_ops.specs.Models.Drafts.{behind_part}
+use Rattle.uri_ops.specs.Drafts.{behind_part}
 use Rattle.uri_pct.proofs.Tests.{some_map}
 use Rattle.uri_ops.proofs.build.draft.Draft.refusal.Goals as goal
 
