@@ -1,11 +1,10 @@
 -- The bytes of a text are encoded in runs.
 use Rattle.std.proofs.Common.{◌≡◌, ℕ, zero, suc, ◌+◌, ◌-◌, ◌<◌, ◌≤◌, List, [], ◌∷◌, ◌++◌, length, get_or, take, drop, sym, ap, subst, ◌∙◌, arith, append_assoc, ⊎_elim}
-use Rattle.std.specs.Str.{IsUtf8}
 use Rattle.std.proofs.Math.Seq.{take-suc, take-add}
 use Rattle.std.proofs.lemmas.Bool.{cases_lt}
 use Rattle.std.proofs.lemmas.List.{append-nil, length-append, length-drop, get_or-drop, take_all}
 use Rattle.uri_ops.specs.Encoded.{encoded_text}
-use Rattle.uri_ops.proofs.AsciiForms.EncodedTokens.{octet_text, IsUtf8-encoded}
+use Rattle.uri_ops.proofs.AsciiForms.EncodedTokens.{octet_text}
 use Rattle.uri_ops.proofs.AsciiForms.EncodedPaths.{encoded-append, encoded-nil, encoded_first, encoded_octet}
 
 one_more : (bytes : List ℕ) (i : ℕ) → i < length bytes → take (i + 1) bytes ≡ take i bytes ++ get_or bytes i 0 ∷ []
@@ -59,9 +58,6 @@ same_length (c ∷ text) e = ⊎_elim
     (λ h. encoded_first c text h ∙ ap (λ t. c ∷ t) (same_length text (omega (arith, e, ap length (encoded_first c text h)))))
     (λ h. absurd (omega (arith, e, ap length (encoded_octet c text h), length-append (octet_text c) (encoded_text text), longer text)))
     (cases_lt c 128)
-
-pub utf8_encoded : (text : List ℕ) → IsUtf8 text → IsUtf8 (encoded_text text)
-utf8_encoded text u = IsUtf8-encoded text u
 
 pub nothing_encoded : encoded_text [] ≡ []
 nothing_encoded = encoded-nil

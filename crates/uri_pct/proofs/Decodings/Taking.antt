@@ -1,5 +1,5 @@
 -- What is taken where text is put behind.
-use Rattle.std.proofs.Common.{◌≡◌, ℕ, Bool, true, false, List, [], ◌∷◌, ◌++◌, ◌&&◌, refl, sym, ap, ◌∙◌, string_bytes, Result, Ok, Err}
+use Rattle.std.proofs.Common.{◌≡◌, ℕ, true, List, [], ◌∷◌, ◌++◌, ◌&&◌, refl, sym, ap, ◌∙◌, string_bytes, Result, Ok, Err}
 use Rattle.std.specs.List.{list_all, flat_map}
 use Rattle.std.specs.Result.{OnOk, is_ok}
 use Rattle.std.specs.Str.{IsUtf8}
@@ -13,6 +13,7 @@ use Rattle.uri_pct.specs.Chunks.{widest_set}
 use Rattle.uri_pct.specs.Parts.{parts}
 use Rattle.uri_pct.specs.Pieces.{lossy_text}
 use Rattle.uri_pct.specs.Tokens.{tokens, token_bytes, IsValidFor}
+use Rattle.uri_pct.proofs.Tests.{and_true}
 use Rattle.uri_pct.proofs.Unicode.Lossy.{well_formed-IsUtf8, lossy_of_text}
 use Rattle.uri_pct.proofs.Unicode.PartPieces.{pieces_of-parts}
 use Rattle.uri_pct.proofs.Unicode.Pieces.{bytes_of_pieces-utf8_pieces}
@@ -25,14 +26,10 @@ when_ok (Err e) f = tt
 pub plain_pieces : (text : List ℕ) → pieces_of (Plain text ∷ []) ≡ utf8_pieces text
 plain_pieces text = append-nil (utf8_pieces text)
 
-and_true : (b : Bool) → b ≡ (b && true)
-and_true true = refl
-and_true false = refl
-
 pub took_text : (s t : Bytes) (ps : List Part) (text : List ℕ) → IsUtf8 text → pieces_of ps ≡ utf8_pieces text → t.bytes.items ≡ s.bytes.items ++ text → t.is_text ≡ s.is_text → TookBytes s ps t
 took_text s t ps text u pieces bytes same = record {
   bytes = bytes ∙ ap (λ x. s.bytes.items ++ x) (sym (ap bytes_of_pieces pieces ∙ bytes_of_pieces-utf8_pieces text));
-  is_text = same ∙ and_true s.is_text ∙ ap (λ b. s.is_text && b) (sym (ap (list_all is_well_formed) pieces ∙ well_formed-IsUtf8 text u));
+  is_text = same ∙ sym (and_true s.is_text) ∙ ap (λ b. s.is_text && b) (sym (ap (list_all is_well_formed) pieces ∙ well_formed-IsUtf8 text u));
 }
 
 pub lossy_took_text : (s t : LossyText) (ps : List Part) (text : List ℕ) → IsUtf8 text → pieces_of ps ≡ utf8_pieces text → string_bytes t.text ≡ string_bytes s.text ++ text → TookText s ps t

@@ -1,4 +1,4 @@
--- Which bytes at the end may be of a character that goes on behind them: Unicode, section 3.9, table
+-- Which bytes at the end may be of a character that goes on behind them: Unicode, section 3.9,
 -- 3-7.
 use Rattle.std.specs.Prelude.{◌≡◌, ℕ, suc, nat_lt, List, [], ◌∷◌, ◌++◌, length}
 use Rattle.std.specs.Prelude.{Option, Some, None, if◌then◌else◌}

@@ -7,7 +7,8 @@ use Rattle.uri_parts.specs.Positions.{AreAt}
 use Rattle.uri_ops.specs.Encoded.{encoded_text}
 use Rattle.uri_ops.specs.Models.EncodedPlaces.{AreOrdered, positions_moved}
 use Rattle.uri_ops.proofs.AsciiForms.EncodedPlaces.{moved_at, ordered_at}
-use Rattle.uri_ops.proofs.AsciiForms.EncodedRuns.{same_length, utf8_encoded}
+use Rattle.uri_ops.proofs.AsciiForms.EncodedRuns.{same_length}
+use Rattle.uri_ops.proofs.AsciiForms.EncodedTokens.{IsUtf8-encoded}
 use Rattle.uri_ops.proofs.encoded.encoded.Goals as goal
 
 pub returns-then-past-eq0-clause-text : goal.returns-then-past-eq0-clause-text
@@ -30,7 +31,7 @@ push_components-requires-clause-ordered g c =
 pub unreachable-requires : goal.unreachable-requires
 unreachable-requires g c =
     let all = c.in_ok-positions.ensures.text ∙ ap encoded_text c.as_bytes-bytes.ensures.value in
-    false≢true (c.in-Err.ensures.succeeds (subst IsUtf8 (sym all) (utf8_encoded c.as_str-text.result.now c.as_str-text.utf8)))
+    false≢true (c.in-Err.ensures.succeeds (subst IsUtf8 (sym all) (IsUtf8-encoded c.as_str-text.result.now c.as_str-text.utf8)))
 
 pub returns-clause-at : goal.returns-clause-at
 returns-clause-at g c =
