@@ -35,10 +35,12 @@ before_rest (u ∷ v ∷ w ∷ rest) a b c least x y z = cc
 -- the bytes of three words and of those behind them
 pub texts_of_more : {Z : Type 0} (words : List (String Z)) (a b c : String Z) → 3 ≤ length words
     → a ≡ get_or words 0 a → b ≡ get_or words 1 b → c ≡ get_or words 2 c
-    → texts words ≡ string_bytes a ∷ string_bytes b ∷ string_bytes c ∷ texts (take (length words - 3) (drop 3 words))
+    → texts words
+    ≡ string_bytes a ∷ string_bytes b ∷ string_bytes c ∷ texts (take (length words - 3) (drop 3 words))
 texts_of_more words a b c least x y z =
     let rest : take (length words - 3) (drop 3 words) ≡ drop 3 words = take_all (length words - 3) (drop 3 words) (omega (arith, length-drop 3 words)) in
-    before_rest words a b c least x y z ∙ ap (λ l. string_bytes a ∷ string_bytes b ∷ string_bytes c ∷ texts l) (sym rest)
+    before_rest words a b c least x y z
+    ∙ ap (λ l. string_bytes a ∷ string_bytes b ∷ string_bytes c ∷ texts l) (sym rest)
 
 -- the bytes of four words
 pub texts_of_four : {Z : Type 0} (words : List (String Z)) (a b c d : String Z) → 4 ≤ length words
@@ -87,7 +89,8 @@ command_named-words_of (Links s r rs) = refl
 
 -- no two commands have the same words
 pub words_of_injective : (a b : Command) → words_of a ≡ words_of b → a ≡ b
-words_of_injective a b same = sym (command_named-words_of a) ∙ ap command_named same ∙ command_named-words_of b
+words_of_injective a b same = sym (command_named-words_of a) ∙ ap command_named same
+    ∙ command_named-words_of b
 
 -- the same words ask for the same output
 pub output_of_words : (a b : Command) → words_of a ≡ words_of b → output_of a ≡ output_of b

@@ -14,7 +14,8 @@ use Rattle.uri_commands.specs.Links.{link_lines, outcome_line, outcome_lines}
 -- the lines of what was noted are those of the references
 pub lines_noted : (ports : PortFunction) (base word : List ℕ)
     (none references words : List (List ℕ)) (outcomes : List Outcome) (registered : List (List ℕ))
-    → ports ≡ default_port → base ≡ word → none ≡ [] → references ≡ words → outcomes_of ports base none references ≡ (outcomes, registered)
+    → ports ≡ default_port → base ≡ word → none ≡ [] → references ≡ words
+    → outcomes_of ports base none references ≡ (outcomes, registered)
     → outcome_lines registered outcomes ≡ link_lines word words
 unfolding link_lines
 lines_noted ports base word none references words outcomes registered p b n r noted =
@@ -25,7 +26,9 @@ lines_noted ports base word none references words outcomes registered p b n r no
 pub line_written : (registered : List (List ℕ)) (outcomes : List Outcome) (n : ℕ)
     (outcome : Outcome) (a b c : Option (List ℕ))
     → n < length outcomes → outcome ≡ get_or outcomes n outcome
-    → Appends a b (outcome_lines registered (take n outcomes)) → Appends b c (outcome_line registered outcome) → Appends a c (outcome_lines registered (take (n + 1) outcomes))
+    → Appends a b (outcome_lines registered (take n outcomes))
+    → Appends b c (outcome_line registered outcome)
+    → Appends a c (outcome_lines registered (take (n + 1) outcomes))
 line_written registered outcomes n outcome a b c h e before now =
     let more : outcome_lines registered (take (n + 1) outcomes) ≡ outcome_lines registered (take n outcomes) ++ outcome_line registered outcome =
     ap (outcome_lines registered) (take_more outcomes n outcome h)

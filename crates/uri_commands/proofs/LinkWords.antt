@@ -10,7 +10,9 @@ use Rattle.fluent_uri.specs.declared.ParseError.{ParseError}
 use Rattle.uri_commands.specs.Commands.{are_of_kind, texts}
 use Rattle.uri_commands.specs.Refusals.{IsErrorOf, IsErrorOfFirst}
 
-module _ {Z : Type 0} (kind : Kind) (first : List ℕ) (others : List (String Z)) (n : ℕ) (word : String Z) (text : List ℕ) (below : n < length others) (is : word ≡ get_or others n word) (same : text ≡ string_bytes word) where
+module _ {Z : Type 0} (kind : Kind) (first : List ℕ) (others : List (String Z)) (n : ℕ)
+    (word : String Z) (text : List ℕ) (below : n < length others) (is : word ≡ get_or others n word)
+    (same : text ≡ string_bytes word) where
   -- the first word and n of the others, and the next
   next : first ∷ texts (take (n + 1) others) ≡ (first ∷ texts (take n others)) ++ text ∷ []
   next =
@@ -21,17 +23,23 @@ module _ {Z : Type 0} (kind : Kind) (first : List ℕ) (others : List (String Z)
   pub read_next : are_of_kind kind (first ∷ texts (take n others)) ≡ true → IsOfKind kind text
       → are_of_kind kind (first ∷ texts (take (n + 1) others)) ≡ true
   read_next before now =
-      ap (are_of_kind kind) next ∙ list_all-append (is_of_kind kind) (first ∷ texts (take n others)) (text ∷ []) ∙ cc (before, now)
+      ap (are_of_kind kind) next
+      ∙ list_all-append (is_of_kind kind) (first ∷ texts (take n others)) (text ∷ [])
+      ∙ cc (before, now)
 
   pub refused_next : (e : ParseError) → are_of_kind kind (first ∷ texts (take n others)) ≡ true
       → IsErrorOf kind text e → IsErrorOfFirst kind (first ∷ texts others) e
   refused_next e before now =
       let at : slice_get (texts others) n ≡ Some text =
-      slice_get-map string_bytes others n ∙ ap (option_map string_bytes) (slice_get-get_or others n word below ∙ ap Some (sym is)) ∙ ap Some (sym same) in
+      slice_get-map string_bytes others n
+      ∙ ap (option_map string_bytes) (slice_get-get_or others n word below ∙ ap Some (sym is))
+      ∙ ap Some (sym same) in
       (suc n, text, at, ap (λ l. are_of_kind kind (first ∷ l)) (take-map string_bytes n others) ∙ before, now)
 
   pub kept_next : {A : Type 0} (text_of : A → List ℕ) (reference : A) (before after : List A)
       → map text_of before ≡ first ∷ texts (take n others) → text_of reference ≡ text
       → after ≡ before ++ reference ∷ [] → map text_of after ≡ first ∷ texts (take (n + 1) others)
   kept_next text_of reference before after kept t e =
-      ap (map text_of) e ∙ map-append text_of before (reference ∷ []) ∙ ap (λ l. l ++ text_of reference ∷ []) kept ∙ ap (λ t. (first ∷ texts (take n others)) ++ t ∷ []) t ∙ sym next
+      ap (map text_of) e ∙ map-append text_of before (reference ∷ [])
+      ∙ ap (λ l. l ++ text_of reference ∷ []) kept
+      ∙ ap (λ t. (first ∷ texts (take n others)) ++ t ∷ []) t ∙ sym next

@@ -33,14 +33,17 @@ normalize_failed name text result is given =
 
 pub resolve_failed : {A : Type 0} (name : BaseName) (base reference target : List ℕ)
     (result : Result A Refusal)
-    → IsOfKind (kind_of_base name) base → IsOfKind (kind_of_references name) reference → target_text base reference ≡ Some target
-    → IfErr result (λ why. why ≡ OutputFailed) → IfErr result (IsRefusalOf (Resolve name base reference))
+    → IsOfKind (kind_of_base name) base → IsOfKind (kind_of_references name) reference
+    → target_text base reference ≡ Some target
+    → IfErr result (λ why. why ≡ OutputFailed)
+    → IfErr result (IsRefusalOf (Resolve name base reference))
 resolve_failed name base reference target result b r t given =
     refused_as (IsRefusalOf (Resolve name base reference)) result OutputFailed given (target ++ codes "\n", cc (b, r, t))
 
 pub links_failed : {A : Type 0} (base reference : List ℕ) (others : List (List ℕ))
     (result : Result A Refusal)
     → IsOfKind uri base → are_of_kind uri_ref (reference ∷ others) ≡ true
-    → IsErrAnd result (λ why. why ≡ OutputFailed) → IfErr result (IsRefusalOf (Links base reference others))
+    → IsErrAnd result (λ why. why ≡ OutputFailed)
+    → IfErr result (IsRefusalOf (Links base reference others))
 links_failed base reference others result b r given =
     refused_with (IsRefusalOf (Links base reference others)) result OutputFailed given (link_lines base (reference ∷ others), cc (b, r))

@@ -45,5 +45,6 @@ mapped_refused P told kind text (Err e) mapped result why is accepts err cases w
 -- what was read before is of its kind
 pub mapped_read : {A B E : Type 0} (kind : Kind) (text : List ℕ) (parsed : Result A E)
     (mapped : Result A B) (value : A)
-    → (IsOk parsed ↔ IsOfKind kind text) → is_ok mapped ≡ is_ok parsed → mapped ≡ Ok value → IsOfKind kind text
+    → (IsOk parsed ↔ IsOfKind kind text) → is_ok mapped ≡ is_ok parsed → mapped ≡ Ok value
+    → IsOfKind kind text
 mapped_read kind text parsed mapped value accepts variant was = accepts.0 (sym variant ∙ ap is_ok was)

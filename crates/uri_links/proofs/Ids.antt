@@ -56,8 +56,7 @@ longer ports base texts (reference ∷ references) =
     omega arith
 
 all : (ports : PortFunction) (base : List ℕ) (texts references : List (List ℕ))
-    → AllByRecursion (HasText (outcomes_of ports base texts references).1)
-    (outcomes_of ports base texts references).0
+    → AllByRecursion (HasText (outcomes_of ports base texts references).1) (outcomes_of ports base texts references).0
 unfolding outcomes_of
 all ports base texts [] = tt
 all ports base texts (reference ∷ references) =

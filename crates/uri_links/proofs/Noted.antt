@@ -27,7 +27,8 @@ use Rattle.uri_links.proofs.Places.{alike}
 pub own_normal_text : (kind : Kind) (ports : PortFunction) (base reference normal : List ℕ)
     → IsNormalFormOfTarget kind ports base reference normal
     → normal_text (meaning_of kind ports normal) ≡ normal
-own_normal_text kind ports base reference normal h = ap normal_text h.1.1.meaning ∙ sym h.1.1.text.text
+own_normal_text kind ports base reference normal h = ap normal_text h.1.1.meaning
+    ∙ sym h.1.1.text.text
 
 -- a normal form is a text that is its own exactly if the two mean the same
 same_answer : (ports : PortFunction) (target normal text : List ℕ)
@@ -58,12 +59,15 @@ same_place ports target normal texts h of_kind own = alike _ _ texts (same_answe
 pub noted : (ports : PortFunction) (base reference normal : List ℕ) (texts : List (List ℕ))
     (outcome : Outcome × List (List ℕ))
     → IsNormalTarget uri uri_ref ports base reference normal
-    → AllByRecursion (IsTextOf uri) texts → AreNormal ports texts → placed (position (bytes_eq normal) texts) texts normal ≡ outcome → outcome_of ports base texts reference ≡ outcome
+    → AllByRecursion (IsTextOf uri) texts → AreNormal ports texts
+    → placed (position (bytes_eq normal) texts) texts normal ≡ outcome
+    → outcome_of ports base texts reference ≡ outcome
 unfolding outcome_of
 noted ports base reference normal texts outcome h of_kind own e =
     let target = h.target.0 in
     ap (registered ports texts) h.target.1.0
-    ∙ (λ i. placed (sym (same_place ports target normal texts h.target.1.1 of_kind own) i) texts (sym h.target.1.1.text.text i)) ∙ e
+    ∙ (λ i. placed (sym (same_place ports target normal texts h.target.1.1 of_kind own) i) texts (sym h.target.1.1.text.text i))
+    ∙ e
 
 -- a reference that has no target is refused
 pub noted_refusal : (ports : PortFunction) (base reference : List ℕ) (texts : List (List ℕ))

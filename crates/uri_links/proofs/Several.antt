@@ -14,14 +14,16 @@ with_one ports base reference before = let last = outcome_of ports base before.1
 
 pushed : (ports : PortFunction) (base : List ℕ) (texts references : List (List ℕ))
     (reference : List ℕ)
-    → outcomes_of ports base texts (references ++ reference ∷ []) ≡ with_one ports base reference (outcomes_of ports base texts references)
+    → outcomes_of ports base texts (references ++ reference ∷ [])
+    ≡ with_one ports base reference (outcomes_of ports base texts references)
 unfolding outcomes_of
 pushed ports base texts [] reference = refl
 pushed ports base texts (first ∷ references) reference =
     let one = outcome_of ports base texts first in
     ap (λ (others : List Outcome × List (List ℕ)). (one.0 ∷ others.0, others.1)) (pushed ports base one.1 references reference)
 
-module _ {A : Type 0} (text_of : A → List ℕ) (base : List ℕ) (texts : List (List ℕ)) (references : List A) where
+module _ {A : Type 0} (text_of : A → List ℕ) (base : List ℕ) (texts : List (List ℕ))
+    (references : List A) where
   -- the outcomes of the first n references, and the texts after them
   abbrev pub Come : PortFunction → ℕ → List Outcome → List (List ℕ) → Type 0
   Come ports n outcomes after = outcomes_of ports base texts (map text_of (take n references)) ≡ (outcomes, after)
@@ -42,7 +44,9 @@ module _ {A : Type 0} (text_of : A → List ℕ) (base : List ℕ) (texts : List
   pub next : (ports held : PortFunction) (n : ℕ) (reference : A) (outcomes : List Outcome)
       (before after : List (List ℕ)) (outcome : Outcome)
       → n < length references → reference ≡ get_or references n reference
-      → held ≡ ports → Come ports n outcomes before → outcome_of held base before (text_of reference) ≡ (outcome, after) → Come ports (n + 1) (outcomes ++ outcome ∷ []) after
+      → held ≡ ports → Come ports n outcomes before
+      → outcome_of held base before (text_of reference) ≡ (outcome, after)
+      → Come ports (n + 1) (outcomes ++ outcome ∷ []) after
   next ports held n reference outcomes before after outcome h e p come f =
       ap (outcomes_of ports base texts) (one_more n reference h e)
       ∙ pushed ports base texts (map text_of (take n references)) (text_of reference)

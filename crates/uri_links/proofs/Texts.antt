@@ -36,7 +36,8 @@ pub distinct_after : (texts after : List (List ℕ)) (text : List ℕ) → after
 distinct_after texts after text a h e = subst (IsDistinct bytes_eq) (sym a) (IsDistinct-push nat_list_eq_equiv texts text h (none (bytes_eq text) texts e))
 
 place_pushed : (texts : List (List ℕ)) (text other : List ℕ) → position (bytes_eq text) texts ≡ None
-    → position (bytes_eq other) (texts ++ text ∷ []) ≡ cond (bytes_eq text other) (Some (length texts)) (position (bytes_eq other) texts)
+    → position (bytes_eq other) (texts ++ text ∷ [])
+    ≡ cond (bytes_eq text other) (Some (length texts)) (position (bytes_eq other) texts)
 place_pushed texts text other e =
     let Placed : Bool → Type 0 = λ b. position (bytes_eq other) (texts ++ text ∷ []) ≡ cond b (Some (length texts)) (position (bytes_eq other) texts) in
     let equal : (b : Bool) → bytes_eq text other ≡ b → Placed b =
@@ -49,7 +50,9 @@ place_pushed texts text other e =
 pub place_after : {Y : Type 0} (texts after : List (List ℕ)) (key : String Y)
     (old new : BTreeMap (String Y) ℕ) (text : List ℕ) (id : ℕ)
     → after ≡ texts ++ text ∷ [] → string_bytes key ≡ text → id ≡ length texts
-    → Updates string_cmp old new key (Some id) → ((other : List ℕ) → get_by_text old other ≡ position (bytes_eq other) texts) → position (bytes_eq text) texts ≡ None
+    → Updates string_cmp old new key (Some id)
+    → ((other : List ℕ) → get_by_text old other ≡ position (bytes_eq other) texts)
+    → position (bytes_eq text) texts ≡ None
     → (other : List ℕ) → get_by_text new other ≡ position (bytes_eq other) after
 place_after texts after key old new text id a k l u h e other =
     btree_map_updates_text (string_bytes key) old new (Some id) u other

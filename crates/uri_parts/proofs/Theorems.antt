@@ -36,18 +36,21 @@ pub whole_read : (kind read : Kind) (segment : TableSet)
     → segment ≡ first_segment_set kind
     → (text : List ℕ) → IsUtf8 text → reads segment read text ≡ is_of_kind kind text
 whole_read kind read segment known k s text u =
-    reads_of_kind segment read (tables_of kind read segment known k s) text u ∙ ap (λ v. is_of_kind v text) k
+    reads_of_kind segment read (tables_of kind read segment known k s) text u
+    ∙ ap (λ v. is_of_kind v text) k
 
 pub whole_positions : (kind read : Kind) (segment : TableSet)
     → kind ≡ one_of_four kind.path.ucschar kind.needs_scheme → read ≡ kind
     → segment ≡ first_segment_set kind
-    → (text : List ℕ) → IsUtf8 text → reads segment read text ≡ true → read_positions segment read text ≡ positions_of (components text)
+    → (text : List ℕ) → IsUtf8 text → reads segment read text ≡ true
+    → read_positions segment read text ≡ positions_of (components text)
 whole_positions kind read segment known k s = positions_read segment read (tables_of kind read segment known k s)
 
 -- what is answered by what is read
 pub answered : {E : Type 0} (segment : TableSet) (read : Kind) (text : List ℕ)
     (result : Result Positions E)
     → is_ok result ≡ reads segment read text
-    → (reads segment read text ≡ true → read_positions segment read text ≡ positions_of (components text)) → IfOk result (λ p. p ≡ read_positions segment read text) → IfOk result (AreAt text)
+    → (reads segment read text ≡ true → read_positions segment read text ≡ positions_of (components text))
+    → IfOk result (λ p. p ≡ read_positions segment read text) → IfOk result (AreAt text)
 answered segment read text (Ok p) accepts whole places = places ∙ whole (sym accepts)
 answered segment read text (Err e) accepts whole places = places

@@ -93,7 +93,8 @@ host_cut host tail (inl (address, e, lacks)) begins =
     let text : List ℕ = bracketed address ++ tail in
     let same : text ≡ (91 ∷ address) ++ (93 ∷ tail) = append_assoc (91 ∷ address) (codes "]") tail in
     let cut = cut-append (codes "]") (91 ∷ address) (93 ∷ tail) (Lacks-cons (codes "]") 91 address refl lacks) refl in (
-      ap (λ h. host_before (h ++ tail)) e ∙ ap (λ t. t ++ codes "]") (ap (before_any (codes "]")) same ∙ cut.0) ∙ sym e,
+      ap (λ h. host_before (h ++ tail)) e
+          ∙ ap (λ t. t ++ codes "]") (ap (before_any (codes "]")) same ∙ cut.0) ∙ sym e,
       ap (λ h. behind_host (h ++ tail)) e ∙ ap (drop 1) (ap (from_any (codes "]")) same ∙ cut.1),
     )
 host_cut host tail (inr lacks) begins =
@@ -227,9 +228,11 @@ module _ (users names : TableSet) (apart : KeepsApart users names) where
       let user = user_cut p.userinfo rest (user_lacks p.userinfo utf8.userinfo h.userinfo) lacks in
       let host = host_cut p.host (port_text p.port) formed.0 (port_begins p.port) in
       let behind : behind_userinfo text ≡ rest = ap behind_userinfo (sym h.whole) ∙ user.1 in
-      let a = ap (λ t. when (starts 64 (from_any (codes "@") t)) (before_any (codes "@") t)) (sym h.whole) ∙ user.0 in
+      let a = ap (λ t. when (starts 64 (from_any (codes "@") t)) (before_any (codes "@") t)) (sym h.whole)
+      ∙ user.0 in
       let b : host_before (behind_userinfo text) ≡ p.host = ap host_before behind ∙ host.0 in
-      let c = ap (λ r. when (starts 58 (behind_host r)) (drop 1 (behind_host r))) behind ∙ ap (λ r. when (starts 58 r) (drop 1 r)) host.1 ∙ port_read p.port in
+      let c = ap (λ r. when (starts 58 (behind_host r)) (drop 1 (behind_host r))) behind
+      ∙ ap (λ r. when (starts 58 r) (drop 1 r)) host.1 ∙ port_read p.port in
       λ i. record { userinfo = a i; host = b i; port = c i }
 
   -- and what has one passes the test

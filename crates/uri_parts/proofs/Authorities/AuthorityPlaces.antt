@@ -84,7 +84,8 @@ host_lies : (userinfo port : Option (List ℕ)) (host text : List ℕ)
 host_lies userinfo port host text whole u =
     let n = length-user_text userinfo in
     let front : List ℕ = user_text userinfo ++ host in
-    let joined : front ++ port_text port ≡ text = append_assoc (user_text userinfo) host (port_text port) ∙ whole in
+    let joined : front ++ port_text port ≡ text = append_assoc (user_text userinfo) host (port_text port)
+    ∙ whole in
     let l : length front ≡ marked_length 1 userinfo + length host = omega (arith, length-append (user_text userinfo) host) in
     record {
       ordered = omega arith;
@@ -114,7 +115,8 @@ user_lies users None rest text whole h l = absurd (omega arith)
 user_lies users (Some user) rest text whole h l =
     let e : user ++ (64 ∷ rest) ≡ text = sym (append_assoc user (codes "@") rest) ∙ whole in
     let n : length user ≡ (1 + length user) - 1 = omega arith in
-    let part : take ((1 + length user) - 1) text ≡ user = ap (λ k. take k text) (sym n) ∙ ap (take (length user)) (sym e) ∙ take-append_seam user (64 ∷ rest) in
+    let part : take ((1 + length user) - 1) text ≡ user = ap (λ k. take k text) (sym n)
+    ∙ ap (take (length user)) (sym e) ∙ take-append_seam user (64 ∷ rest) in
     record {
       cut = subst (IsCharBoundary text) n (subst (λ t. IsCharBoundary t (length user)) e (before_ascii user rest 64 (lit< tt)));
       valid = ap (is_valid_for users) part ∙ h;
@@ -151,9 +153,12 @@ port_lies : (front : List ℕ) (port : Option (List ℕ)) (text : List ℕ)
     → (length front ≡ length text) × (None ≡ port) ⊎ HasPort text (length front) port
 port_lies front None text whole u h = inl (ap length (sym (append-nil front) ∙ whole), refl)
 port_lies front (Some digits) text whole u h =
-    let e : front ++ (58 ∷ digits) ≡ text = ap (λ t. front ++ (58 ∷ t)) (sym (append-nil digits)) ∙ whole in
+    let e : front ++ (58 ∷ digits) ≡ text = ap (λ t. front ++ (58 ∷ t)) (sym (append-nil digits))
+    ∙ whole in
     let n = ap length e in
-    let part : drop (length front + 1) text ≡ digits = ap (drop (length front + 1)) (sym e) ∙ sym (drop-drop 1 (length front) (front ++ (58 ∷ digits))) ∙ ap (drop 1) (drop-append_seam front (58 ∷ digits)) in
+    let part : drop (length front + 1) text ≡ digits = ap (drop (length front + 1)) (sym e)
+    ∙ sym (drop-drop 1 (length front) (front ++ (58 ∷ digits)))
+    ∙ ap (drop 1) (drop-append_seam front (58 ∷ digits)) in
     inr (record {
       inside = omega (arith, n, length-append front (58 ∷ digits));
       cut = subst (λ t. IsCharBoundary t (length front + 1)) e (after_mark front digits 58 (lit< tt) (subst IsUtf8 (sym e) u));
@@ -163,7 +168,8 @@ port_lies front (Some digits) text whole u h =
 
 pub port_place : (users names : TableSet) (text : List ℕ) → is_authority_for users names text ≡ true
     → IsUtf8 text
-    → ((host_end_of text ≡ length text) × (None ≡ (authority_parts text).port)) ⊎ HasPort text (host_end_of text) (authority_parts text).port
+    → ((host_end_of text ≡ length text) × (None ≡ (authority_parts text).port))
+    ⊎ HasPort text (host_end_of text) (authority_parts text).port
 port_place users names text t u =
     let p = authority_parts text in
     let w = holds users names text t in
@@ -181,7 +187,8 @@ empty_is users names = and_from (is_some (ipv4_value []) || true) true (or_right
 pub name_valid : (names : TableSet) (host : List ℕ) → is_host names host ≡ true
     → starts 91 host ≡ false → ipv4_value host ≡ None → IsValidFor names host
 unfolding is_host
-name_valid names host h s v = sym (ap (λ o. is_some o || is_valid_for names host) v) ∙ sym (cond-false _ _ _ s) ∙ h
+name_valid names host h s v = sym (ap (λ o. is_some o || is_valid_for names host) v)
+    ∙ sym (cond-false _ _ _ s) ∙ h
 
 pub name_kind_of : (host : List ℕ) (o : Option (List ℕ)) → starts 91 host ≡ false
     → o ≡ ipv4_value host → name_kind o ≡ host_kind host
@@ -191,7 +198,8 @@ name_kind_of host o s v = ap name_kind v ∙ sym (cond-false _ _ _ s)
 pub literal_kind_of : (host address : List ℕ) (o : Option (List ℕ)) → starts 91 host ≡ true
     → address ≡ literal_of host → o ≡ ipv6_value address → literal_kind o ≡ host_kind host
 unfolding host_kind
-literal_kind_of host address o s a v = ap literal_kind (v ∙ ap ipv6_value a) ∙ sym (cond-true _ _ _ s)
+literal_kind_of host address o s a v = ap literal_kind (v ∙ ap ipv6_value a)
+    ∙ sym (cond-true _ _ _ s)
 
 -- where the host does not end the text, a port does
 pub with_port : (users names : TableSet) (text : List ℕ) (end : ℕ)

@@ -44,7 +44,8 @@ abbrev places : ℕ → ℕ → List ℕ → List ℕ → AuthorityPositions
 places start host name behind = record { start = start; host_start = host; host_end = host + length name; end = host + length (name ++ behind) }
 
 -- a host with what is behind it, and userinfo before them
-module _ (host behind : List ℕ) (at : Lacks (codes "@") (host ++ behind)) (is_host : host_before (host ++ behind) ≡ host) where
+module _ (host behind : List ℕ) (at : Lacks (codes "@") (host ++ behind))
+    (is_host : host_before (host ++ behind) ≡ host) where
   abbrev bare : List ℕ
   bare = host ++ behind
 
@@ -54,7 +55,8 @@ module _ (host behind : List ℕ) (at : Lacks (codes "@") (host ++ behind)) (is_
   bare_at : (place : ℕ) → authority_at place bare ≡ places place place host behind
   bare_at place =
       let first : host_start_of bare ≡ 0 = ap (λ t. marked_length 1 (cond t (Some (before_any (codes "@") bare)) None)) no_mark in
-      let host_is : (authority_parts bare).host ≡ host = ap host_before (cond-false _ _ _ no_mark) ∙ is_host in
+      let host_is : (authority_parts bare).host ≡ host = ap host_before (cond-false _ _ _ no_mark)
+      ∙ is_host in
       let s : place + host_start_of bare ≡ place = omega (arith, first) in
       let e : place + host_end_of bare ≡ place + length host = omega (arith, first, ap length host_is) in
       λ i. record { start = place; host_start = s i; host_end = e i; end = place + length (host ++ behind) }
@@ -73,8 +75,10 @@ module _ (host behind : List ℕ) (at : Lacks (codes "@") (host ++ behind)) (is_
     user_at : (place : ℕ)
         → authority_at place text ≡ places place (place + (length user + 1)) host behind
     user_at place =
-        let first : host_start_of text ≡ 1 + length user = ap (λ t. marked_length 1 (cond t (Some (before_any (codes "@") text)) None)) has_mark ∙ ap (λ t. 1 + length t) user_cut.0 in
-        let host_is : (authority_parts text).host ≡ host = ap host_before (cond-true _ _ _ has_mark ∙ ap (drop 1) user_cut.1) ∙ is_host in
+        let first : host_start_of text ≡ 1 + length user = ap (λ t. marked_length 1 (cond t (Some (before_any (codes "@") text)) None)) has_mark
+        ∙ ap (λ t. 1 + length t) user_cut.0 in
+        let host_is : (authority_parts text).host ≡ host = ap host_before (cond-true _ _ _ has_mark ∙ ap (drop 1) user_cut.1)
+        ∙ is_host in
         let l = length-append user (64 ∷ (host ++ behind)) in
         let s : place + host_start_of text ≡ place + (length user + 1) = omega (arith, first) in
         let e : place + host_end_of text ≡ place + (length user + 1) + length host = omega (arith, first, ap length host_is) in
@@ -123,7 +127,8 @@ module _ (segment : TableSet) (kind : Kind) (w : Separates segment kind) where
       let behind_name : List ℕ = after kind.reg_name rest in
       let a = front-within kind.reg_name kind.userinfo w.name_within w.reg_name_lacks rest in
       let b = port_front behind_name in
-      let c = more_is (drop (front kind.reg_name rest + port_length behind_name) rest) ∙ ap (front kind.userinfo) (sym (behind (front kind.reg_name rest) (port_length behind_name) rest)) in
+      let c = more_is (drop (front kind.reg_name rest + port_length behind_name) rest)
+      ∙ ap (front kind.userinfo) (sym (behind (front kind.reg_name rest) (port_length behind_name) rest)) in
       let sum : front kind.reg_name rest + port_length behind_name + more_user kind (drop (front kind.reg_name rest + port_length behind_name) rest) ≡ front kind.userinfo rest = omega (arith, a, b, c) in
       sum
 
@@ -153,7 +158,8 @@ module _ (segment : TableSet) (kind : Kind) (w : Separates segment kind) where
 
   user_behind : (rest : List ℕ) → starts 91 rest ≡ false
       → from_host kind rest ≡ drop 1 (after kind.userinfo rest)
-  user_behind rest e = ap (λ n. drop n rest) (user_place rest e) ∙ sym (behind (front kind.userinfo rest) 1 rest)
+  user_behind rest e = ap (λ n. drop n rest) (user_place rest e)
+      ∙ sym (behind (front kind.userinfo rest) 1 rest)
 
   user_passed : (rest : List ℕ) → passes_user kind rest ≡ starts 64 (after kind.userinfo rest)
   unfolding passes_user
@@ -164,7 +170,8 @@ module _ (segment : TableSet) (kind : Kind) (w : Separates segment kind) where
       → starts 64 (from_any (codes "@") (before_any (codes "/?#") rest)) ≡ false
   host_free rest u h =
       let f = found_host segment kind w rest u h in
-      ap (λ t. starts 64 (from_any (codes "@") t)) f.text ∙ ap (starts 64) (cut-none (codes "@") (f.host ++ f.behind) f.at).1
+      ap (λ t. starts 64 (from_any (codes "@") t)) f.text
+      ∙ ap (starts 64) (cut-none (codes "@") (f.host ++ f.behind) f.at).1
 
   name_is_host : (rest : List ℕ) → finds_name kind rest ≡ true
       → (starts 91 rest ≡ false) × (finds_host kind rest ≡ true)
@@ -180,13 +187,14 @@ module _ (segment : TableSet) (kind : Kind) (w : Separates segment kind) where
     tail = from_any (codes "@/?#") rest
 
     mark_is : starts 64 (from_any (codes "@") cut_text) ≡ starts 64 tail
-    mark_is = ap (starts 64) (cut_again 64 (codes "/?#") rest).1 ∙ starts_before 64 (codes "/?#") refl tail
+    mark_is = ap (starts 64) (cut_again 64 (codes "/?#") rest).1
+        ∙ starts_before 64 (codes "/?#") refl tail
 
     utf8_mark : starts 64 tail ≡ true → IsUtf8 (drop 1 tail)
     utf8_mark e = utf8_past 64 (lit< tt) tail e (utf8_from (codes "@/?#") rest (ascii_marks (codes "@/?#") refl) u)
 
-    valid_user : is_valid_for kind.userinfo (before_any (codes "@/?#") rest) ≡ eqb (front kind.userinfo rest)
-        (to_mark (codes "@/?#") rest)
+    valid_user : is_valid_for kind.userinfo (before_any (codes "@/?#") rest)
+        ≡ eqb (front kind.userinfo rest) (to_mark (codes "@/?#") rest)
     valid_user = cut (codes "@/?#") kind.userinfo w.userinfo_lacks w.userinfo_marks rest u
 
     -- with an `@` it is userinfo, and then a host
@@ -196,7 +204,8 @@ module _ (segment : TableSet) (kind : Kind) (w : Separates segment kind) where
     unfolding reads_whole_authority
     with_mark e =
         let c = cut_again 64 (codes "/?#") rest in
-        let t : before_any (codes "/?#") tail ≡ 64 ∷ before_any (codes "/?#") (drop 1 tail) = ap (before_any (codes "/?#")) (starts-cons 64 tail e) ∙ before_past_other (codes "/?#") 64 (drop 1 tail) refl in
+        let t : before_any (codes "/?#") tail ≡ 64 ∷ before_any (codes "/?#") (drop 1 tail) = ap (before_any (codes "/?#")) (starts-cons 64 tail e)
+        ∙ before_past_other (codes "/?#") 64 (drop 1 tail) refl in
         cond-true _ _ _ (mark_is ∙ e)
         ∙ ap (λ x. is_valid_for kind.userinfo x && reads_host_and_port kind.reg_name (drop 1 (from_any (codes "@") cut_text))) c.0
         ∙ ap (λ x. is_valid_for kind.userinfo (before_any (codes "@/?#") rest) && reads_host_and_port kind.reg_name (drop 1 x)) (c.1 ∙ t)
@@ -236,7 +245,8 @@ module _ (segment : TableSet) (kind : Kind) (w : Separates segment kind) where
         (stop_cases (codes "@/?#") kind.userinfo w.userinfo_lacks w.userinfo_marks rest u)
 
     no_user : starts 64 tail ≡ false → passes_user kind rest ≡ false
-    no_user e = user_passed rest ∙ false_from_ne_true _ (λ t. both_ways _ e (sym (ap (λ n. starts 64 (drop n rest)) (user_to_mark t)) ∙ t))
+    no_user e = user_passed rest
+        ∙ false_from_ne_true _ (λ t. both_ways _ e (sym (ap (λ n. starts 64 (drop n rest)) (user_to_mark t)) ∙ t))
 
     or_nothing : (x : Bool) → (x || false) ≡ x
     or_nothing true = refl
@@ -274,14 +284,17 @@ module _ (segment : TableSet) (kind : Kind) (w : Separates segment kind) where
     name_case h =
         let p = name_is_host rest h in
         let f = found_host segment kind w rest u p.1 in
-        let n : front kind.reg_name rest ≡ length f.host = sym (bare_end segment kind w rest p.0) ∙ f.end in
-        let l : name_length kind rest ≡ length (f.host ++ f.behind) = sym (bare_length segment kind w rest p.0) ∙ f.whole in
+        let n : front kind.reg_name rest ≡ length f.host = sym (bare_end segment kind w rest p.0)
+        ∙ f.end in
+        let l : name_length kind rest ≡ length (f.host ++ f.behind) = sym (bare_length segment kind w rest p.0)
+        ∙ f.whole in
         record {
           len = cond-true _ _ _ h ∙ l ∙ sym (ap length f.text);
           found = λ place.
               let same : record { start = place; host_start = place; host_end = place + front kind.reg_name rest; end = place + name_length kind rest } ≡ places place place f.host f.behind =
               λ i. record { start = place; host_start = place; host_end = place + n i; end = place + l i } in
-              cond-true _ _ _ h ∙ same ∙ sym (ap (authority_at place) f.text ∙ bare_at f.host f.behind f.at f.cut place);
+              cond-true _ _ _ h ∙ same
+              ∙ sym (ap (authority_at place) f.text ∙ bare_at f.host f.behind f.at f.cut place);
         }
 
     other_case : finds_name kind rest ≡ false → (len : other_length kind rest ≡ length cut_text)
@@ -296,11 +309,14 @@ module _ (segment : TableSet) (kind : Kind) (w : Separates segment kind) where
     literal_case none e h =
         let f = found_host segment kind w rest u h in
         let z : host_place kind rest ≡ 0 = cond-true _ _ _ e in
-        let l : host_place kind rest + host_length kind (from_host kind rest) ≡ length (f.host ++ f.behind) = ap (λ n. n + host_length kind (drop n rest)) z ∙ zero-add _ ∙ f.whole in
+        let l : host_place kind rest + host_length kind (from_host kind rest) ≡ length (f.host ++ f.behind) = ap (λ n. n + host_length kind (drop n rest)) z
+        ∙ zero-add _ ∙ f.whole in
         other_case none (l ∙ sym (ap length f.text)) (λ place.
         let s : place + host_place kind rest ≡ place = omega (arith, z) in
-        let n : host_end kind (from_host kind rest) ≡ length f.host = ap (host_end kind) (literal_first rest e) ∙ f.end in
-        let m : host_length kind (from_host kind rest) ≡ length (f.host ++ f.behind) = ap (host_length kind) (literal_first rest e) ∙ f.whole in
+        let n : host_end kind (from_host kind rest) ≡ length f.host = ap (host_end kind) (literal_first rest e)
+        ∙ f.end in
+        let m : host_length kind (from_host kind rest) ≡ length (f.host ++ f.behind) = ap (host_length kind) (literal_first rest e)
+        ∙ f.whole in
         let same : other_authority kind place rest ≡ places place place f.host f.behind = λ i. record { start = place; host_start = s i; host_end = s i + n i; end = s i + m i } in
         same ∙ sym (ap (authority_at place) f.text ∙ bare_at f.host f.behind f.at f.cut place))
 
@@ -311,7 +327,8 @@ module _ (segment : TableSet) (kind : Kind) (w : Separates segment kind) where
         let m = user_to_mark (sym (user_passed rest) ∙ passed) in
         let user : List ℕ = before_any (codes "@/?#") rest in
         let s : List ℕ = drop 1 tail in
-        let mark : starts 64 tail ≡ true = sym (ap (λ n. starts 64 (drop n rest)) m) ∙ sym (user_passed rest) ∙ passed in
+        let mark : starts 64 tail ≡ true = sym (ap (λ n. starts 64 (drop n rest)) m)
+        ∙ sym (user_passed rest) ∙ passed in
         let b : from_host kind rest ≡ s = user_behind rest e ∙ ap (λ n. drop 1 (drop n rest)) m in
         let f = found_host segment kind w s (utf8_mark mark) (sym (ap (finds_host kind) b) ∙ h) in
         let cut_user = IsCut-any (codes "@/?#") rest in
@@ -320,14 +337,21 @@ module _ (segment : TableSet) (kind : Kind) (w : Separates segment kind) where
         let whole_text : List ℕ = user ++ (64 ∷ (f.host ++ f.behind)) in
         let end : List ℕ = from_any (codes "/?#") s in
         let whole : whole_text ++ end ≡ rest =
-        append_assoc user (64 ∷ (f.host ++ f.behind)) end ∙ ap (λ t. user ++ (64 ∷ (t ++ end))) (sym f.text) ∙ ap (λ t. user ++ (64 ∷ t)) cut_host.whole ∙ ap (λ t. user ++ t) (sym (starts-cons 64 tail mark)) ∙ cut_user.whole in
+        append_assoc user (64 ∷ (f.host ++ f.behind)) end
+        ∙ ap (λ t. user ++ (64 ∷ (t ++ end))) (sym f.text)
+        ∙ ap (λ t. user ++ (64 ∷ t)) cut_host.whole
+        ∙ ap (λ t. user ++ t) (sym (starts-cons 64 tail mark)) ∙ cut_user.whole in
         let ends_lack : Lacks (codes "/?#") whole_text =
         lacks_append (codes "/?#") user (64 ∷ (f.host ++ f.behind)) (lacks_fewer (codes "/?#") (codes "@/?#") (λ c e. grind (arith, nat_tests)) user cut_user.lacks)
         (Lacks-cons (codes "/?#") 64 (f.host ++ f.behind) refl (subst (Lacks (codes "/?#")) f.text cut_host.lacks)) in
-        let text_is : cut_text ≡ whole_text = ap (before_any (codes "/?#")) (sym whole) ∙ (cut-append (codes "/?#") whole_text end ends_lack cut_host.begins).0 in
-        let n : host_place kind rest ≡ length user + 1 = user_place rest e ∙ ap (λ n. n + 1) (m ∙ sym (length-before (codes "@/?#") rest)) in
-        let host : host_end kind (from_host kind rest) ≡ length f.host = ap (host_end kind) b ∙ f.end in
-        let past : host_length kind (from_host kind rest) ≡ length (f.host ++ f.behind) = ap (host_length kind) b ∙ f.whole in
+        let text_is : cut_text ≡ whole_text = ap (before_any (codes "/?#")) (sym whole)
+        ∙ (cut-append (codes "/?#") whole_text end ends_lack cut_host.begins).0 in
+        let n : host_place kind rest ≡ length user + 1 = user_place rest e
+        ∙ ap (λ n. n + 1) (m ∙ sym (length-before (codes "@/?#") rest)) in
+        let host : host_end kind (from_host kind rest) ≡ length f.host = ap (host_end kind) b
+        ∙ f.end in
+        let past : host_length kind (from_host kind rest) ≡ length (f.host ++ f.behind) = ap (host_length kind) b
+        ∙ f.whole in
         let l : host_place kind rest + host_length kind (from_host kind rest) ≡ length whole_text = omega (arith, n, past, length-append user (64 ∷ (f.host ++ f.behind))) in
         other_case none (l ∙ sym (ap length text_is)) (λ place.
         let same : other_authority kind place rest ≡ places place (place + (length user + 1)) f.host f.behind = λ i. record { start = place; host_start = place + n i; host_end = place + n i + host i; end = place + n i + past i } in

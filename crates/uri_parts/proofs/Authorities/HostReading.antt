@@ -63,7 +63,8 @@ closed rest e =
     let from : List ℕ = from_any (codes "]/?#") rest in
     let k = IsCut-any (codes "]/?#") rest in
     let long : from ≡ 93 ∷ drop 1 from = starts-cons 93 from e in
-    let whole : address ++ (93 ∷ drop 1 from) ≡ rest = ap (λ t. address ++ t) (sym long) ∙ k.whole in
+    let whole : address ++ (93 ∷ drop 1 from) ≡ rest = ap (λ t. address ++ t) (sym long)
+    ∙ k.whole in
     let c = cut-append (codes "]") address (93 ∷ drop 1 from) (lacks_fewer (codes "]") (codes "]/?#") (λ c e. grind (arith, nat_tests)) address k.lacks) refl in
     record {
       address = address;
@@ -83,10 +84,12 @@ is_closed rest u h =
     let k = IsCut-any (codes "]") rest in
     let address : List ℕ = before_any (codes "]") rest in
     let tail : List ℕ = drop 1 (from_any (codes "]") rest) in
-    let whole : address ++ (93 ∷ tail) ≡ rest = ap (λ t. address ++ t) (sym (starts-cons 93 (from_any (codes "]") rest) p.0)) ∙ k.whole in
+    let whole : address ++ (93 ∷ tail) ≡ rest = ap (λ t. address ++ t) (sym (starts-cons 93 (from_any (codes "]") rest) p.0))
+    ∙ k.whole in
     let other = literal_lacks (codes "/?#") refl address (utf8_before (codes "]") rest (ascii_marks (codes "]") refl) u) p.1 in
     let lacks : Lacks (codes "]/?#") address = λ i d l. neither _ _ (k.lacks i d l) (other i d l) in
-    ap (λ t. starts 93 (from_any (codes "]/?#") t)) (sym whole) ∙ ap (starts 93) (cut-append (codes "]/?#") address (93 ∷ tail) lacks refl).1
+    ap (λ t. starts 93 (from_any (codes "]/?#") t)) (sym whole)
+    ∙ ap (starts 93) (cut-append (codes "]/?#") address (93 ∷ tail) lacks refl).1
 
 module _ (rest : List ℕ) (u : IsUtf8 rest) (w : IsClosed rest) where
   literal_is : reads_literal rest ≡ is_literal w.address
@@ -104,7 +107,8 @@ module _ (rest : List ℕ) (u : IsUtf8 rest) (w : IsClosed rest) where
 
   past_literal : drop (1 + literal_length rest) (91 ∷ rest) ≡ w.tail
   past_literal =
-      ap (λ n. drop n (91 ∷ rest)) literal_whole ∙ ap (drop (length (bracketed w.address))) (sym behind_literal)
+      ap (λ n. drop n (91 ∷ rest)) literal_whole
+      ∙ ap (drop (length (bracketed w.address))) (sym behind_literal)
       ∙ drop-append_seam (bracketed w.address) w.tail
 
   utf8_parts : IsUtf8 w.address × IsUtf8 w.tail
@@ -148,8 +152,8 @@ module _ (segment : TableSet) (kind : Kind) (w : Separates segment kind) where
       ∙ ap (λ n. begins_any (codes "/?#") (drop (n + port_length (drop n (91 ∷ r))) (91 ∷ r))) none
 
   left_of_name : (rest : List ℕ)
-      → finds_name kind rest ≡ begins_any (codes "/?#")
-      (drop (port_length (after kind.reg_name rest)) (after kind.reg_name rest))
+      → finds_name kind rest
+      ≡ begins_any (codes "/?#") (drop (port_length (after kind.reg_name rest)) (after kind.reg_name rest))
   unfolding finds_name name_length
   left_of_name rest = ap (begins_any (codes "/?#")) (sym (behind (front kind.reg_name rest) (port_length (after kind.reg_name rest)) rest))
 
@@ -180,7 +184,8 @@ module _ (segment : TableSet) (kind : Kind) (w : Separates segment kind) where
       ∙ port_read from (utf8_behind rest u)
       ∙ sym (right ∙ ap (λ t. t && ends_in_port (before_any (codes "/?#") from)) (valid ∙ eq-eqb _ _ m)))
       (λ s.
-      ap (λ r. begins_any (codes "/?#") (drop (port_length r) r)) s.left ∙ port_stuck s.byte s.rest s.other
+      ap (λ r. begins_any (codes "/?#") (drop (port_length r) r)) s.left
+      ∙ port_stuck s.byte s.rest s.other
       ∙ sym (right ∙ and_left _ _ (valid ∙ ne_eqb _ _ s.apart)))
       (stop_cases (codes ":/?#") kind.reg_name w.reg_name_lacks w.reg_name_colon rest u)
 
@@ -218,7 +223,8 @@ module _ (segment : TableSet) (kind : Kind) (w : Separates segment kind) where
   literal_read rest u = ⊎_elim
       (λ e.
       let c = closed rest e in
-      let behind_is : before_any (codes "/?#") (from_any (codes "]/?#") rest) ≡ 93 ∷ before_any (codes "/?#") c.tail = ap (before_any (codes "/?#")) c.long ∙ before_past_other (codes "/?#") 93 c.tail refl in
+      let behind_is : before_any (codes "/?#") (from_any (codes "]/?#") rest) ≡ 93 ∷ before_any (codes "/?#") c.tail = ap (before_any (codes "/?#")) c.long
+      ∙ before_past_other (codes "/?#") 93 c.tail refl in
       left_of_literal rest u c
       ∙ ap (λ t. t && begins_any (codes "/?#") (drop (port_length c.tail) c.tail)) (literal_is rest u c)
       ∙ ap (λ t. is_literal c.address && t) (port_read c.tail (utf8_parts rest u c).1)
@@ -233,7 +239,8 @@ module _ (segment : TableSet) (kind : Kind) (w : Separates segment kind) where
   host_read rest u = ⊎_elim
       (λ e.
       let r = starts-cons 91 rest e in
-      ap (finds_host kind) r ∙ literal_read (drop 1 rest) (utf8_past 91 (lit< tt) rest e u) ∙ sym (ap (λ t. reads_host_and_port kind.reg_name (before_any (codes "/?#") t)) r))
+      ap (finds_host kind) r ∙ literal_read (drop 1 rest) (utf8_past 91 (lit< tt) rest e u)
+      ∙ sym (ap (λ t. reads_host_and_port kind.reg_name (before_any (codes "/?#") t)) r))
       (λ e. bare_host rest e ∙ name_read rest u e)
       (cases_Bool (starts 91 rest))
 
@@ -255,9 +262,12 @@ module _ (segment : TableSet) (kind : Kind) (w : Separates segment kind) where
       let un = utf8_before (codes ":/?#") rest (ascii_marks (codes ":/?#") refl) u in
       let uf = utf8_behind rest u in
       let lacks = valid_lacks kind.reg_name (codes "@:[") w.reg_name_lacks w.reg_name_starts name un p.0 in
-      let ends : begins_any (codes "/?#") (drop (port_length from) from) ≡ true = port_read from uf ∙ p.1 in
-      let n : front kind.reg_name rest ≡ length name = m ∙ sym (length-before (codes ":/?#") rest) in
-      let k : port_length (after kind.reg_name rest) ≡ length port = ap (λ n. port_length (drop n rest)) m ∙ port_whole from uf ends in
+      let ends : begins_any (codes "/?#") (drop (port_length from) from) ≡ true = port_read from uf
+      ∙ p.1 in
+      let n : front kind.reg_name rest ≡ length name = m
+      ∙ sym (length-before (codes ":/?#") rest) in
+      let k : port_length (after kind.reg_name rest) ≡ length port = ap (λ n. port_length (drop n rest)) m
+      ∙ port_whole from uf ends in
       record {
         host = name;
         behind = port;
@@ -265,7 +275,8 @@ module _ (segment : TableSet) (kind : Kind) (w : Separates segment kind) where
         at = lacks_append (codes "@") name port (lacks_fewer (codes "@") (codes "@:[") (λ c e. grind (arith, nat_tests)) name lacks) (port_lacks port (utf8_before (codes "/?#") from (ascii_marks (codes "/?#") refl) uf) p.1);
         cut = (host_cut name port (inr lacks) (port_begins port p.1)).0;
         end = bare_end rest e ∙ n;
-        whole = bare_length rest e ∙ name_whole rest (length name) (length port) n k ∙ sym (length-append name port);
+        whole = bare_length rest e ∙ name_whole rest (length name) (length port) n k
+            ∙ sym (length-append name port);
       }
 
   literal_found : (rest : List ℕ) → IsUtf8 rest → finds_host kind (91 ∷ rest) ≡ true
@@ -283,13 +294,16 @@ module _ (segment : TableSet) (kind : Kind) (w : Separates segment kind) where
       Lacks-cons (codes "/?#") 91 (c.address ++ codes "]") refl (lacks_append (codes "/?#") c.address (codes "]") (lacks_fewer (codes "/?#") (codes "]/?#") (λ c e. grind (arith, nat_tests)) c.address lacks) (Lacks-cons (codes "/?#") 93 [] refl (lacks_nil (codes "/?#")))) in
       let k = IsCut-any (codes "/?#") c.tail in
       let from : List ℕ = from_any (codes "/?#") c.tail in
-      let whole : (bracketed c.address ++ port) ++ from ≡ 91 ∷ rest = append_assoc (bracketed c.address) port from ∙ ap (λ t. bracketed c.address ++ t) k.whole ∙ behind_literal rest u c in
+      let whole : (bracketed c.address ++ port) ++ from ≡ 91 ∷ rest = append_assoc (bracketed c.address) port from
+      ∙ ap (λ t. bracketed c.address ++ t) k.whole ∙ behind_literal rest u c in
       let n = literal_whole rest u c in
-      let p : port_length (drop (1 + literal_length rest) (91 ∷ rest)) ≡ length port = ap port_length (past_literal rest u c) ∙ port_whole c.tail up.1 q.1 in
+      let p : port_length (drop (1 + literal_length rest) (91 ∷ rest)) ≡ length port = ap port_length (past_literal rest u c)
+      ∙ port_whole c.tail up.1 q.1 in
       record {
         host = bracketed c.address;
         behind = port;
-        text = ap (before_any (codes "/?#")) (sym whole) ∙ (cut-append (codes "/?#") (bracketed c.address ++ port) from (lacks_append (codes "/?#") (bracketed c.address) port plain k.lacks) k.begins).0;
+        text = ap (before_any (codes "/?#")) (sym whole)
+            ∙ (cut-append (codes "/?#") (bracketed c.address ++ port) from (lacks_append (codes "/?#") (bracketed c.address) port plain k.lacks) k.begins).0;
         at = lacks_append (codes "@") (bracketed c.address) port (lacks_at_bracketed c.address (literal_lacks (codes "@") refl c.address up.0 literal)) (port_lacks port (utf8_before (codes "/?#") c.tail (ascii_marks (codes "/?#") refl) up.1) ends);
         cut = (host_cut (bracketed c.address) port (inl (c.address, refl, lacks_fewer (codes "]") (codes "]/?#") (λ c e. grind (arith, nat_tests)) c.address lacks)) (port_begins port ends)).0;
         end = n;

@@ -47,7 +47,8 @@ cut_again mark marks (b ∷ bs) = ⊎_elim
     let a : is_one_of (mark ∷ marks) b ≡ true = or_right (eqb mark b) (is_one_of marks b) o in
     let p = before_at_mark marks b bs o in (
       ap (before_any (mark ∷ [])) p ∙ sym (before_at_mark (mark ∷ marks) b bs a),
-      ap (from_any (mark ∷ [])) p ∙ sym (ap (before_any marks) (from_at_mark (mark ∷ marks) b bs a) ∙ p),
+      ap (from_any (mark ∷ [])) p
+          ∙ sym (ap (before_any marks) (from_at_mark (mark ∷ marks) b bs a) ∙ p),
     ))
     (λ o.
     let p = before_past_other marks b bs o in
@@ -55,14 +56,18 @@ cut_again mark marks (b ∷ bs) = ⊎_elim
     ⊎_elim
     (λ m.
     let a : is_one_of (mark ∷ marks) b ≡ true = first_of (eqb mark b) (is_one_of marks b) m in (
-      ap (before_any (mark ∷ [])) p ∙ before_at_mark (mark ∷ []) b rest m ∙ sym (before_at_mark (mark ∷ marks) b bs a),
-      ap (from_any (mark ∷ [])) p ∙ from_at_mark (mark ∷ []) b rest m ∙ sym (ap (before_any marks) (from_at_mark (mark ∷ marks) b bs a) ∙ p),
+      ap (before_any (mark ∷ [])) p ∙ before_at_mark (mark ∷ []) b rest m
+          ∙ sym (before_at_mark (mark ∷ marks) b bs a),
+      ap (from_any (mark ∷ [])) p ∙ from_at_mark (mark ∷ []) b rest m
+          ∙ sym (ap (before_any marks) (from_at_mark (mark ∷ marks) b bs a) ∙ p),
     ))
     (λ m.
     let a : is_one_of (mark ∷ marks) b ≡ false = neither (eqb mark b) (is_one_of marks b) m o in
     let more = cut_again mark marks bs in (
-      ap (before_any (mark ∷ [])) p ∙ before_past_other (mark ∷ []) b rest m ∙ ap (λ t. b ∷ t) more.0 ∙ sym (before_past_other (mark ∷ marks) b bs a),
-      ap (from_any (mark ∷ [])) p ∙ from_past_other (mark ∷ []) b rest m ∙ more.1 ∙ sym (ap (before_any marks) (from_past_other (mark ∷ marks) b bs a)),
+      ap (before_any (mark ∷ [])) p ∙ before_past_other (mark ∷ []) b rest m
+          ∙ ap (λ t. b ∷ t) more.0 ∙ sym (before_past_other (mark ∷ marks) b bs a),
+      ap (from_any (mark ∷ [])) p ∙ from_past_other (mark ∷ []) b rest m ∙ more.1
+          ∙ sym (ap (before_any marks) (from_past_other (mark ∷ marks) b bs a)),
     ))
     (cases_Bool (is_one_of (mark ∷ []) b)))
     (cases_Bool (is_one_of marks b))
@@ -101,8 +106,8 @@ colon_ascii : (b : ℕ) → eqb b 58 ≡ true → b < 128
 colon_ascii b e = let d = eqb-true b 58 e in omega arith
 
 pub port_read : (bs : List ℕ) → IsUtf8 bs
-    → begins_any (codes "/?#")
-    (drop (port_length bs) bs) ≡ ends_in_port (before_any (codes "/?#") bs)
+    → begins_any (codes "/?#") (drop (port_length bs) bs)
+    ≡ ends_in_port (before_any (codes "/?#") bs)
 unfolding begins_any port_length ends_in_port
 port_read [] u = refl
 port_read (b ∷ bs) u = ⊎_elim
@@ -127,15 +132,18 @@ port_whole [] u h = refl
 port_whole (b ∷ bs) u h = ⊎_elim
     (λ e.
     let past = cond-true (eqb b 58) (1 + front digit_set bs) 0 e in
-    let left : begins_any (codes "/?#") (after digit_set bs) ≡ true = ap (begins_any (codes "/?#")) (behind_mark (front digit_set bs) (b ∷ bs)) ∙ sym (ap (λ n. begins_any (codes "/?#") (drop n (b ∷ bs))) past) ∙ h in
-    let valid = sym (reads_to (codes "/?#") digit_set refl refl bs (utf8_tail b bs (colon_ascii b e) u)) ∙ left in
+    let left : begins_any (codes "/?#") (after digit_set bs) ≡ true = ap (begins_any (codes "/?#")) (behind_mark (front digit_set bs) (b ∷ bs))
+    ∙ sym (ap (λ n. begins_any (codes "/?#") (drop n (b ∷ bs))) past) ∙ h in
+    let valid = sym (reads_to (codes "/?#") digit_set refl refl bs (utf8_tail b bs (colon_ascii b e) u))
+    ∙ left in
     let m : front digit_set bs ≡ to_mark (codes "/?#") bs = eqb-true _ _ (sym (cut (codes "/?#") digit_set refl refl bs (utf8_tail b bs (colon_ascii b e) u)) ∙ valid) in
     let l = length-before (codes "/?#") bs in
     let n = ap length (before_past_other (codes "/?#") b bs (colon_plain b e)) in
     past ∙ omega (arith, m, l, n))
     (λ e.
     let none = cond-false (eqb b 58) (1 + front digit_set bs) 0 e in
-    let o : is_one_of (codes "/?#") b ≡ true = sym (ap (λ n. begins_any (codes "/?#") (drop n (b ∷ bs))) none) ∙ h in
+    let o : is_one_of (codes "/?#") b ≡ true = sym (ap (λ n. begins_any (codes "/?#") (drop n (b ∷ bs))) none)
+    ∙ h in
     none ∙ sym (ap length (before_at_mark (codes "/?#") b bs o)))
     (cases_Bool (eqb b 58))
 

@@ -21,8 +21,8 @@ either true row found port e = refl
 either false row found port e = e
 
 outside : (t : Bool) (row : List ℕ × ℕ) (found : Option (List ℕ × ℕ))
-    → option_map (λ r. r.1) (cond t (Some row) found) ≡ cond t (Some row.1)
-    (option_map (λ r. r.1) found)
+    → option_map (λ r. r.1) (cond t (Some row) found)
+    ≡ cond t (Some row.1) (option_map (λ r. r.1) found)
 outside true row found = refl
 outside false row found = refl
 
@@ -43,7 +43,8 @@ port_behind (Some row) = refl
 pub port_found : (name : List ℕ) (rows : List Row) (r : Option (Bor Row))
     → option_map (λ x. x.now) r ≡ find (is_named name) rows
     → option_map (λ x. x.now.1) r ≡ port_ignoring_case name (map (λ row. (row.0.now, row.1)) rows)
-port_found name rows r e = port_behind r ∙ ap (option_map (λ (row : Row). row.1)) e ∙ port_of_rows name rows
+port_found name rows r e = port_behind r ∙ ap (option_map (λ (row : Row). row.1)) e
+    ∙ port_of_rows name rows
 
 table_is : map (λ row. (row.0.now, row.1)) DEFAULT_PORTS ≡ scheme_ports
 table_is = refl

@@ -44,7 +44,8 @@ other xs ys apart = false_from_ne_true _ (λ t. apart ((bytes_eq-Decides xs ys).
 
 bytes_eq-front : (xs ys zs : List ℕ) → bytes_eq (xs ++ ys) (xs ++ zs) ≡ bytes_eq ys zs
 bytes_eq-front [] ys zs = refl
-bytes_eq-front (x ∷ xs) ys zs = ap (λ t. t && bytes_eq (xs ++ ys) (xs ++ zs)) (eq-eqb x x refl) ∙ bytes_eq-front xs ys zs
+bytes_eq-front (x ∷ xs) ys zs = ap (λ t. t && bytes_eq (xs ++ ys) (xs ++ zs)) (eq-eqb x x refl)
+    ∙ bytes_eq-front xs ys zs
 
 -- a port with its mark
 port_of : List ℕ → Option (List ℕ)
@@ -59,7 +60,8 @@ port_ends [] = refl
 port_ends (b ∷ rest) = ⊎_elim
     (λ e.
     let p : when (starts 58 (b ∷ rest)) rest ≡ Some rest = cond-true _ _ _ e in
-    let t : (codes ":" ++ rest) ++ [] ≡ b ∷ rest = append-nil (58 ∷ rest) ∙ ap (λ c. c ∷ rest) (sym (eqb-true b 58 e)) in
+    let t : (codes ":" ++ rest) ++ [] ≡ b ∷ rest = append-nil (58 ∷ rest)
+    ∙ ap (λ c. c ∷ rest) (sym (eqb-true b 58 e)) in
     ap (λ o. bytes_eq (marked (codes ":") o []) (b ∷ rest) && option_map_or (is_valid_for digit_set) o true) p
     ∙ ap (λ x. x && is_valid_for digit_set rest) (same _ _ t)
     ∙ sym (ap (λ x. x && is_valid_for digit_set rest) e))
@@ -152,7 +154,8 @@ closed_lemma names rest e =
     let behind : List ℕ = drop 1 (from_any (codes "]") rest) in
     let f : from_any (codes "]") rest ≡ 93 ∷ behind = begins_bracket (from_any (codes "]") rest) cut.begins e in
     let whole : bracketed address ++ behind ≡ 91 ∷ rest =
-    append_assoc (91 ∷ address) (codes "]") behind ∙ ap (λ t. 91 ∷ (address ++ t)) (sym f) ∙ ap (λ t. 91 ∷ t) cut.whole in
+    append_assoc (91 ∷ address) (codes "]") behind ∙ ap (λ t. 91 ∷ (address ++ t)) (sym f)
+    ∙ ap (λ t. 91 ∷ t) cut.whole in
     let h : host_before (91 ∷ rest) ≡ bracketed address = ap (λ t. t ++ codes "]") (before_bracket rest) in
     let b : behind_host (91 ∷ rest) ≡ behind = ap (drop 1) (from_bracket rest) in
     by_cut names (bracketed address) behind (91 ∷ rest) whole h b
@@ -168,11 +171,13 @@ unfolding host_test reads_host_and_port port_of
 open_lemma names rest e =
     let cut = IsCut-any (codes "]") rest in
     let none : from_any (codes "]") rest ≡ [] = no_bracket (from_any (codes "]") rest) cut.begins e in
-    let all : before_any (codes "]") rest ≡ rest = sym (append-nil (before_any (codes "]") rest)) ∙ ap (λ t. before_any (codes "]") rest ++ t) (sym none) ∙ cut.whole in
+    let all : before_any (codes "]") rest ≡ rest = sym (append-nil (before_any (codes "]") rest))
+    ∙ ap (λ t. before_any (codes "]") rest ++ t) (sym none) ∙ cut.whole in
     let h : host_before (91 ∷ rest) ≡ bracketed rest = ap (λ t. t ++ codes "]") (before_bracket rest ∙ ap (λ t. 91 ∷ t) all) in
     let b : behind_host (91 ∷ rest) ≡ [] = ap (drop 1) (from_bracket rest ∙ none) in
     let text : host_before (91 ∷ rest) ++ marked (codes ":") (port_of (behind_host (91 ∷ rest))) [] ≡ bracketed rest ++ [] =
-    ap (λ t. t ++ marked (codes ":") (port_of (behind_host (91 ∷ rest))) []) h ∙ ap (λ t. bracketed rest ++ marked (codes ":") (port_of t) []) b in
+    ap (λ t. t ++ marked (codes ":") (port_of (behind_host (91 ∷ rest))) []) h
+    ∙ ap (λ t. bracketed rest ++ marked (codes ":") (port_of t) []) b in
     and_left _ _ (other (host_before (91 ∷ rest) ++ marked (codes ":") (port_of (behind_host (91 ∷ rest))) []) (91 ∷ rest) (λ d. too_long rest (sym text ∙ d)))
     ∙ sym (and_left _ _ e)
 
@@ -208,9 +213,11 @@ authority_reads users names text =
     ⊎_elim
     (λ e.
     let rest : List ℕ = drop 1 from in
-    let whole : user ++ (64 ∷ rest) ≡ text = ap (λ t. user ++ t) (sym (begins_at from cut.begins e)) ∙ cut.whole in
+    let whole : user ++ (64 ∷ rest) ≡ text = ap (λ t. user ++ t) (sym (begins_at from cut.begins e))
+    ∙ cut.whole in
     let text_is : bytes_eq ((user ++ codes "@") ++ tail rest) text ≡ bytes_eq (tail rest) rest =
-    ap (λ t. bytes_eq t text) (append_assoc user (codes "@") (tail rest)) ∙ ap (bytes_eq (user ++ (64 ∷ tail rest))) (sym whole)
+    ap (λ t. bytes_eq t text) (append_assoc user (codes "@") (tail rest))
+    ∙ ap (bytes_eq (user ++ (64 ∷ tail rest))) (sym whole)
     ∙ bytes_eq-front user (64 ∷ tail rest) (64 ∷ rest) in
     ap form e
     ∙ ap (λ t. t && (is_valid_for users user && tests rest)) text_is

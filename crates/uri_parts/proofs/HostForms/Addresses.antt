@@ -109,7 +109,8 @@ pub ipv4_value-complete : (text octets : List ℕ) → IsDotted text octets
     → ipv4_value text ≡ Some octets
 unfolding ipv4_value
 ipv4_value-complete text octets h =
-    ap (λ t. whole_value (read_ipv4 t)) (sym (append-nil text)) ∙ ap whole_value (read_ipv4_complete text octets [] h (lit≤ tt))
+    ap (λ t. whole_value (read_ipv4 t)) (sym (append-nil text))
+    ∙ ap whole_value (read_ipv4_complete text octets [] h (lit≤ tt))
 
 pub ipv4_value-sound : (text octets : List ℕ) → ipv4_value text ≡ Some octets → IsDotted text octets
 unfolding ipv4_value
@@ -121,7 +122,8 @@ pub ipv6_value-complete : (text segments : List ℕ) → IsColonHex text segment
     → ipv6_value text ≡ Some segments
 unfolding ipv6_value
 ipv6_value-complete text segments h =
-    ap (λ t. whole_value (read_ipv6 t)) (sym (append-nil text)) ∙ ap whole_value (read_ipv6_complete text segments [] h EndsGroups-nil)
+    ap (λ t. whole_value (read_ipv6 t)) (sym (append-nil text))
+    ∙ ap whole_value (read_ipv6_complete text segments [] h EndsGroups-nil)
 
 pub ipv6_value-sound : (text segments : List ℕ) → ipv6_value text ≡ Some segments
     → IsColonHex text segments

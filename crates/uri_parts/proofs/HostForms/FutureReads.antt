@@ -39,7 +39,8 @@ record IsMarked (set : TableSet) (mark : ℕ) (rest : List ℕ) : Type 0 where
   long : marked_length set rest ≡ length spelt + 1
   left : drop (marked_length set rest) rest ≡ behind
 
-module _ (set : TableSet) (lacks : LacksPercent set) (mark : ℕ) (ascii : mark < 128) (outside : excludes set (mark ∷ []) ≡ true) where
+module _ (set : TableSet) (lacks : LacksPercent set) (mark : ℕ) (ascii : mark < 128)
+    (outside : excludes set (mark ∷ []) ≡ true) where
   itself : is_one_of (mark ∷ []) mark ≡ true
   itself = ap (λ t. t || false) (eq-eqb mark mark refl)
 
@@ -82,7 +83,8 @@ module _ (set : TableSet) (lacks : LacksPercent set) (mark : ℕ) (ascii : mark 
       let from : List ℕ = from_any (mark ∷ []) rest in
       let n : front set rest ≡ length spelt = m ∙ sym (length-before (mark ∷ []) rest) in
       let seen : starts mark from ≡ true = sym (ap (λ n. starts mark (drop n rest)) m) ∙ p.1 in
-      let whole : rest ≡ spelt ++ (mark ∷ drop 1 from) = sym (IsCut-any (mark ∷ []) rest).whole ∙ ap (λ t. spelt ++ t) (starts-cons mark from seen) in
+      let whole : rest ≡ spelt ++ (mark ∷ drop 1 from) = sym (IsCut-any (mark ∷ []) rest).whole
+      ∙ ap (λ t. spelt ++ t) (starts-cons mark from seen) in
       record {
         spelt = spelt;
         behind = drop 1 from;
@@ -90,7 +92,8 @@ module _ (set : TableSet) (lacks : LacksPercent set) (mark : ℕ) (ascii : mark 
         some = subst (λ n. 0 < n) n (ltb-true 0 _ p.0);
         valid = cut (mark ∷ []) set lacks outside rest u ∙ eq-eqb _ _ m;
         long = ap (λ n. n + 1) n;
-        left = ap (λ n. drop (n + 1) rest) n ∙ ap (drop (length spelt + 1)) whole ∙ left_behind spelt (drop 1 from);
+        left = ap (λ n. drop (n + 1) rest) n ∙ ap (drop (length spelt + 1)) whole
+            ∙ left_behind spelt (drop 1 from);
       })
       (λ w. absurd (both_ways _ (ap (starts mark) w.left ∙ no_mark w.byte w.other) p.1))
       (stop_cases (mark ∷ []) set lacks outside rest u)
@@ -189,7 +192,8 @@ lettered (letter ∷ rest) u v = (
   λ e. (accepted letter v rest u e).1,
 )
 
-module _ (text : List ℕ) (start : ℕ) (u : IsUtf8 (drop start text)) (v : (starts 118 (drop start text) || starts 86 (drop start text)) ≡ true) where
+module _ (text : List ℕ) (start : ℕ) (u : IsUtf8 (drop start text))
+    (v : (starts 118 (drop start text) || starts 86 (drop start text)) ≡ true) where
   past_letter : drop 1 (drop start text) ≡ drop (start + 1) text
   past_letter = behind start 1 text
 
@@ -198,7 +202,8 @@ module _ (text : List ℕ) (start : ℕ) (u : IsUtf8 (drop start text)) (v : (st
 
   length_at : reads_future (drop (start + 1) text) ≡ true
       → literal_length (drop start text) ≡ 1 + future_length (drop (start + 1) text)
-  length_at e = (lettered (drop start text) u v).1 (ap reads_future past_letter ∙ e) ∙ ap (λ t. 1 + future_length t) past_letter
+  length_at e = (lettered (drop start text) u v).1 (ap reads_future past_letter ∙ e)
+      ∙ ap (λ t. 1 + future_length t) past_letter
 
   pub end_at : {E : Type 0} (result : Result ℕ E)
       → is_ok result ≡ reads_future (drop (start + 1) text)

@@ -43,7 +43,8 @@ at_end zero first text e = refl
 at_end (suc room) first text e = absurd (omega arith)
 
 -- an address by what was counted of its groups
-module _ (text : List ℕ) (count : ℕ) (has_ipv4 : Bool) (rest : List ℕ) (head : AreCounted (read_segments 8 true text) count has_ipv4 rest) where
+module _ (text : List ℕ) (count : ℕ) (has_ipv4 : Bool) (rest : List ℕ)
+    (head : AreCounted (read_segments 8 true text) count has_ipv4 rest) where
   pub full : count ≡ 8 → option_map (λ p. p.1) (read_ipv6 text) ≡ Some rest
   unfolding read_ipv6
   full eight = rw (head.many, eight, head.left)

@@ -117,7 +117,8 @@ name_marks_outside = refl
 pub utf8_bracketed : (address : List ℕ) → IsUtf8 (bracketed address) → IsUtf8 address
 utf8_bracketed address u = (utf8_apart address 93 [] (omega arith) (utf8_tail 91 (address ++ codes "]") (omega arith) u)).0
 
-module _ (names : TableSet) (percent : LacksPercent names) (outside : excludes names (codes "@:[") ≡ true) where
+module _ (names : TableSet) (percent : LacksPercent names)
+    (outside : excludes names (codes "@:[") ≡ true) where
   pub record IsFound (text : List ℕ) (host : HostKind) : Type 0 where
     pub kind : host_kind text ≡ host
     pub test : is_host names text ≡ true
@@ -137,7 +138,8 @@ module _ (names : TableSet) (percent : LacksPercent names) (outside : excludes n
       let at = at_literal names address (ipv_future_lacks (codes "]") bracket_outside address inner future) in
       record {
         kind = ap host_kind e ∙ at.0 ∙ ap literal_kind (future_no_ipv6 address future);
-        test = ap (is_host names) e ∙ at.1 ∙ or_right _ _ (is_ipv_future-complete address inner future);
+        test = ap (is_host names) e ∙ at.1
+            ∙ or_right _ _ (is_ipv_future-complete address inner future);
       }
   is_host-complete text (Ipv4 octets) u dotted =
       let at = at_name names text (lacks_starts (codes "@:[") text 91 refl (ipv4_lacks (codes "@:[") name_marks_outside text octets dotted)) in

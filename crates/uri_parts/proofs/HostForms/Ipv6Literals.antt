@@ -35,7 +35,8 @@ follows rest behind e =
     map_some (λ p. p.1) (read_ipv6 rest) behind (sym e) λ p read same.
     let (front, split, groups) = read_ipv6_sound rest p.0 p.1 read in
     let whole : rest ≡ front ++ behind = split ∙ ap (λ t. front ++ t) same in
-    let size : length rest ≡ length front + length behind = ap length whole ∙ length-append front behind in
+    let size : length rest ≡ length front + length behind = ap length whole
+    ∙ length-append front behind in
     (omega arith, rw whole (sym (drop_at front behind _ (omega (arith, length-append front behind)))))
 
 pub place_behind : (text behind : List ℕ) (start : ℕ) → start ≤ length text

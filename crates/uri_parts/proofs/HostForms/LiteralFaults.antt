@@ -20,7 +20,8 @@ byte_at : (mark place : ℕ) (text : List ℕ) → starts mark (drop place text)
     → get_or text place 0 ≡ mark
 byte_at mark place text e =
     let z : place + 0 ≡ place = omega arith in
-    sym (get_or-drop place text 0 0 ∙ ap (λ n. get_or text n 0) z) ∙ first_is mark (drop place text) e
+    sym (get_or-drop place text 0 0 ∙ ap (λ n. get_or text n 0) z)
+    ∙ first_is mark (drop place text) e
 
 fault_is : (text : List ℕ) (place : ℕ) (kind : ParseErrorKind) (index : ℕ)
     → starts 91 (drop place text) ≡ true → IsLiteralFault (place + 1) kind index

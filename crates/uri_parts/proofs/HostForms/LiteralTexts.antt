@@ -34,5 +34,6 @@ pub behind_ascii : (text bytes : List ℕ) (i byte : ℕ) → bytes ≡ text →
     → i < length bytes → byte < 128 → IsTrue (eqb (get_or bytes i 0) byte)
     → IsCharBoundary text (i + 1)
 behind_ascii text bytes i byte e u inside ascii h =
-    let same : get_or text i 0 ≡ byte = ap (λ t. get_or t i 0) (sym e) ∙ eqb-true _ _ (true_of _ h) in
+    let same : get_or text i 0 ≡ byte = ap (λ t. get_or t i 0) (sym e)
+    ∙ eqb-true _ _ (true_of _ h) in
     IsCharBoundary-after_ascii text i u (omega (arith, ap length e)) (omega arith)

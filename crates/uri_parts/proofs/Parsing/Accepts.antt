@@ -111,7 +111,8 @@ module _ (segment : TableSet) (kind : Kind) (w : Separates segment kind) where
   pub end_stuck : (b : ℕ) (rest : List ℕ) → is_one_of (codes "?#") b ≡ false
       → reads_end kind (b ∷ rest) ≡ false
   unfolding reads_end
-  end_stuck b rest e = cond-false _ _ _ (none_of_two b e).0 ∙ fragment_stuck b rest (none_of_two b e).1
+  end_stuck b rest e = cond-false _ _ _ (none_of_two b e).0
+      ∙ fragment_stuck b rest (none_of_two b e).1
 
   -- paths
   pub path_lemma : (bs : List ℕ) → IsUtf8 bs

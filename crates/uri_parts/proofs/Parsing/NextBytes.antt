@@ -24,7 +24,8 @@ pub stray_fault : (set : TableSet) (text : List ℕ) (i n : ℕ) → set.pct_enc
     → n ≡ i + front set (drop i text) → n < length text → get_or text n 0 ≡ 37
     → IsStrayPercent text n
 stray_fault set text i n o e h p =
-    let d : drop n text ≡ after set (drop i text) = ap (λ k. drop k text) e ∙ sym (drop-drop (front set (drop i text)) i text) in
+    let d : drop n text ≡ after set (drop i text) = ap (λ k. drop k text) e
+    ∙ sym (drop-drop (front set (drop i text)) i text) in
     record { inside = h; percent = p; stray = stray-digits set text n h o p (ap (front set) d ∙ front-after set (drop i text)) }
 
 -- nothing is left where the place is the length
@@ -46,7 +47,7 @@ unfolding begins_any
 ends_at i text h = ap (begins_any (codes "/?#")) (drop_all i text h)
 
 pub goes_on_at : (i : ℕ) (text : List ℕ) → i < length text
-    → begins_any (codes "/?#")
-    (drop i text) ≡ ((eqb (get_or text i 0) 47 || eqb (get_or text i 0) 63) || eqb (get_or text i 0) 35)
+    → begins_any (codes "/?#") (drop i text)
+    ≡ ((eqb (get_or text i 0) 47 || eqb (get_or text i 0) 63) || eqb (get_or text i 0) 35)
 unfolding begins_any
 goes_on_at i text h = ap (begins_any (codes "/?#")) (drop_more text i 0 h) ∙ three (get_or text i 0)

@@ -67,17 +67,20 @@ hier_layout scheme_end place rest =
 
 module _ (segment : TableSet) (kind : Kind) (w : Separates segment kind) where
   query_case : (end : ℕ) (r : List ℕ) → IsUtf8 r → reads_end kind r ≡ true
-      → query_end_at kind end r ≡ option_map (λ q. end + 1 + length q)
-      (when (starts 63 r) (before_any (codes "#") (drop 1 r)))
+      → query_end_at kind end r
+      ≡ option_map (λ q. end + 1 + length q) (when (starts 63 r) (before_any (codes "#") (drop 1 r)))
   unfolding reads_end query_end_at
   query_case end r u h = ⊎_elim
       (λ q.
       let r1 = drop 1 r in
-      let h1 : (not (is_stray kind.query (after kind.query r1)) && reads_fragment kind (after kind.query r1)) ≡ true = sym (cond-true _ _ _ q) ∙ h in
+      let h1 : (not (is_stray kind.query (after kind.query r1)) && reads_fragment kind (after kind.query r1)) ≡ true = sym (cond-true _ _ _ q)
+      ∙ h in
       let stuck = λ (b : ℕ) (rest : List ℕ) (o : is_one_of (codes "#") b ≡ false). fragment_stuck segment kind w b rest (no_hash b o) in
       let m : front kind.query r1 ≡ length (before_any (codes "#") r1) =
-      front_true (codes "#") kind.query w.query_lacks w.query_marks (reads_fragment kind) stuck r1 (utf8_past 63 (lit< tt) r q u) (and_parts _ _ h1).1 ∙ sym (length-before (codes "#") r1) in
-      cond-true _ _ _ q ∙ ap (λ n. Some (end + 1 + n)) m ∙ sym (ap (λ t. option_map (λ q. end + 1 + length q) (when t (before_any (codes "#") r1))) q))
+      front_true (codes "#") kind.query w.query_lacks w.query_marks (reads_fragment kind) stuck r1 (utf8_past 63 (lit< tt) r q u) (and_parts _ _ h1).1
+      ∙ sym (length-before (codes "#") r1) in
+      cond-true _ _ _ q ∙ ap (λ n. Some (end + 1 + n)) m
+      ∙ sym (ap (λ t. option_map (λ q. end + 1 + length q) (when t (before_any (codes "#") r1))) q))
       (λ q. cond-false _ _ _ q ∙ sym (ap (λ t. option_map (λ q. end + 1 + length q) (when t (before_any (codes "#") (drop 1 r)))) q))
       (cases_Bool (starts 63 r))
 
@@ -99,11 +102,13 @@ module _ (segment : TableSet) (kind : Kind) (w : Separates segment kind) where
   path_case scheme_end authority start tail u h =
       let m = path_front tail u h in
       let rest : List ℕ = from_any (codes "?#") tail in
-      let n : front kind.path tail ≡ length (before_any (codes "?#") tail) = m ∙ sym (length-before (codes "?#") tail) in
+      let n : front kind.path tail ≡ length (before_any (codes "?#") tail) = m
+      ∙ sym (length-before (codes "?#") tail) in
       let r : after kind.path tail ≡ rest = ap (λ k. drop k tail) m in
       let end : start + front kind.path tail ≡ start + length (before_any (codes "?#") tail) = ap (λ k. start + k) n in
       let q : query_end_at kind (start + front kind.path tail) (after kind.path tail) ≡ option_map (λ q. start + length (before_any (codes "?#") tail) + 1 + length q) (when (starts 63 rest) (before_any (codes "#") (drop 1 rest))) =
-      ap (λ e. query_end_at kind e (after kind.path tail)) end ∙ ap (query_end_at kind (start + length (before_any (codes "?#") tail))) r
+      ap (λ e. query_end_at kind e (after kind.path tail)) end
+      ∙ ap (query_end_at kind (start + length (before_any (codes "?#") tail))) r
       ∙ query_case (start + length (before_any (codes "?#") tail)) rest (utf8_from (codes "?#") tail (ascii_marks (codes "?#") refl) u) (sym (ap (reads_end kind) r) ∙ path_end tail h) in
       λ i. record { scheme_end = scheme_end; authority = authority; path_start = start; path_end = end i; query_end = q i }
 
@@ -155,12 +160,13 @@ module _ (segment : TableSet) (kind : Kind) (w : Separates segment kind) where
 
   -- the path runs from the beginning of the text, in how many pieces it is read
   relative_same : (text : List ℕ)
-      → relative_positions segment kind (front scheme_set text)
-      (after scheme_set text) ≡ path_positions kind None None 0 0 text
+      → relative_positions segment kind (front scheme_set text) (after scheme_set text)
+      ≡ path_positions kind None None 0 0 text
   unfolding relative_positions path_positions
   relative_same text =
       let inner : List ℕ = after segment (after scheme_set text) in
-      let a : after kind.path inner ≡ after kind.path text = ap (after kind.path) (segment_within segment kind w text) ∙ after_within segment kind w text in
+      let a : after kind.path inner ≡ after kind.path text = ap (after kind.path) (segment_within segment kind w text)
+      ∙ after_within segment kind w text in
       let n : front scheme_set text + front segment (after scheme_set text) ≡ front segment text = sym (front-within scheme_set segment w.scheme_within scheme_lacks text) in
       let k : front kind.path inner ≡ front kind.path (after segment text) = ap (front kind.path) (segment_within segment kind w text) in
       let f : front kind.path text ≡ front segment text + front kind.path (after segment text) = front-within segment kind.path w.within w.segment_lacks text in
@@ -170,7 +176,8 @@ module _ (segment : TableSet) (kind : Kind) (w : Separates segment kind) where
   relative_path : (text : List ℕ) → reads_relative segment kind text ≡ true
       → reads_path kind text ≡ true
   unfolding reads_relative
-  relative_path text h = sym (path_after segment kind w text) ∙ (and_parts _ _ (and_parts (not (is_stray segment (after segment text))) _ h).1).1
+  relative_path text h = sym (path_after segment kind w text)
+      ∙ (and_parts _ _ (and_parts (not (is_stray segment (after segment text))) _ h).1).1
 
   schemeless_case : (text : List ℕ) → IsUtf8 text
       → reads_schemeless segment kind (front scheme_set text) (after scheme_set text) ≡ true →
@@ -180,10 +187,12 @@ module _ (segment : TableSet) (kind : Kind) (w : Separates segment kind) where
       (λ a.
       let e = slashes_read text ∙ a in
       let d : drop 2 (after scheme_set text) ≡ drop 2 text = ap (λ n. drop 2 (drop n text)) (slashes_front text a) in
-      cond-true _ _ _ e ∙ ap (authority_positions kind None 2) d ∙ slashes_case None 0 text u a (sym (ap (reads_authority kind) d) ∙ sym (cond-true _ _ _ e) ∙ h))
+      cond-true _ _ _ e ∙ ap (authority_positions kind None 2) d
+      ∙ slashes_case None 0 text u a (sym (ap (reads_authority kind) d) ∙ sym (cond-true _ _ _ e) ∙ h))
       (λ a.
       let e = slashes_read text ∙ a in
-      cond-false _ _ _ e ∙ relative_same text ∙ none_case None 0 text u a (relative_path text (sym (relative_within segment kind w text) ∙ sym (cond-false _ _ _ e) ∙ h)))
+      cond-false _ _ _ e ∙ relative_same text
+      ∙ none_case None 0 text u a (relative_path text (sym (relative_within segment kind w text) ∙ sym (cond-false _ _ _ e) ∙ h)))
       (cases_Bool (has_authority text))
 
   -- where there is no colon behind the characters of a scheme, there is no scheme
@@ -211,11 +220,13 @@ module _ (segment : TableSet) (kind : Kind) (w : Separates segment kind) where
   scheme_case : (text : List ℕ) → IsUtf8 text → starts 58 (after scheme_set text) ≡ true
       → (is_ascii_alphabetic (get_or text 0 0) && reads_hier kind (drop 1 (after scheme_set text)))
       ≡ true
-      → hier_positions kind (Some (front scheme_set text)) (front scheme_set text + 1) (drop 1 (after scheme_set text)) ≡ positions_of (components text)
+      → hier_positions kind (Some (front scheme_set text)) (front scheme_set text + 1) (drop 1 (after scheme_set text))
+      ≡ positions_of (components text)
   scheme_case text u s h =
       let p = and_parts _ _ h in
       let m = stops_at_colon scheme_set scheme_lacks scheme_marks text u s in
-      let n : front scheme_set text ≡ length (before_any (codes ":/?#") text) = m ∙ sym (length-before (codes ":/?#") text) in
+      let n : front scheme_set text ≡ length (before_any (codes ":/?#") text) = m
+      ∙ sym (length-before (codes ":/?#") text) in
       let back : after scheme_set text ≡ from_any (codes ":/?#") text = ap (λ k. drop k text) m in
       let first : starts 58 text ≡ false = false_from_ne_true _ (λ c. both_ways _ (alpha_colon text c) p.0) in
       let has : has_scheme text ≡ true = and_from _ _ (sym (ap (starts 58) back) ∙ s) (not_from_false _ first) in
@@ -235,5 +246,6 @@ module _ (segment : TableSet) (kind : Kind) (w : Separates segment kind) where
       (λ s. cond-true _ _ _ s ∙ scheme_case text u s (sym (cond-true _ _ _ s) ∙ h))
       (λ s.
       let h1 = (and_parts (not kind.needs_scheme) _ (sym (cond-false _ _ _ s) ∙ h)).1 in
-      cond-false _ _ _ s ∙ schemeless_case text u h1 ∙ sym (layout_none text (no_scheme text u s h1)))
+      cond-false _ _ _ s ∙ schemeless_case text u h1
+      ∙ sym (layout_none text (no_scheme text u s h1)))
       (cases_Bool (starts 58 (after scheme_set text)))

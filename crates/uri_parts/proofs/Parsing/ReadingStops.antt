@@ -45,7 +45,8 @@ pub record StopsWithin (marks : List ℕ) (set : TableSet) (bs : List ℕ) : Typ
   pub stuck : front set (byte ∷ rest) ≡ 0
   pub apart : front set bs ≡ to_mark marks bs → ⊥
 
-module _ (marks : List ℕ) (set : TableSet) (lacks : LacksPercent set) (outside : excludes set marks ≡ true) where
+module _ (marks : List ℕ) (set : TableSet) (lacks : LacksPercent set)
+    (outside : excludes set marks ≡ true) where
   pub stop_cases : (bs : List ℕ) → IsUtf8 bs
       → (front set bs ≡ to_mark marks bs) ⊎ StopsWithin marks set bs
   stop_cases bs u =

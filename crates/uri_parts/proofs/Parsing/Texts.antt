@@ -104,8 +104,8 @@ scheme_head (b ∷ rest) e = ⊎_elim
     (cases_Bool (is_one_of (codes ":/?#") b))
 
 cut_scheme : (text : List ℕ) → IsUtf8 text
-    → is_valid_for scheme_set (before_any (codes ":/?#") text) ≡ eqb (front scheme_set text)
-    (to_mark (codes ":/?#") text)
+    → is_valid_for scheme_set (before_any (codes ":/?#") text)
+    ≡ eqb (front scheme_set text) (to_mark (codes ":/?#") text)
 cut_scheme text u = cut (codes ":/?#") scheme_set scheme_lacks scheme_marks text u
 
 pub utf8_scheme : (text : List ℕ) → IsUtf8 text → IsUtf8 (after_scheme text)
@@ -145,7 +145,8 @@ module _ (segment : TableSet) (kind : Kind) (w : Separates segment kind) where
   unfolding unmixed
   unmixed_authority text e f =
       let X = not (has_colon_first (before_any (codes "?#") (after_authority (after_scheme text)))) in
-      let a : has_authority (after_scheme text) ≡ true = ap has_authority (behind_none text e) ∙ f in
+      let a : has_authority (after_scheme text) ≡ true = ap has_authority (behind_none text e)
+      ∙ f in
       ap (λ t. is_some (when t (before_any (codes ":/?#") text)) || (not kind.needs_scheme && (is_some (when (has_authority (after_scheme text)) (before_any (codes "/?#") (drop 2 (after_scheme text)))) || X))) e
       ∙ ap (λ t. not kind.needs_scheme && (is_some (when t (before_any (codes "/?#") (drop 2 (after_scheme text)))) || X)) a
       ∙ and_true (not kind.needs_scheme)
@@ -154,7 +155,8 @@ module _ (segment : TableSet) (kind : Kind) (w : Separates segment kind) where
       → unmixed text ≡ (not kind.needs_scheme && not (starts 58 text))
   unfolding unmixed
   unmixed_none text e f =
-      let a : has_authority (after_scheme text) ≡ false = ap has_authority (behind_none text e) ∙ f in
+      let a : has_authority (after_scheme text) ≡ false = ap has_authority (behind_none text e)
+      ∙ f in
       ap (λ t. is_some (when t (before_any (codes ":/?#") text)) || (not kind.needs_scheme && (is_some (when (has_authority (after_scheme text)) (before_any (codes "/?#") (drop 2 (after_scheme text)))) || not (has_colon_first (before_any (codes "?#") (after_authority (after_scheme text))))))) e
       ∙ ap (λ t. not kind.needs_scheme && (is_some (when t (before_any (codes "/?#") (drop 2 (after_scheme text)))) || not (has_colon_first (before_any (codes "?#") (after_authority (after_scheme text)))))) a
       ∙ ap (λ t. not kind.needs_scheme && not (has_colon_first (before_any (codes "?#") t))) (cond-false _ _ _ a ∙ behind_none text e)
@@ -170,7 +172,8 @@ module _ (segment : TableSet) (kind : Kind) (w : Separates segment kind) where
   tail_authority : (text : List ℕ) → IsUtf8 text → has_scheme text ≡ false
       → has_authority text ≡ true → tail_ok text ≡ reads_authority kind (drop 2 text)
   unfolding tail_ok
-  tail_authority text u e f = ap (rest_ok segment kind w) (behind_none text e) ∙ sym (slashes_lemma segment kind w text f u)
+  tail_authority text u e f = ap (rest_ok segment kind w) (behind_none text e)
+      ∙ sym (slashes_lemma segment kind w text f u)
 
   -- a colon behind the characters of a scheme
   with_colon : (text : List ℕ) → IsUtf8 text → starts 58 (after scheme_set text) ≡ true
@@ -184,26 +187,30 @@ module _ (segment : TableSet) (kind : Kind) (w : Separates segment kind) where
       (λ c.
       let h : has_scheme text ≡ false = and_right _ _ (not_from_true _ c) in
       let a : has_authority text ≡ false = false_from_ne_true _ (λ t. both_ways _ (slashes_colon text t) c) in
-      and_left _ _ (alpha_colon text c) ∙ sym (and_right _ _ (and_left _ _ (unmixed_none text h a ∙ and_right _ _ (not_from_true _ c)))))
+      and_left _ _ (alpha_colon text c)
+      ∙ sym (and_right _ _ (and_left _ _ (unmixed_none text h a ∙ and_right _ _ (not_from_true _ c)))))
       (λ c.
       let h : has_scheme text ≡ true = and_from _ _ (sym (ap (starts 58) back) ∙ s) (not_from_false _ c) in
-      let valid : is_scheme (before_any (codes ":/?#") text) ≡ is_ascii_alphabetic (get_or text 0 0) = ap (λ t. is_ascii_alphabetic (get_or (before_any (codes ":/?#") text) 0 0) && t) (cut_scheme text u ∙ eq-eqb _ _ eq) ∙ and_true _ ∙ scheme_head text h in
+      let valid : is_scheme (before_any (codes ":/?#") text) ≡ is_ascii_alphabetic (get_or text 0 0) = ap (λ t. is_ascii_alphabetic (get_or (before_any (codes ":/?#") text) 0 0) && t) (cut_scheme text u ∙ eq-eqb _ _ eq)
+      ∙ and_true _ ∙ scheme_head text h in
       ap (λ t. is_ascii_alphabetic (get_or text 0 0) && t) (ap (λ r. reads_hier kind (drop 1 r)) back ∙ ap (reads_hier kind) (sym (behind_some text h)) ∙ hier_lemma segment kind w (after_scheme text) (utf8_scheme text u))
       ∙ ap (λ t. t && tail_ok text) (sym (scheme_some text h ∙ valid))
       ∙ ap (λ t. scheme_ok text && (t && tail_ok text)) (sym (unmixed_scheme text h)))
       (cases_Bool (starts 58 text))
 
   schemeless_authority : (text : List ℕ) → has_authority text ≡ true
-      → reads_schemeless segment kind (front scheme_set text)
-      (after scheme_set text) ≡ reads_authority kind (drop 2 text)
+      → reads_schemeless segment kind (front scheme_set text) (after scheme_set text)
+      ≡ reads_authority kind (drop 2 text)
   unfolding reads_schemeless
-  schemeless_authority text a = cond-true _ _ _ (slashes_read text ∙ a) ∙ ap (λ n. reads_authority kind (drop 2 (drop n text))) (slashes_front text a)
+  schemeless_authority text a = cond-true _ _ _ (slashes_read text ∙ a)
+      ∙ ap (λ n. reads_authority kind (drop 2 (drop n text))) (slashes_front text a)
 
   schemeless_relative : (text : List ℕ) → has_authority text ≡ false
-      → reads_schemeless segment kind (front scheme_set text)
-      (after scheme_set text) ≡ reads_relative segment kind text
+      → reads_schemeless segment kind (front scheme_set text) (after scheme_set text)
+      ≡ reads_relative segment kind text
   unfolding reads_schemeless
-  schemeless_relative text a = cond-false _ _ _ (slashes_read text ∙ a) ∙ relative_within segment kind w text
+  schemeless_relative text a = cond-false _ _ _ (slashes_read text ∙ a)
+      ∙ relative_within segment kind w text
 
   without_colon : (text : List ℕ) → IsUtf8 text → starts 58 (after scheme_set text) ≡ false
       → (not kind.needs_scheme && reads_schemeless segment kind (front scheme_set text) (after scheme_set text))
@@ -212,7 +219,8 @@ module _ (segment : TableSet) (kind : Kind) (w : Separates segment kind) where
       (λ h.
       let a : has_authority text ≡ false = false_from_ne_true _ (λ t. both_ways _ (slashes_colon text t) (sym (ap (starts 58) (slashes_first text t)) ∙ (and_parts _ _ h).0)) in
       let ne : eqb (front scheme_set text) (to_mark (codes ":/?#") text) ≡ false = ne_eqb _ _ (λ e. both_ways _ s (ap (λ n. starts 58 (drop n text)) e ∙ (and_parts _ _ h).0)) in
-      and_right _ _ (schemeless_relative text a ∙ relative_false segment kind w text u h) ∙ sym (and_left _ _ (scheme_some text h ∙ and_right _ _ (cut_scheme text u ∙ ne))))
+      and_right _ _ (schemeless_relative text a ∙ relative_false segment kind w text u h)
+      ∙ sym (and_left _ _ (scheme_some text h ∙ and_right _ _ (cut_scheme text u ∙ ne))))
       (λ h. ⊎_elim
       (λ a.
       ap (λ t. not kind.needs_scheme && t) (schemeless_authority text a ∙ sym (tail_authority text u h a))

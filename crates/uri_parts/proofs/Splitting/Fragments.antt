@@ -31,9 +31,11 @@ colon_behind : (marks front back tail : List ℕ) → Lacks marks front → Begi
     → Begins marks tail → starts 58 tail ≡ false
     → starts 58 (from_any marks ((front ++ back) ++ tail)) ≡ starts 58 back
 colon_behind marks front [] tail lacks begins ends other =
-    ap (λ t. starts 58 (from_any marks (t ++ tail))) (append-nil front) ∙ ap (starts 58) (cut-append marks front tail lacks ends).1 ∙ other
+    ap (λ t. starts 58 (from_any marks (t ++ tail))) (append-nil front)
+    ∙ ap (starts 58) (cut-append marks front tail lacks ends).1 ∙ other
 colon_behind marks front (c ∷ back) tail lacks begins ends other =
-    ap (λ t. starts 58 (from_any marks t)) (append_assoc front (c ∷ back) tail) ∙ ap (starts 58) (cut-append marks front (c ∷ (back ++ tail)) lacks begins).1
+    ap (λ t. starts 58 (from_any marks t)) (append_assoc front (c ∷ back) tail)
+    ∙ ap (starts 58) (cut-append marks front (c ∷ (back ++ tail)) lacks begins).1
 
 no_colon : (tail : List ℕ) → Begins (codes "#") tail → starts 58 tail ≡ false
 no_colon [] begins = refl
@@ -52,7 +54,8 @@ has_scheme-append text tail begins =
     let behind = colon_behind marks (before_any marks text) (from_any marks text) tail cut.lacks cut.begins (hash_mark tail begins) (no_colon tail begins) in
     let colon : starts 58 (from_any marks (text ++ tail)) ≡ starts 58 (from_any marks text) =
     ap (λ t. starts 58 (from_any marks (t ++ tail))) (sym cut.whole) ∙ behind in
-    ap (λ t. t && not (starts 58 (text ++ tail))) colon ∙ ap (λ t. starts 58 (from_any marks text) && not t) (first_colon text tail begins)
+    ap (λ t. t && not (starts 58 (text ++ tail))) colon
+    ∙ ap (λ t. starts 58 (from_any marks text) && not t) (first_colon text tail begins)
 
 none_as : (o : Option (List ℕ)) (P Q : Type 0) → (P → Q) → IfNone o P → IfNone o Q
 none_as None P Q f h = f h
@@ -64,9 +67,11 @@ is_split : (text : List ℕ) (p : Components) (fragment : Option (List ℕ)) →
 is_split text p fragment split =
     let before = before_hash p in
     let read : has_scheme text ≡ has_scheme before =
-    ap has_scheme (before_hash-append text p split) ∙ has_scheme-append before (fragment_text p.fragment) (Begins-fragment_text p.fragment) in
+    ap has_scheme (before_hash-append text p split)
+    ∙ has_scheme-append before (fragment_text p.fragment) (Begins-fragment_text p.fragment) in
     let made : has_scheme (recompose (record p { fragment = fragment })) ≡ has_scheme before =
-    ap has_scheme (recompose-before_hash (record p { fragment = fragment })) ∙ has_scheme-append before (fragment_text fragment) (Begins-fragment_text fragment) in
+    ap has_scheme (recompose-before_hash (record p { fragment = fragment }))
+    ∙ has_scheme-append before (fragment_text fragment) (Begins-fragment_text fragment) in
     record {
       whole = refl;
       scheme = split.scheme;
@@ -117,7 +122,8 @@ is_with_fragment text made fragment e =
     let c = components text in
     let q = record c { fragment = fragment } in
     record {
-      parts = ap components (e ∙ sym (recompose-before_hash q)) ∙ components-recompose (recompose q) q (is_split text c fragment (IsSplitOf-components text));
+      parts = ap components (e ∙ sym (recompose-before_hash q))
+          ∙ components-recompose (recompose q) q (is_split text c fragment (IsSplitOf-components text));
       whole = e ∙ ap (λ t. t ++ fragment_text fragment) (sym (before_any-hash text));
     }
 
@@ -131,7 +137,8 @@ pub from_start : (text : List ℕ) (mark : ℕ) → slice_range text 0 mark ≡ 
 from_start text mark = let n : mark - 0 ≡ mark = omega arith in ap (λ n. take n text) n
 
 -- for callers: a text up to the place where its fragment begins
-module _ (text : List ℕ) (p : Positions) (at : AreAt text p) (mark : ℕ) (here : mark ≡ before_fragment p) where
+module _ (text : List ℕ) (p : Positions) (at : AreAt text p) (mark : ℕ)
+    (here : mark ≡ before_fragment p) where
   mark_at : length (before_hash (components text)) ≡ mark
   mark_at = length-before_hash (components text) ∙ sym (here ∙ ap before_fragment at)
 
@@ -146,7 +153,8 @@ module _ (text : List ℕ) (p : Positions) (at : AreAt text p) (mark : ℕ) (her
   pub taken : take mark text ≡ before_hash (components text)
   taken =
       let c = components text in
-      ap (λ n. take n text) (sym mark_at) ∙ ap (take (length (before_hash c))) whole ∙ take-append_seam (before_hash c) (fragment_text c.fragment)
+      ap (λ n. take n text) (sym mark_at) ∙ ap (take (length (before_hash c))) whole
+      ∙ take-append_seam (before_hash c) (fragment_text c.fragment)
 
   pub stripped : (made : List ℕ) → made ≡ take mark text → IsWithFragment text None made
   stripped made e = is_with_fragment text made None (e ∙ taken ∙ sym (append-nil _))
@@ -156,7 +164,8 @@ pub added : (text kept made fragment : List ℕ) → IsWithFragment text None ke
     → made ≡ kept ++ (35 ∷ fragment) → IsWithFragment text (Some fragment) made
 added text kept made fragment w e =
     let before = before_hash (components text) in
-    let front : kept ≡ before = w.whole ∙ append-nil (before_any (codes "#") text) ∙ before_any-hash text in
+    let front : kept ≡ before = w.whole ∙ append-nil (before_any (codes "#") text)
+    ∙ before_any-hash text in
     is_with_fragment text made (Some fragment) (e ∙ ap (λ t. t ++ (35 ∷ fragment)) front ∙ ap (λ t. before ++ (35 ∷ t)) (sym (append-nil fragment)))
 
 -- such a text is of the kind where the fragment is valid for it, and its components lie where they lay

@@ -22,7 +22,8 @@ module _ (segment : TableSet) (kind : Kind) (w : Separates segment kind) where
 
   pub found_is : (bs : List ℕ) → IsUtf8 bs
       → finds_authority kind bs ≡ is_authority kind (before_any (codes "/?#") bs)
-  found_is bs u = accepts segment kind w bs u ∙ sym (authority_reads kind.userinfo kind.reg_name (before_any (codes "/?#") bs))
+  found_is bs u = accepts segment kind w bs u
+      ∙ sym (authority_reads kind.userinfo kind.reg_name (before_any (codes "/?#") bs))
 
   authority_piece : (bs : List ℕ) → IsUtf8 bs
       → reads_authority kind bs

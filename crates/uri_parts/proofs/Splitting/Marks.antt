@@ -61,7 +61,8 @@ pub has_authority-append : (path tail : List ℕ) → Begins (codes "?#") tail
 has_authority-append [] [] begins = refl
 has_authority-append [] (c ∷ tail) begins = and_left _ _ (no_slash c begins)
 has_authority-append (a ∷ []) [] begins = refl
-has_authority-append (a ∷ []) (c ∷ tail) begins = and_right _ _ (no_slash c begins) ∙ sym (and_right _ _ refl)
+has_authority-append (a ∷ []) (c ∷ tail) begins = and_right _ _ (no_slash c begins)
+    ∙ sym (and_right _ _ refl)
 has_authority-append (a ∷ d ∷ path) tail begins = refl
 
 pub nil_cons : (c : ℕ) (xs : List ℕ) → c ∷ xs ≡ [] → ⊥

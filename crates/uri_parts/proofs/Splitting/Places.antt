@@ -58,14 +58,16 @@ pub range-between : (before part behind : List ℕ)
 range-between before part behind =
     let n : (length before + length part) - length before ≡ length part = omega arith in
     ap (λ k. take k (drop (length before) (before ++ (part ++ behind)))) n
-    ∙ ap (take (length part)) (drop-append_seam before (part ++ behind)) ∙ take-append_seam part behind
+    ∙ ap (take (length part)) (drop-append_seam before (part ++ behind))
+    ∙ take-append_seam part behind
 
 -- a part with a mark, or nothing, behind it
 LiesAt-between : (text before part behind : List ℕ) (start end : ℕ)
     → text ≡ before ++ (part ++ behind) → start ≡ length before → end ≡ start + length part
     → IsCharBoundary text start → Begins (codes ":/?#") behind → LiesAt text start end (Some part)
 LiesAt-between text before part behind start end whole at_start at_end starts begins =
-    let joined : text ≡ (before ++ part) ++ behind = whole ∙ sym (append_assoc before part behind) in
+    let joined : text ≡ (before ++ part) ++ behind = whole
+    ∙ sym (append_assoc before part behind) in
     let n : length (before ++ part) ≡ end = omega (arith, length-append before part) in
     let m : end ≡ length before + length part = omega arith in
     record {
@@ -81,7 +83,8 @@ LiesAt-behind_mark : (text before part behind : List ℕ) (c start end : ℕ)
     → end ≡ start + length part
     → c < 128 → IsUtf8 text → Begins (codes ":/?#") behind → LiesAt text start end (Some part)
 LiesAt-behind_mark text before part behind c start end whole at_start at_end ascii utf8 begins =
-    let joined : text ≡ (before ++ (c ∷ [])) ++ (part ++ behind) = whole ∙ sym (append_assoc before (c ∷ []) (part ++ behind)) in
+    let joined : text ≡ (before ++ (c ∷ [])) ++ (part ++ behind) = whole
+    ∙ sym (append_assoc before (c ∷ []) (part ++ behind)) in
     let n : start ≡ length (before ++ (c ∷ [])) = omega (arith, length-append before (c ∷ [])) in
     let valid : IsUtf8 (before ++ (c ∷ (part ++ behind))) = rw (← whole) utf8 in
     let starts : IsCharBoundary text start = rw (whole, at_start) (after_mark before (part ++ behind) c ascii valid) in
@@ -127,11 +130,13 @@ hash_mark text begins = Begins-more (codes "#") (codes ":/?#") text (λ c e. gri
 -- the authority
 authority_lies : (text : List ℕ) (scheme : Option (List ℕ)) (a path behind : List ℕ)
     → text ≡ scheme_text scheme ++ (marked_authority (Some a) ++ (path ++ behind)) → IsUtf8 text
-    → IsRooted path → Begins (codes "?#") behind → LiesAt text (marked_length 1 scheme + 2) (marked_length 1 scheme + 2 + length a) (Some a)
+    → IsRooted path → Begins (codes "?#") behind
+    → LiesAt text (marked_length 1 scheme + 2) (marked_length 1 scheme + 2 + length a) (Some a)
 authority_lies text scheme a path behind whole utf8 rooted begins =
     let front : List ℕ = scheme_text scheme ++ (47 ∷ []) in
     let joined : text ≡ front ++ (47 ∷ (a ++ (path ++ behind))) =
-    whole ∙ ap (λ t. scheme_text scheme ++ (47 ∷ 47 ∷ (t ++ (path ++ behind)))) (append-nil a) ∙ sym (append_assoc (scheme_text scheme) (47 ∷ []) (47 ∷ (a ++ (path ++ behind)))) in
+    whole ∙ ap (λ t. scheme_text scheme ++ (47 ∷ 47 ∷ (t ++ (path ++ behind)))) (append-nil a)
+    ∙ sym (append_assoc (scheme_text scheme) (47 ∷ []) (47 ∷ (a ++ (path ++ behind)))) in
     let n : marked_length 1 scheme + 2 ≡ length front + 1 = omega (arith, length-append (scheme_text scheme) (47 ∷ []), length-scheme_text scheme) in
     LiesAt-behind_mark text front a (path ++ behind) 47 (marked_length 1 scheme + 2) (marked_length 1 scheme + 2 + length a) joined n refl (omega arith) utf8
     (any_mark (path ++ behind) (Begins-rooted path behind rooted begins))
@@ -139,13 +144,15 @@ authority_lies text scheme a path behind whole utf8 rooted begins =
 -- the path
 path_starts : (text : List ℕ) (scheme authority : Option (List ℕ)) (path behind : List ℕ)
     → text ≡ scheme_text scheme ++ (marked_authority authority ++ (path ++ behind)) → IsUtf8 text
-    → IfSome authority (λ a. IsRooted path) → Begins (codes "?#") behind → IsCharBoundary text (marked_length 1 scheme + marked_length 2 authority)
+    → IfSome authority (λ a. IsRooted path) → Begins (codes "?#") behind
+    → IsCharBoundary text (marked_length 1 scheme + marked_length 2 authority)
 path_starts text scheme (Some a) path behind whole utf8 rooted begins =
     let n : marked_length 1 scheme + 2 + length a ≡ marked_length 1 scheme + marked_length 2 (Some a) = omega arith in
     subst (IsCharBoundary text) n (authority_lies text scheme a path behind whole utf8 rooted begins).ends
 path_starts text None None path behind whole utf8 rooted begins = IsCharBoundary-start text utf8
 path_starts text (Some s) None path behind whole utf8 rooted begins =
-    let joined : text ≡ s ++ (58 ∷ (path ++ behind)) = whole ∙ append_assoc s (codes ":") (path ++ behind) in
+    let joined : text ≡ s ++ (58 ∷ (path ++ behind)) = whole
+    ∙ append_assoc s (codes ":") (path ++ behind) in
     let valid : IsUtf8 (s ++ (58 ∷ (path ++ behind))) = rw (← joined) utf8 in
     let n : length s + 1 ≡ 1 + length s + 0 = omega arith in
     subst (IsCharBoundary text) n (rw joined (after_mark s (path ++ behind) 58 (omega arith) valid))
@@ -157,7 +164,8 @@ path_lies : (text : List ℕ) (scheme authority : Option (List ℕ)) (path behin
 path_lies text scheme authority path behind whole utf8 rooted begins =
     let start : ℕ = marked_length 1 scheme + marked_length 2 authority in
     let front : List ℕ = scheme_text scheme ++ marked_authority authority in
-    let joined : text ≡ front ++ (path ++ behind) = whole ∙ sym (append_assoc (scheme_text scheme) (marked_authority authority) (path ++ behind)) in
+    let joined : text ≡ front ++ (path ++ behind) = whole
+    ∙ sym (append_assoc (scheme_text scheme) (marked_authority authority) (path ++ behind)) in
     let n : start ≡ length front = omega (arith, length-append (scheme_text scheme) (marked_authority authority), length-scheme_text scheme, length-marked_authority authority) in
     LiesAt-between text front path behind start (start + length path) joined n refl (path_starts text scheme authority path behind whole utf8 rooted begins) (end_mark behind begins)
 
@@ -174,7 +182,8 @@ hierarchy-append : (scheme authority : Option (List ℕ)) (path behind : List �
     → scheme_text scheme ++ (marked_authority authority ++ (path ++ behind))
     ≡ hierarchy_text scheme authority path ++ behind
 hierarchy-append scheme authority path behind =
-    sym (append_assoc (scheme_text scheme) (marked_authority authority) (path ++ behind)) ∙ sym (append_assoc (scheme_text scheme ++ marked_authority authority) path behind)
+    sym (append_assoc (scheme_text scheme) (marked_authority authority) (path ++ behind))
+    ∙ sym (append_assoc (scheme_text scheme ++ marked_authority authority) path behind)
 
 -- a query behind the end of the path
 query_lies : (text hierarchy q behind : List ℕ)
@@ -182,7 +191,8 @@ query_lies : (text hierarchy q behind : List ℕ)
     → Begins (codes "#") behind
     → LiesAt text (length hierarchy + 1) (length hierarchy + 1 + length q) (Some q)
 query_lies text hierarchy q behind whole utf8 begins =
-    let joined : text ≡ hierarchy ++ (63 ∷ (q ++ behind)) = whole ∙ ap (λ t. hierarchy ++ (63 ∷ (t ++ behind))) (append-nil q) in
+    let joined : text ≡ hierarchy ++ (63 ∷ (q ++ behind)) = whole
+    ∙ ap (λ t. hierarchy ++ (63 ∷ (t ++ behind))) (append-nil q) in
     LiesAt-behind_mark text hierarchy q behind 63 (length hierarchy + 1) (length hierarchy + 1 + length q) joined refl refl (omega arith) utf8 (hash_mark behind begins)
 
 -- a fragment, behind all else
@@ -195,7 +205,8 @@ fragment_lies text before f whole utf8 =
 -- each component at its positions, over any split
 authority_at : (text : List ℕ) (scheme authority : Option (List ℕ)) (path : List ℕ)
     (query fragment : Option (List ℕ))
-    → IsSplitOf text (record { scheme = scheme; authority = authority; path = path; query = query; fragment = fragment }) → IsUtf8 text
+    → IsSplitOf text (record { scheme = scheme; authority = authority; path = path; query = query; fragment = fragment })
+    → IsUtf8 text
     → (let at = positions_of (record { scheme = scheme; authority = authority; path = path; query = query; fragment = fragment }) in IfSome at.authority (λ a. LiesAt text a.start a.end authority))
 authority_at text scheme None path query fragment split utf8 = tt
 authority_at text scheme (Some a) path query fragment split utf8 =
@@ -214,12 +225,14 @@ path_at text p split utf8 =
 
 query_at : (text : List ℕ) (scheme authority : Option (List ℕ)) (path : List ℕ)
     (query fragment : Option (List ℕ))
-    → IsSplitOf text (record { scheme = scheme; authority = authority; path = path; query = query; fragment = fragment }) → IsUtf8 text
+    → IsSplitOf text (record { scheme = scheme; authority = authority; path = path; query = query; fragment = fragment })
+    → IsUtf8 text
     → (let at = positions_of (record { scheme = scheme; authority = authority; path = path; query = query; fragment = fragment }) in IfSome at.query_end (λ end. LiesAt text (at.path_end + 1) end query))
 query_at text scheme authority path None fragment split utf8 = tt
 query_at text scheme authority path (Some q) fragment split utf8 =
     let hierarchy : List ℕ = hierarchy_text scheme authority path in
-    let whole : text ≡ hierarchy ++ query_text (Some q) fragment = sym split.whole ∙ hierarchy-append scheme authority path (query_text (Some q) fragment) in
+    let whole : text ≡ hierarchy ++ query_text (Some q) fragment = sym split.whole
+    ∙ hierarchy-append scheme authority path (query_text (Some q) fragment) in
     let n = length-hierarchy_text scheme authority path in
     let Lies : ℕ → Type 0 = λ k. LiesAt text (k + 1) (k + 1 + length q) (Some q) in
     subst Lies n (query_lies text hierarchy q (fragment_text fragment) whole utf8 (Begins-fragment_text fragment))

@@ -32,8 +32,9 @@ has_authority-cons (a ∷ b ∷ text) h = let parts = and_parts _ _ h in
 
 -- the scheme and what is behind it
 scheme_whole : (text : List ℕ)
-    → marked [] (when (has_scheme text) (before_any (codes ":/?#") text))
-    (codes ":") ++ after_scheme text ≡ text
+    → marked [] (when (has_scheme text) (before_any (codes ":/?#") text)) (codes ":")
+    ++ after_scheme text
+    ≡ text
 scheme_whole text = ⊎_elim
     (λ h.
     let back = from_any (codes ":/?#") text in
@@ -43,19 +44,22 @@ scheme_whole text = ⊎_elim
     (cases_Bool (has_scheme text))
 
 authority_whole : (rest : List ℕ)
-    → marked (codes "//")
-    (when (has_authority rest) (before_any (codes "/?#") (drop 2 rest))) [] ++ after_authority rest ≡ rest
+    → marked (codes "//") (when (has_authority rest) (before_any (codes "/?#") (drop 2 rest))) []
+    ++ after_authority rest
+    ≡ rest
 authority_whole rest = ⊎_elim
     (λ h.
     let behind = drop 2 rest in
     rw h (ap (λ t. 47 ∷ 47 ∷ (t ++ from_any (codes "/?#") behind)) (append-nil (before_any (codes "/?#") behind))
-    ∙ ap (λ t. 47 ∷ 47 ∷ t) (IsCut-any (codes "/?#") behind).whole ∙ sym (has_authority-cons rest h)))
+    ∙ ap (λ t. 47 ∷ 47 ∷ t) (IsCut-any (codes "/?#") behind).whole
+    ∙ sym (has_authority-cons rest h)))
     (λ h. rw h refl)
     (cases_Bool (has_authority rest))
 
 query_whole : (end : List ℕ)
-    → marked (codes "?")
-    (when (starts 63 end) (before_any (codes "#") (drop 1 end))) [] ++ after_query end ≡ end
+    → marked (codes "?") (when (starts 63 end) (before_any (codes "#") (drop 1 end))) []
+    ++ after_query end
+    ≡ end
 query_whole end = ⊎_elim
     (λ h.
     let behind = drop 1 end in

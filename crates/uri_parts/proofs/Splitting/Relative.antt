@@ -127,7 +127,8 @@ module _ (segment : TableSet) (kind : Kind) (w : Separates segment kind) where
       and_right (not (is_stray kind.path r)) (reads_end kind r) (ap (λ n. reads_end kind (drop n (b ∷ rest))) (stuck_too b rest p.0 z) ∙ end_stuck segment kind w b rest p.1)
 
   pub after_within : (bs : List ℕ) → after kind.path (after segment bs) ≡ after kind.path bs
-  after_within bs = drop-drop (front kind.path (after segment bs)) (front segment bs) bs ∙ ap (λ n. drop n bs) (sym (front-within segment kind.path w.within w.segment_lacks bs))
+  after_within bs = drop-drop (front kind.path (after segment bs)) (front segment bs) bs
+      ∙ ap (λ n. drop n bs) (sym (front-within segment kind.path w.within w.segment_lacks bs))
 
   pub path_after : (bs : List ℕ) → reads_path kind (after segment bs) ≡ reads_path kind bs
   unfolding reads_path
@@ -141,7 +142,8 @@ module _ (segment : TableSet) (kind : Kind) (w : Separates segment kind) where
       let marks : is_one_of (codes ":/") b ≡ false = ap (is_one_of (codes ":/")) (eqb-true b 37 e) in
       let n = stuck_too b rest marks z in
       let stray : is_stray kind.path (b ∷ rest) ≡ true = ap (λ t. t && eqb b 37) w.octets ∙ s in
-      ap (λ n. not (is_stray kind.path (drop n (b ∷ rest))) && reads_end kind (drop n (b ∷ rest))) n ∙ and_left _ _ (not_from_true _ stray)
+      ap (λ n. not (is_stray kind.path (drop n (b ∷ rest))) && reads_end kind (drop n (b ∷ rest))) n
+      ∙ and_left _ _ (not_from_true _ stray)
 
   -- a stray `%` stops the path as well
   no_matter : (bs : List ℕ) (x : Bool)
@@ -157,7 +159,8 @@ module _ (segment : TableSet) (kind : Kind) (w : Separates segment kind) where
   unfolding reads_relative
   relative_lemma bs u e =
       no_matter bs (not (starts 58 (after segment bs)))
-      ∙ ap (λ t. not t && reads_path kind (after segment bs)) (colon_same bs u e) ∙ ap (λ t. not (starts 58 bs) && t) (path_after bs)
+      ∙ ap (λ t. not t && reads_path kind (after segment bs)) (colon_same bs u e)
+      ∙ ap (λ t. not (starts 58 bs) && t) (path_after bs)
 
   pub relative_false : (bs : List ℕ) → IsUtf8 bs → has_scheme bs ≡ true
       → reads_relative segment kind bs ≡ false
@@ -171,7 +174,8 @@ module _ (segment : TableSet) (kind : Kind) (w : Separates segment kind) where
 
   -- what might have been a scheme is the beginning of the segment
   pub segment_within : (bs : List ℕ) → after segment (after scheme_set bs) ≡ after segment bs
-  segment_within bs = drop-drop (front segment (after scheme_set bs)) (front scheme_set bs) bs ∙ ap (λ n. drop n bs) (sym (front-within scheme_set segment w.scheme_within scheme_lacks bs))
+  segment_within bs = drop-drop (front segment (after scheme_set bs)) (front scheme_set bs) bs
+      ∙ ap (λ n. drop n bs) (sym (front-within scheme_set segment w.scheme_within scheme_lacks bs))
 
   pub relative_within : (bs : List ℕ)
       → reads_relative segment kind (after scheme_set bs) ≡ reads_relative segment kind bs

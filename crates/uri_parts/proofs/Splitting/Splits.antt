@@ -10,7 +10,8 @@ use Rattle.uri_parts.proofs.Splitting.Marks.{query-read, authority-read, scheme-
 
 same_components : {s1 s2 a1 a2 q1 q2 f1 f2 : Option (List ℕ)} {p1 p2 : List ℕ} → s1 ≡ s2 → a1 ≡ a2
     → p1 ≡ p2 → q1 ≡ q2 → f1 ≡ f2
-    → (let x : Components = record { scheme = s1; authority = a1; path = p1; query = q1; fragment = f1 } in x) ≡ record { scheme = s2; authority = a2; path = p2; query = q2; fragment = f2 }
+    → (let x : Components = record { scheme = s1; authority = a1; path = p1; query = q1; fragment = f1 } in x)
+    ≡ record { scheme = s2; authority = a2; path = p2; query = q2; fragment = f2 }
 same_components s a p q f = λ i. record { scheme = s i; authority = a i; path = p i; query = q i; fragment = f i }
 
 of_recomposed : (p : Components) → IsSplitOf (recompose p) p → components (recompose p) ≡ p
@@ -21,8 +22,10 @@ of_recomposed p split =
     let authority = authority-read p.authority p.path tail split.authority split.no_authority (Begins-query_text p.query p.fragment) in
     let path = cut-append (codes "?#") p.path tail split.path (Begins-query_text p.query p.fragment) in
     let query = query-read p.query p.fragment split.query in
-    let behind : after_authority (after_scheme (recompose p)) ≡ p.path ++ tail = ap after_authority scheme.1 ∙ authority.1 in
-    let end : from_any (codes "?#") (after_authority (after_scheme (recompose p))) ≡ tail = ap (from_any (codes "?#")) behind ∙ path.1 in
+    let behind : after_authority (after_scheme (recompose p)) ≡ p.path ++ tail = ap after_authority scheme.1
+    ∙ authority.1 in
+    let end : from_any (codes "?#") (after_authority (after_scheme (recompose p))) ≡ tail = ap (from_any (codes "?#")) behind
+    ∙ path.1 in
     same_components scheme.0
     (ap (λ r. when (has_authority r) (before_any (codes "/?#") (drop 2 r))) scheme.1 ∙ authority.0)
     (ap (before_any (codes "?#")) behind ∙ path.0)

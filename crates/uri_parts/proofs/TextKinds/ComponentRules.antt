@@ -43,19 +43,23 @@ pub authority_valid : (kind : Kind) (users names : TableSet) (text part : List �
     → IsOfKind kind text → users ≡ kind.userinfo → names ≡ kind.reg_name
     → (components text).authority ≡ Some part → is_authority_for users names part ≡ true
 authority_valid kind users names text part h s t e =
-    ap (λ v. is_authority_for v names part) s ∙ ap (λ v. is_authority_for kind.userinfo v part) t ∙ present _ (is_authority kind) part (meets kind (components text) h).authority e
+    ap (λ v. is_authority_for v names part) s ∙ ap (λ v. is_authority_for kind.userinfo v part) t
+    ∙ present _ (is_authority kind) part (meets kind (components text) h).authority e
 
 pub path_valid : (kind : Kind) (set : TableSet) (text : List ℕ) → IsOfKind kind text
     → set ≡ kind.path → IsValidFor set (components text).path
-path_valid kind set text h s = ap (λ t. is_valid_for t (components text).path) s ∙ (meets kind (components text) h).path
+path_valid kind set text h s = ap (λ t. is_valid_for t (components text).path) s
+    ∙ (meets kind (components text) h).path
 
 pub query_valid : (kind : Kind) (set : TableSet) (text part : List ℕ) → IsOfKind kind text
     → set ≡ kind.query → (components text).query ≡ Some part → IsValidFor set part
-query_valid kind set text part h s e = ap (λ t. is_valid_for t part) s ∙ present _ (is_valid_for kind.query) part (meets kind (components text) h).query e
+query_valid kind set text part h s e = ap (λ t. is_valid_for t part) s
+    ∙ present _ (is_valid_for kind.query) part (meets kind (components text) h).query e
 
 pub fragment_valid : (kind : Kind) (set : TableSet) (text part : List ℕ) → IsOfKind kind text
     → set ≡ kind.fragment → (components text).fragment ≡ Some part → IsValidFor set part
-fragment_valid kind set text part h s e = ap (λ t. is_valid_for t part) s ∙ present _ (is_valid_for kind.fragment) part (meets kind (components text) h).fragment e
+fragment_valid kind set text part h s e = ap (λ t. is_valid_for t part) s
+    ∙ present _ (is_valid_for kind.fragment) part (meets kind (components text) h).fragment e
 
 -- each component of a text of a kind meets its rule
 pub ruleset parts_valid = (scheme_valid, authority_valid, path_valid, query_valid, fragment_valid)

@@ -30,7 +30,8 @@ plain_bytes : (test : ℕ → Bool) (bs : List ℕ)
     → valid_from (plain test) 0 bs ≡ list_all (is_plain_char test) bs
 unfolding valid_from
 plain_bytes test [] = refl
-plain_bytes test (b ∷ bs) = plain_step test b bs ∙ ap (λ t. is_plain_char test b && t) (plain_bytes test bs)
+plain_bytes test (b ∷ bs) = plain_step test b bs
+    ∙ ap (λ t. is_plain_char test b && t) (plain_bytes test bs)
 
 pub valid_plain : (test : ℕ → Bool) → test 37 ≡ false → (text : List ℕ) → IsUtf8 text
     → is_valid_for (plain test) text ≡ list_all (is_plain_char test) text

@@ -13,8 +13,7 @@ without : (g : _) (c : goal.After-truncate g)
 without g c = stripped (string_bytes c.args.text.now) c.args.positions.now c.requires c.before_fragment-kept.result c.before_fragment-kept.ensures _ c.truncate.ensures.bytes
 
 with : (g : _) (c : goal.After-replace_end g)
-    → IsWithFragment (string_bytes c.args.text.now) (Some c.as_str.result.now)
-    (string_bytes c.replace_end.new.text)
+    → IsWithFragment (string_bytes c.args.text.now) (Some c.as_str.result.now) (string_bytes c.replace_end.new.text)
 with g c =
     let text = string_bytes c.args.text.now in
     let mark = c.before_fragment-kept.result in

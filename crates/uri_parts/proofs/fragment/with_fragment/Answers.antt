@@ -9,16 +9,17 @@ use Rattle.uri_parts.proofs.fragment.with_fragment.Goals as goal
 without : (g : _) (c : goal.In_ok-push_str g)
     → IsWithFragment c.args.text.now None (string_bytes c.push_str.new.self)
 without g c =
-    let copied = c.in_ok-push_str.ensures.bytes ∙ ap (λ t. t ++ c.without_fragment-kept.result.now) c.new-made.ensures.bytes in
+    let copied = c.in_ok-push_str.ensures.bytes
+    ∙ ap (λ t. t ++ c.without_fragment-kept.result.now) c.new-made.ensures.bytes in
     subst (IsWithFragment c.args.text.now None) (sym copied) c.without_fragment-kept.ensures.fragment
 
 with : (g : _) (c : goal.In_ok-push_fragment g)
-    → IsWithFragment c.args.text.now (Some c.as_str.result.now)
-    (string_bytes c.push_fragment.new.text)
+    → IsWithFragment c.args.text.now (Some c.as_str.result.now) (string_bytes c.push_fragment.new.text)
 with g c =
     let kept = c.without_fragment-kept.result.now in
     let fragment = c.as_str.result.now in
-    let start = c.in_ok-push_str-2.ensures.bytes ∙ ap (λ t. t ++ kept) (c.reserve.ensures.bytes ∙ c.new-made.ensures.bytes) in
+    let start = c.in_ok-push_str-2.ensures.bytes
+    ∙ ap (λ t. t ++ kept) (c.reserve.ensures.bytes ∙ c.new-made.ensures.bytes) in
     added c.args.text.now kept (string_bytes c.push_fragment.new.text) fragment c.without_fragment-kept.ensures.fragment (c.in_ok-push_fragment.ensures.text ∙ ap (λ t. t ++ (35 ∷ fragment)) start)
 
 pub returns-in_default-clause-of_kind : goal.returns-in_default-clause-of_kind

@@ -28,14 +28,16 @@ pub returns-then-sees-clause-accepts : goal.returns-then-sees-clause-accepts
 returns-then-sees-clause-accepts c =
     let e = rw (c.as_bytes.ensures.value, c.range_from-address.ensures.value) at c.in-Some.ensures in
     let within : c.args.start ≤ length c.args.text.now = c.requires.0 in
-    let here : starts 93 c.in-Some.rest.now ≡ true = ap (starts 93) (place_behind _ _ _ within e) ∙ sym c.sees.ensures.value ∙ c.if-sees.true in
+    let here : starts 93 c.in-Some.rest.now ≡ true = ap (starts 93) (place_behind _ _ _ within e)
+    ∙ sym c.sees.ensures.value ∙ c.if-sees.true in
     sym (accepted _ _ e here).0
 
 pub returns-then-sees-clause-end : goal.returns-then-sees-clause-end
 returns-then-sees-clause-end c =
     let e = rw (c.as_bytes.ensures.value, c.range_from-address.ensures.value) at c.in-Some.ensures in
     let within : c.args.start ≤ length c.args.text.now = c.requires.0 in
-    let here : starts 93 c.in-Some.rest.now ≡ true = ap (starts 93) (place_behind _ _ _ within e) ∙ sym c.sees.ensures.value ∙ c.if-sees.true in
+    let here : starts 93 c.in-Some.rest.now ≡ true = ap (starts 93) (place_behind _ _ _ within e)
+    ∙ sym c.sees.ensures.value ∙ c.if-sees.true in
     omega (arith, (accepted _ _ e here).1, (follows _ _ e).0, length-drop c.args.start c.args.text.now)
 
 pub returns-clause-accepts : goal.returns-clause-accepts
@@ -45,7 +47,8 @@ returns-clause-accepts c =
     elim c.match-after_ipv6.branch [
       | in-Some+else-sees w ↦
           let e = rw (c.as_bytes.ensures.value, c.range_from-address.ensures.value) at w.in-Some.ensures in
-          let other : starts 93 w.in-Some.rest.now ≡ false = ap (starts 93) (place_behind _ _ _ within e) ∙ sym w.sees.ensures.value ∙ w.if-sees.false in
+          let other : starts 93 w.in-Some.rest.now ≡ false = ap (starts 93) (place_behind _ _ _ within e)
+          ∙ sym w.sees.ensures.value ∙ w.if-sees.false in
           sym (unclosed _ _ plain e other)
       | in_default w ↦
           let e = rw (c.as_bytes.ensures.value, c.range_from-address.ensures.value) at w.in_default.ensures in

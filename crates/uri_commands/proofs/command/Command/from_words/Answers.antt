@@ -51,7 +51,8 @@ no_parse c k t is =
       | in_default-via-in-len3-2+else-eq-2 w ↦
           let words = texts_of_three _ _ _ _ w.in-len3.len_at_least w.in-len3.len_below w.command-item.is w.kind-item.is w.text-item.is in
           let head : string_bytes w.command-item.result ≡ codes "parse" = ap (λ l. get_or l 0 []) (sym words ∙ is) in
-          let yes : w.eq.result ≡ true = w.eq.ensures ∙ ap (λ t. bytes_eq t (codes "parse")) (w.as_str.ensures.value ∙ head) in
+          let yes : w.eq.result ≡ true = w.eq.ensures
+          ∙ ap (λ t. bytes_eq t (codes "parse")) (w.as_str.ensures.value ∙ head) in
           cc (yes, w.if-eq.false)
       | in_default-via-in-len4+else-eq-3 w ↦ absurd (omega arith)
       | in_default-via-else-words-lt3+else-words-lt4+else-words-lt5 w ↦ absurd (omega (arith, ltb-false))
@@ -66,7 +67,8 @@ no_normalize c k t is =
       | in_default-via-in-len3-2+else-eq-2 w ↦
           let words = texts_of_three _ _ _ _ w.in-len3.len_at_least w.in-len3.len_below w.command-item-then-words-lt4.is w.kind-item-then-words-lt4.is w.text-item-then-words-lt4.is in
           let head : string_bytes w.command-item-then-words-lt4.result ≡ codes "normalize" = ap (λ l. get_or l 0 []) (sym words ∙ is) in
-          let yes : w.eq-then-words-lt4.result ≡ true = w.eq-then-words-lt4.ensures ∙ ap (λ t. bytes_eq t (codes "normalize")) (w.as_str-then-words-lt4.ensures.value ∙ head) in
+          let yes : w.eq-then-words-lt4.result ≡ true = w.eq-then-words-lt4.ensures
+          ∙ ap (λ t. bytes_eq t (codes "normalize")) (w.as_str-then-words-lt4.ensures.value ∙ head) in
           cc (yes, w.if-eq-2.false)
       | in_default-via-in-len4+else-eq-3 w ↦ absurd (omega arith)
       | in_default-via-else-words-lt3+else-words-lt4+else-words-lt5 w ↦ absurd (omega (arith, ltb-false))
@@ -82,7 +84,8 @@ no_resolve c k b r is =
       | in_default-via-in-len4+else-eq-3 w ↦
           let words = texts_of_four _ _ _ _ _ w.in-len4.len_at_least w.in-len4.len_below w.command-item-then-words-lt5.is w.kind-item-then-words-lt5.is w.base-item.is w.reference-item.is in
           let head : string_bytes w.command-item-then-words-lt5.result ≡ codes "resolve" = ap (λ l. get_or l 0 []) (sym words ∙ is) in
-          let yes : w.eq-then-words-lt5.result ≡ true = w.eq-then-words-lt5.ensures ∙ ap (λ t. bytes_eq t (codes "resolve")) (w.as_str-then-words-lt5.ensures.value ∙ head) in
+          let yes : w.eq-then-words-lt5.result ≡ true = w.eq-then-words-lt5.ensures
+          ∙ ap (λ t. bytes_eq t (codes "resolve")) (w.as_str-then-words-lt5.ensures.value ∙ head) in
           cc (yes, w.if-eq-3.false)
       | in_default-via-else-words-lt3+else-words-lt4+else-words-lt5 w ↦ absurd (omega (arith, ltb-false))
     ]

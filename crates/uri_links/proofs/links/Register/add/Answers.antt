@@ -6,16 +6,19 @@ use Rattle.uri_links.proofs.Texts.{normal_after, distinct_after, place_after}
 
 pub invariant_of-self-in-Ok-clause-normal : goal.invariant_of-self-in-Ok-clause-normal
 invariant_of-self-in-Ok-clause-normal g c =
-    let e = ap (map uri_text) c.in_ok-push.ensures.items ∙ map-append uri_text c.args.self.now.targets.items (c.args.target ∷ []) in
+    let e = ap (map uri_text) c.in_ok-push.ensures.items
+    ∙ map-append uri_text c.args.self.now.targets.items (c.args.target ∷ []) in
     normal_after _ _ _ _ e c.args.self.now.normal c.requires.normal
 
 pub invariant_of-self-in-Ok-clause-distinct : goal.invariant_of-self-in-Ok-clause-distinct
 invariant_of-self-in-Ok-clause-distinct g c =
-    let e = ap (map uri_text) c.in_ok-push.ensures.items ∙ map-append uri_text c.args.self.now.targets.items (c.args.target ∷ []) in
+    let e = ap (map uri_text) c.in_ok-push.ensures.items
+    ∙ map-append uri_text c.args.self.now.targets.items (c.args.target ∷ []) in
     distinct_after _ _ _ e c.args.self.now.distinct c.requires.new
 
 pub invariant_of-self-in-Ok-clause-placed : goal.invariant_of-self-in-Ok-clause-placed
 invariant_of-self-in-Ok-clause-placed g c =
-    let e = ap (map uri_text) c.in_ok-push.ensures.items ∙ map-append uri_text c.args.self.now.targets.items (c.args.target ∷ []) in
+    let e = ap (map uri_text) c.in_ok-push.ensures.items
+    ∙ map-append uri_text c.args.self.now.targets.items (c.args.target ∷ []) in
     place_after _ _ c.in_ok-text.text c.args.self.now.places c.insert.new.self _ c.len-id.result e (c.in_ok-text.ensures.ok ∙ c.as_str.ensures.text) c.len-id.ensures
     c.in-Ok.ensures.updates c.args.self.now.placed c.requires.new

@@ -17,7 +17,8 @@ returns-in_err-outcome-clause-front g c =
 pub loop-reference-init : goal.loop-reference-init
 loop-reference-init g c = record {
   ports = refl;
-  noted = none uri_ref_text (uri_text c.args.base.now) (texts_of c.args.self.now) c.args.references.now (port_function_of c.args.self.now) ∙ ap (λ outcomes. (outcomes, texts_of c.args.self.now)) (sym c.in_ok-outcomes.ensures.items);
+  noted = none uri_ref_text (uri_text c.args.base.now) (texts_of c.args.self.now) c.args.references.now (port_function_of c.args.self.now)
+      ∙ ap (λ outcomes. (outcomes, texts_of c.args.self.now)) (sym c.in_ok-outcomes.ensures.items);
 }
 
 pub returns-in_err-push-clause-front : goal.returns-in_err-push-clause-front

@@ -11,4 +11,5 @@ range-requires-clause-end_boundary g c = rw (c.args.self.ends, c.as_str-text.ens
 pub returns : goal.returns
 returns g c =
     let p = host_place g.U.Encoder.set g.R.Encoder.set c.args.self.text.now c.args.self.valid (rw (← c.as_str-text.ensures.text) c.as_str-text.utf8) in
-    c.range.ensures.value ∙ rw (c.as_str-text.ensures.text, c.args.self.starts, c.args.self.ends) p.holds
+    c.range.ensures.value
+    ∙ rw (c.as_str-text.ensures.text, c.args.self.starts, c.args.self.ends) p.holds

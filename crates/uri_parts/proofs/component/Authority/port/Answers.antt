@@ -11,7 +11,8 @@ pub returns-then-self-text : goal.returns-then-self-text
 returns-then-self-text g c =
     let text = c.args.self.text.now in
     let u : IsUtf8 text = rw (← c.as_str-text.ensures.text) c.as_str-text.utf8 in
-    let e : host_end_of text ≡ length text = sym c.args.self.ends ∙ c.if-self-text.true ∙ ap length c.as_str-text.ensures.text in
+    let e : host_end_of text ≡ length text = sym c.args.self.ends ∙ c.if-self-text.true
+    ∙ ap length c.as_str-text.ensures.text in
     ⊎_elim (λ w. w.1) (λ w. absurd (omega (arith, w.inside, e))) (port_place g.U.Encoder.set g.R.Encoder.set text c.args.self.valid u)
 
 pub overflow_add-self : goal.overflow_add-self

@@ -12,4 +12,5 @@ range-requires-clause-end_boundary c =
 
 pub returns : goal.returns
 returns c =
-    ap Some c.range.ensures.value ∙ (authority_place c.args.text.now c.args.self.now c.utf8.text c.requires c.in_ok-authority.authority c.in_ok-authority.was).holds
+    ap Some c.range.ensures.value
+    ∙ (authority_place c.args.text.now c.args.self.now c.utf8.text c.requires c.in_ok-authority.authority c.in_ok-authority.was).holds

@@ -12,4 +12,5 @@ range-requires-clause-end_boundary c =
 
 pub returns : goal.returns
 returns c =
-    ap Some c.range.ensures.value ∙ (query_place c.args.text.now c.args.self.now c.utf8.text c.requires c.in_ok-end.end c.in_ok-end.was).holds
+    ap Some c.range.ensures.value
+    ∙ (query_place c.args.text.now c.args.self.now c.utf8.text c.requires c.in_ok-end.end c.in_ok-end.was).holds
