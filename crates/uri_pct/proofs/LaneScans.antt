@@ -1,6 +1,7 @@
 -- Sixteen bytes at a time: masks of lanes, and what the bytes under them are.
 pub mod LaneMasks
 pub mod LaneRuns
+pub mod FirstPlaces
 pub mod AsciiRuns
 pub mod LaneBits
 pub mod OctetLanes

@@ -10,6 +10,7 @@ use crate::cow::{CowSlice, CowStr, DecodeError};
 use crate::encoder::Encoder;
 use crate::octet::octet_value;
 use crate::pct_enc::EStr;
+use crate::search::find_byte;
 use std::alloc::{AllocError, Global};
 use std::iter::FusedIterator;
 
@@ -46,10 +47,7 @@ pub struct Decode<'a> {
 fn unencoded_len(text: &str) -> usize
     ensures { result ≡ position_or_len (λ b. b == percent_sign) text.now }
 {
-    match text.split_once('%') {
-        Some((before, _)) => before.len(),
-        None => text.len(),
-    }
+    find_byte(b'%', text.as_bytes(), 0)
 }
 
 impl<'a> Decode<'a> {

@@ -36,6 +36,11 @@ impl TakeParts for Bytes {
         self.bytes.extend_from_slice(text.as_bytes())
     }
 
+    fn take_ascii(&mut self, byte: u8) -> Result<(), AllocError> {
+        self.bytes.push(byte)?;
+        Ok(())
+    }
+
     fn take_ill_formed(&mut self, bytes: &[u8]) -> Result<(), AllocError> {
         self.is_text = false;
         self.bytes.extend_from_slice(bytes)
@@ -63,6 +68,10 @@ impl TakeParts for LossyText {
 
     fn take_well_formed(&mut self, text: &str) -> Result<(), AllocError> {
         self.text.push_str(text)
+    }
+
+    fn take_ascii(&mut self, byte: u8) -> Result<(), AllocError> {
+        self.text.push(char::from(byte))
     }
 
     fn take_ill_formed(&mut self, _bytes: &[u8]) -> Result<(), AllocError> {

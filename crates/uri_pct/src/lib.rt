@@ -26,6 +26,8 @@ pub mod rules;
 #[doc(hidden)]
 pub mod scan;
 #[doc(hidden)]
+pub mod search;
+#[doc(hidden)]
 pub mod split;
 pub mod table;
 #[doc(hidden)]

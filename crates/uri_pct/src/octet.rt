@@ -32,13 +32,24 @@ pub fn pct_encoded(byte: u8) -> &'static str
     &OCTETS[start..start + 3]
 }
 
-/// The value of a hexadecimal digit, without a branch: `A` is 1 behind 64, and `a` 1 behind 96.
+/// The value of each byte up to `f` that is a hexadecimal digit, and 0 for the others.
+const DIGIT_VALUES: &[u8; 112] = &[
+    0, 0, 0, 0, 0, 0, 0, 0, 0, 0, 0, 0, 0, 0, 0, 0, // 00
+    0, 0, 0, 0, 0, 0, 0, 0, 0, 0, 0, 0, 0, 0, 0, 0, // 10
+    0, 0, 0, 0, 0, 0, 0, 0, 0, 0, 0, 0, 0, 0, 0, 0, // 20
+    0, 1, 2, 3, 4, 5, 6, 7, 8, 9, 0, 0, 0, 0, 0, 0, // 30
+    0, 10, 11, 12, 13, 14, 15, 0, 0, 0, 0, 0, 0, 0, 0, 0, // 40
+    0, 0, 0, 0, 0, 0, 0, 0, 0, 0, 0, 0, 0, 0, 0, 0, // 50
+    0, 10, 11, 12, 13, 14, 15, 0, 0, 0, 0, 0, 0, 0, 0, 0, // 60
+];
+
+/// The value of a hexadecimal digit.
 fn digit_value(digit: u8) -> u8
     requires { IsTrue (is_ascii_hexdigit digit) }
     ensures value { result ≡ digit_value digit }
     ensures small { result < 16 }
 {
-    digit % 16 + digit / 64 * 9
+    DIGIT_VALUES[usize::from(digit)]
 }
 
 /// The byte that `%` and the two hexadecimal digits stand for.

@@ -1,6 +1,6 @@
 //! Octets that are read as UTF-8.
 ghost use Rattle.std.specs.Prelude.{◌≡◌, ◌<◌, OnOk, List, [], ◌∷◌, ◌++◌, length, map};
-ghost use Rattle.uri_pct.specs.Chunks.{Chunk};
+ghost use Rattle.uri_pct.specs.Chunks.{Chunk, Byte};
 ghost use Rattle.uri_pct.specs.DecodedChunks.{chunk_of};
 ghost use Rattle.uri_pct.specs.Models.Windows.{held};
 ghost use Rattle.uri_pct.specs.Parts.{Part, Plain, Read, parts, parts_from, fault_pieces};
@@ -24,6 +24,15 @@ pub trait TakeParts {
     fn take_well_formed(&mut self, text: &str) -> Result<(), AllocError>
         ensures { OnOk result (took self.old (map Read (utf8_pieces text.now)) self.new) };
 
+    /// Takes an ASCII character that an octet spells.
+    fn take_ascii(&mut self, byte: u8) -> Result<(), AllocError>
+        requires { byte < 128 }
+        ensures { OnOk result (took self.old (map Read (utf8_pieces (byte ∷ []))) self.new) }
+    {
+        let bytes = [byte];
+        self.take_well_formed(unsafe { str::from_utf8_unchecked(&bytes) })
+    }
+
     /// Takes a maximal ill-formed part of a run of octets.
     fn take_ill_formed(&mut self, bytes: &[u8]) -> Result<(), AllocError>
         ensures { OnOk result (took self.old (Read (IllFormed bytes.now) ∷ []) self.new) };
@@ -33,26 +42,46 @@ pub trait TakeParts {
     ghost takes_on: { (s t u : Self) (ps qs : List Part) → took s ps t → took t qs u → took s (ps ++ qs) u };
 }
 
+/// Hands over characters, where there are some.
+fn take_text<T: TakeParts>(text: &str, taker: &mut T) -> Result<(), AllocError>
+    ensures { OnOk result (T.took taker.old (map Read (utf8_pieces text.now)) taker.new) }
+{
+    if text.is_empty() {
+        return Ok(());
+    }
+    taker.take_well_formed(text)
+}
+
 /// Hands over the pieces of a text, and of the ill-formed part behind it where there is one.
 fn take_chunk<T: TakeParts>(text: &str, fault: &[u8], taker: &mut T) -> Result<(), AllocError>
     ensures { OnOk result
         (T.took taker.old (map Read (utf8_pieces text.now ++ fault_pieces fault.now)) taker.new) }
 {
-    taker.take_well_formed(text)?;
+    take_text(text, taker)?;
     if fault.is_empty() {
         return Ok(());
     }
     taker.take_ill_formed(fault)
 }
 
-/// Hands over the pieces of a run of octets.
-fn take_run<T: TakeParts>(run: &[u8], taker: &mut T) -> Result<(), AllocError>
+/// Hands over the pieces of a run of octets, text by text and ill-formed part by part.
+fn take_chunks<T: TakeParts>(run: &[u8], taker: &mut T) -> Result<(), AllocError>
     ensures { OnOk result (T.took taker.old (map Read (utf8_pieces run.now)) taker.new) }
 {
     for chunk in run.utf8_chunks() {
         take_chunk(chunk.valid(), chunk.invalid(), taker)?;
     }
     Ok(())
+}
+
+/// Hands over the pieces of a run of octets, at once where it is text.
+fn take_run<T: TakeParts>(run: &[u8], taker: &mut T) -> Result<(), AllocError>
+    ensures { OnOk result (T.took taker.old (map Read (utf8_pieces run.now)) taker.new) }
+{
+    match str::from_utf8(run) {
+        Ok(text) => taker.take_well_formed(text),
+        Err(_) => take_chunks(run, taker),
+    }
 }
 
 /// Hands over what a full window holds, but for an unfinished character at its end: that it keeps,
@@ -74,7 +103,39 @@ fn take_full<T: TakeParts>(window: &mut Window, taker: &mut T) -> Result<(), All
     Ok(())
 }
 
-/// Takes a chunk: an octet goes to the window, and text ends the run.
+/// Hands over what the window holds, and empties it.
+fn take_held<T: TakeParts>(window: &mut Window, taker: &mut T) -> Result<(), AllocError>
+    ensures emptied { OnOk result (held window.new ≡ []) }
+    ensures taken { OnOk result
+        (T.took taker.old (map Read (utf8_pieces (held window.old))) taker.new) }
+{
+    if window.is_empty() {
+        return Ok(());
+    }
+    take_run(window.as_slice(), taker)?;
+    window.clear();
+    Ok(())
+}
+
+/// Takes an octet: an ASCII one ends the run, since it is a character by itself, and any other goes
+/// to the window.
+fn take_octet<T: TakeParts>(byte: u8, window: &mut Window, taker: &mut T) -> Result<(), AllocError>
+    ensures { OnOk result ((u : _) (behind : List Chunk)
+        → T.took taker.new (parts_from (held window.new) behind) u
+        → T.took taker.old (parts_from (held window.old) (Byte byte ∷ behind)) u) }
+{
+    if byte.is_ascii() {
+        take_held(window, taker)?;
+        return taker.take_ascii(byte);
+    }
+    if window.is_full() {
+        take_full(window, taker)?;
+    }
+    window.push(byte);
+    Ok(())
+}
+
+/// Takes a chunk: an octet, or text, which ends the run.
 ///
 /// Whatever takes the parts that are left from then on has taken those of the chunk too.
 fn take_decoded<T: TakeParts>(
@@ -88,17 +149,10 @@ fn take_decoded<T: TakeParts>(
 {
     match chunk {
         DecodedChunk::Unencoded(text) => {
-            take_run(window.as_slice(), taker)?;
-            window.clear();
+            take_held(window, taker)?;
             taker.take_unencoded(text)
         }
-        DecodedChunk::PctDecoded(byte) => {
-            if window.is_full() {
-                take_full(window, taker)?;
-            }
-            window.push(byte);
-            Ok(())
-        }
+        DecodedChunk::PctDecoded(byte) => take_octet(byte, window, taker),
     }
 }
 
@@ -114,6 +168,6 @@ impl<'a> Decode<'a> {
         for chunk in self {
             take_decoded(chunk, &mut window, taker)?;
         }
-        take_run(window.as_slice(), taker)
+        take_held(&mut window, taker)
     }
 }

@@ -33,6 +33,13 @@ impl Window {
         &self.bytes[..self.len]
     }
 
+    /// Whether it holds nothing.
+    pub(crate) fn is_empty(&self) -> bool
+        ensures { result ≡ (length (held self.now) == 0) }
+    {
+        self.len == 0
+    }
+
     /// Whether it holds as many bytes as it may.
     pub(crate) fn is_full(&self) -> bool
         ensures { result ≡ (length (held self.now) == 32) }

@@ -137,7 +137,7 @@ pub utf8_pieces-encode_first : (c : ℕ) (rest : List ℕ) → IsScalar c → ut
 utf8_pieces-encode_first c rest scalar = ⊎_elim (λ h. begins_low c rest h) (λ h. begins_high c rest h.0 h.1) (scalar_cases c scalar)
 
 -- a character begins with a byte that continues none
-outside : (b : ℕ) → (b < 0x80) ⊎ (0xC0 ≤ b) → is_within continuation b ≡ false
+pub outside : (b : ℕ) → (b < 0x80) ⊎ (0xC0 ≤ b) → is_within continuation b ≡ false
 outside b h = ⊎_elim (λ low. and_left _ _ (lt-leb 0x80 b low)) (λ high. and_right _ _ (lt-leb b 0xBF (omega arith))) h
 
 pub begins_within-encode : (c : ℕ) (rest : List ℕ) → begins_within (encode_utf8 c ++ rest) ≡ false

@@ -1,7 +1,9 @@
 -- The pieces of a run of octets, by the parts that std finds in it.
 use Rattle.std.proofs.Common.{◌≡◌, ℕ, suc, ◌<◌, List, [], ◌∷◌, ◌++◌, length, take, drop, map, refl, sym, ap, ◌∙◌, subst, arith, append_assoc}
+use Rattle.std.proofs.Common.{true, ◌==◌}
 use Rattle.std.specs.Str.{IsUtf8}
 use Rattle.std.specs.Str.Lossy.{utf8_valid_len, utf8_invalid_len}
+use Rattle.std.proofs.lemmas.Bool.{eqb-true}
 use Rattle.std.proofs.lemmas.List.{append-nil, nil_from_length, length-append}
 use Rattle.std.proofs.Math.Seq.{take-append_seam, drop-append_seam}
 use Rattle.uri_pct.specs.Pieces.{IllFormed, following, taken, first_piece, pieces_from, utf8_pieces, piece_bytes}
@@ -12,6 +14,9 @@ use Rattle.uri_pct.proofs.Unicode.Lossy.{of_char, text_first, fault_first, ill_f
 pub nil_pieces : utf8_pieces [] ≡ []
 unfolding pieces_from
 nil_pieces = refl
+
+pub no_pieces : (bytes : List ℕ) → (length bytes == 0) ≡ true → utf8_pieces bytes ≡ []
+no_pieces bytes e = ap utf8_pieces (nil_from_length bytes (eqb-true _ 0 e)) ∙ nil_pieces
 
 -- a text is pieces by itself
 pub utf8_pieces-text : (text rest : List ℕ) → IsUtf8 text → utf8_pieces (text ++ rest) ≡ utf8_pieces text ++ utf8_pieces rest

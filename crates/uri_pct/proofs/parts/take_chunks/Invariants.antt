@@ -2,7 +2,7 @@ use Rattle.std.proofs.Common.{map}
 use Rattle.std.specs.Str.Chunks.{utf8_chunks_rest}
 use Rattle.uri_pct.specs.Parts.{Read}
 use Rattle.uri_pct.specs.Pieces.{utf8_pieces}
-use Rattle.uri_pct.proofs.parts.take_run.Given as goal
+use Rattle.uri_pct.proofs.parts.take_chunks.Given as goal
 
 abbrev pub invariant-loop-chunk : goal.invariant-loop-chunk
 invariant-loop-chunk g l =

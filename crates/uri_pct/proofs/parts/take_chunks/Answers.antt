@@ -4,7 +4,7 @@ use Rattle.std.proofs.lemmas.List.{map-append, nil_from_length}
 use Rattle.uri_pct.specs.Parts.{Read, fault_pieces}
 use Rattle.uri_pct.specs.Pieces.{utf8_pieces}
 use Rattle.uri_pct.proofs.Unicode.Runs.{chunk_pieces, nil_pieces}
-use Rattle.uri_pct.proofs.parts.take_run.Goals as goal
+use Rattle.uri_pct.proofs.parts.take_chunks.Goals as goal
 
 pub loop-chunk-preserved : goal.loop-chunk-preserved
 loop-chunk-preserved g c = λ u h.

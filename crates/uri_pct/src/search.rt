@@ -1,0 +1,36 @@
+//! The search for a byte, sixteen bytes at a time.
+ghost use Rattle.std.specs.Prelude.{◌≤◌, ◌+◌, ◌==◌, ◌≡◌, length, map, not};
+ghost use Rattle.std.specs.Simd.Lanes.{mask_l, chunk};
+ghost use Rattle.uri_pct.specs.Models.ByteRuns.{IsRun};
+
+use crate::lanes::LANES;
+use std::simd::prelude::*;
+
+/// At which of the sixteen bytes from `at` on this one stands: bit k is of the byte at `at + k`.
+#[inline(always)]
+pub fn places_of(byte: u8, bytes: &[u8], at: usize) -> u64
+    requires { at + LANES ≤ length bytes.now }
+    ensures { result ≡ mask_l (map (λ b. b == byte) (chunk at 16 bytes.now)) }
+{
+    let lanes = u8x16::from_slice(&bytes[at..]);
+    lanes.simd_eq(u8x16::splat(byte)).to_bitmask()
+}
+
+/// Where the byte stands first, from `start` on, or the end where it does not.
+pub fn find_byte(byte: u8, bytes: &[u8], start: usize) -> usize
+    requires { start ≤ length bytes.now }
+    ensures { IsRun (λ b. not (b == byte)) bytes.now start result }
+{
+    let mut i = start;
+    while bytes.len() - i >= LANES {
+        let mask = places_of(byte, bytes, i);
+        if mask != 0 {
+            return i + mask.trailing_zeros() as usize;
+        }
+        i += LANES;
+    }
+    while i < bytes.len() && bytes[i] != byte {
+        i += 1;
+    }
+    i
+}
