@@ -11,6 +11,7 @@ pub mod HostMeanings
 pub mod AuthorityMeanings
 pub mod ReadParts
 pub mod Cased
+pub mod ReadFronts
 pub mod WrittenFormatting
 pub mod TakenReadings
 pub mod Decodable

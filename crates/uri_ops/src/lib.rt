@@ -14,6 +14,7 @@ pub mod dot_segments;
 pub mod encoded;
 #[doc(hidden)]
 pub mod formatting;
+mod fronts;
 #[doc(hidden)]
 pub mod laws;
 #[doc(hidden)]

@@ -11,11 +11,13 @@ ghost use Rattle.uri_parts.specs.Appending.{Pushes};
 ghost use Rattle.uri_ops.specs.Models.Readings.{cased};
 
 use crate::formatting::encode_formatting;
+use crate::fronts::{front_len, push_alone, push_plain};
 use std::alloc::{AllocError, Global};
 use std::mem;
 use uri_pct::decode::Decode;
 use uri_pct::encode::{push_octets, push_text};
 use uri_pct::encoder::Encoder;
+use uri_pct::octet::octet_value;
 use uri_pct::parts::TakeParts;
 use uri_pct::pct_enc::EStr;
 use uri_pct::table::Table;
@@ -39,11 +41,7 @@ impl TakeParts for Reading {
     ghost takes_on = { took_on };
 
     fn take_unencoded(&mut self, text: &str) -> Result<(), AllocError> {
-        if self.lowers {
-            push_lower(self.alloc, text, &mut self.text)
-        } else {
-            self.text.push_str(text)
-        }
+        push_plain(self.alloc, self.lowers, text, &mut self.text)
     }
 
     fn take_well_formed(&mut self, text: &str) -> Result<(), AllocError> {
@@ -70,6 +68,9 @@ fn encodes_formatting(table: &Table) -> bool
 }
 
 /// Appends what is read of the parts of the text, with its letters lowered where that is asked.
+///
+/// It stands apart, since most texts have no part that asks for a window.
+#[inline(never)]
 fn push_parts(
     alloc: Global,
     table: &Table,
@@ -92,6 +93,39 @@ fn push_parts(
     taken
 }
 
+/// Appends what is read of the tokens of the text, with its letters lowered where that is asked.
+/// Only an octet past ASCII of an IRI is not read by itself.
+fn push_tokens(
+    alloc: Global,
+    table: &Table,
+    lowers: bool,
+    text: &str,
+    out: &mut String,
+) -> Result<(), AllocError>
+    requires { IsValidFor widest_set text.now }
+    ensures { OnOk result (Pushes out.old out.new
+        (print (cased lowers (read_tokens (set_of table.now) (tokens text.now))))) }
+{
+    let alone = !table.allows_some_past_ascii();
+    let mut rest = text;
+    while !rest.is_empty() {
+        let len = front_len(alone, lowers, rest);
+        if len > 0 {
+            push_plain(alloc, lowers, &rest[..len], out)?;
+            rest = &rest[len..];
+            continue;
+        }
+        let bytes = rest.as_bytes();
+        let value = octet_value(bytes[1], bytes[2]);
+        if !alone && value >= 128 {
+            return push_parts(alloc, table, lowers, rest, out);
+        }
+        push_alone(lowers, value, out)?;
+        rest = &rest[3..];
+    }
+    Ok(())
+}
+
 /// Appends what is read of the text, with its letters lowered where that is asked.
 fn push_cased(
     alloc: Global,
@@ -105,7 +139,7 @@ fn push_cased(
         (print (cased lowers (read (set_of table.now) text.now)))) }
 {
     let start = out.as_str().len();
-    push_parts(alloc, table, lowers, text, out)?;
+    push_tokens(alloc, table, lowers, text, out)?;
     if encodes_formatting(table) {
         encode_formatting(start, out)
     } else {

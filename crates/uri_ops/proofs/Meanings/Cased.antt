@@ -18,7 +18,7 @@ use Rattle.uri_pct.specs.Tokens.{Char, Octet, print}
 use Rattle.uri_pct.proofs.Unicode.CharacterPieces.{utf8_pieces-are}
 use Rattle.uri_pct.proofs.Unicode.Characters.{bytes_of_char, lead, is_high}
 use Rattle.uri_pct.proofs.EncodedTexts.Encodings.{text_as_pieces}
-use Rattle.uri_ops.specs.Models.Readings.{cased}
+use Rattle.uri_ops.specs.Models.Readings.{cased, cased_text}
 use Rattle.uri_pct.proofs.Readings.Formatting.{lower_octets, past_same}
 
 -- text that stands for itself
@@ -57,9 +57,13 @@ lower_chars : (cs : List ℕ) → map lower_token (map Char cs) ≡ map Char (ma
 lower_chars [] = refl
 lower_chars (c ∷ cs) = ap (λ ts. Char (to_ascii_lowercase c) ∷ ts) (lower_chars cs)
 
-pub print_lower : (text : List ℕ) → IsUtf8 text → print (map lower_token (map Char (chars text))) ≡ str_to_ascii_lowercase text
+print_lower : (text : List ℕ) → IsUtf8 text → print (map lower_token (map Char (chars text))) ≡ str_to_ascii_lowercase text
 print_lower text u =
     ap print (lower_chars (chars text)) ∙ print_chars (map to_ascii_lowercase (chars text)) ∙ lower_encoded (chars text) ∙ ap str_to_ascii_lowercase (encodes-chars text u)
+
+pub print_cased : (lowers : Bool) (text : List ℕ) → IsUtf8 text → print (cased lowers (map Char (chars text))) ≡ cased_text lowers text
+print_cased true text u = print_lower text u
+print_cased false text u = print_text text u
 
 -- the characters of a text in lower case
 scalar_lower : (c : ℕ) → all_scalars (c ∷ []) ≡ true → all_scalars (to_ascii_lowercase c ∷ []) ≡ true

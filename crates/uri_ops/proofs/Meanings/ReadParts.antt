@@ -26,7 +26,7 @@ module _ (set : TableSet) where
   unfolding read_run
   of_run run = parts_of_run (utf8_pieces run)
 
-  no_run : read_run set [] ≡ []
+  pub no_run : read_run set [] ≡ []
   unfolding read_run pieces_from
   no_run = refl
 

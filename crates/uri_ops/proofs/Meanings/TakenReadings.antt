@@ -11,16 +11,13 @@ use Rattle.uri_pct.specs.Sets.{TableSet}
 use Rattle.uri_pct.specs.Tables.{set_of}
 use Rattle.uri_pct.specs.Tokens.{Octet, Char, tokens, print, IsValidFor}
 use Rattle.uri_ops.specs.declared.reading.Reading.{Reading}
-use Rattle.uri_ops.specs.Models.Readings.{TookReading, read_parts, cased}
-use Rattle.uri_ops.proofs.Meanings.Cased.{AllowsReadable, print_text, print_lower, cased_octets, text_read, text_read_lower}
+use Rattle.uri_ops.specs.Models.Readings.{TookReading, read_parts, cased, cased_text}
+use Rattle.uri_ops.proofs.Meanings.Cased.{AllowsReadable, print_cased, cased_octets, text_read, text_read_lower}
 use Rattle.uri_ops.proofs.Meanings.ReadParts.{parts_of_run, read_parts-tokens}
 
 -- text that stands for itself
-pub plain_as_is : (set : TableSet) (text : List ℕ) → IsUtf8 text → print (cased false (read_parts set (Plain text ∷ []))) ≡ text
-plain_as_is set text u = ap print (append-nil (map Char (chars text))) ∙ print_text text u
-
-pub plain_lowered : (set : TableSet) (text : List ℕ) → IsUtf8 text → print (cased true (read_parts set (Plain text ∷ []))) ≡ str_to_ascii_lowercase text
-plain_lowered set text u = ap (λ ts. print (map lower_token ts)) (append-nil (map Char (chars text))) ∙ print_lower text u
+pub plain_cased : (lowers : Bool) (set : TableSet) (text : List ℕ) → IsUtf8 text → print (cased lowers (read_parts set (Plain text ∷ []))) ≡ cased_text lowers text
+plain_cased lowers set text u = ap (λ ts. print (cased lowers ts)) (append-nil (map Char (chars text))) ∙ print_cased lowers text u
 
 -- characters that octets spell
 pub spelt_as_is : (readable set : TableSet) (text : List ℕ) → AllowsReadable readable set → IsUtf8 text → print (cased false (read_parts set (map Read (utf8_pieces text)))) ≡ print (encode_text readable text)

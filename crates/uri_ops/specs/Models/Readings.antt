@@ -1,16 +1,17 @@
 -- What the parts of a component leave in the reading that takes them, one part after the other.
-use Rattle.std.specs.Prelude.{if◌then◌else◌}
+use Rattle.std.specs.Prelude.{◌+◌, ◌*◌, ◌<◌, ◌||◌, nat_lt, take, drop, if◌then◌else◌}
+use Rattle.std.specs.Char.{digit_value}
 use Rattle.std.proofs.Common.{◌≡◌, ℕ, Bool, true, false, List, [], ◌++◌, map, refl, sym, ap, ◌∙◌}
 use Rattle.std.proofs.Common.{append_assoc, string_bytes}
 use Rattle.std.specs.List.{flat_map}
-use Rattle.std.specs.Str.{chars}
+use Rattle.std.specs.Str.{chars, str_to_ascii_lowercase}
 use Rattle.std.proofs.lemmas.List.{append-nil, map-append}
 use Rattle.std.proofs.lemmas.List.Concat.{flat_map-append}
 use Rattle.uri_pct.specs.Parts.{Part, Plain, Read}
-use Rattle.uri_pct.specs.Reading.{read_piece, lower_token}
-use Rattle.uri_pct.specs.Sets.{TableSet}
+use Rattle.uri_pct.specs.Reading.{read_piece, read_tokens, lower_token}
+use Rattle.uri_pct.specs.Sets.{TableSet, is_unreserved}
 use Rattle.uri_pct.specs.Tables.{set_of}
-use Rattle.uri_pct.specs.Tokens.{Token, Char, text_of_token, print}
+use Rattle.uri_pct.specs.Tokens.{Token, Char, text_of_token, tokens, print}
 use Rattle.uri_ops.specs.declared.reading.Reading.{Reading}
 
 -- the tokens that are read of a part
@@ -24,6 +25,28 @@ read_parts set ps = flat_map (read_part set) ps
 -- the tokens, with their letters lowered where that is asked
 abbrev pub cased : Bool → List Token → List Token
 cased lowers ts = if lowers then map lower_token ts else ts
+
+-- a text, likewise
+abbrev pub cased_text : Bool → List ℕ → List ℕ
+cased_text lowers text = if lowers then str_to_ascii_lowercase text else text
+
+-- what is printed of the reading of a text
+abbrev pub text_read : Bool → TableSet → List ℕ → List ℕ
+text_read lowers set text = print (cased lowers (read_tokens set (tokens text)))
+
+-- so many bytes at the front are read as they stand, and what is behind them by itself
+abbrev pub IsFront : Bool → TableSet → List ℕ → ℕ → Type 0
+IsFront lowers set text n =
+    text_read lowers set text
+    ≡ cased_text lowers (take n text) ++ text_read lowers set (drop n text)
+
+-- digits in upper case of an octet that is no unreserved character, and of ASCII unless all octets
+-- are read alone
+pub record IsKeptOctet (alone : Bool) (high low : ℕ) : Type 0 where
+  pub high_upper : high < 97
+  pub low_upper : low < 97
+  pub reserved : is_unreserved (16 * digit_value high + digit_value low) ≡ false
+  pub by_itself : (alone || nat_lt (16 * digit_value high + digit_value low) 128) ≡ true
 
 -- the reading grew by what is read of the parts
 pub record TookReading (s : Reading) (ps : List Part) (t : Reading) : Type 0 where

@@ -1,0 +1,272 @@
+-- What stands at the front of a text is read by itself: characters, and octets of ASCII, or all where
+-- a set has no characters past it.
+use Rattle.std.proofs.Common.{◌≡◌, ℕ, suc, ◌+◌, ◌*◌, ◌-◌, ◌/◌, ◌%◌, ◌<◌, Bool, true, false, cond, eqb, ltb, not, List, [], ◌∷◌, ◌++◌, length, get_or, take, drop, map, ◌≤◌, add-zero, refl, sym, ap, subst, ◌∙◌, arith, ◌&&◌, ◌||◌, ⊎_elim, append_assoc}
+use Rattle.std.specs.List.{list_all, flat_map, position_or_len, prefix_len}
+use Rattle.std.specs.Char.{encode_utf8, digit_value, is_ascii_hexdigit, IsScalar}
+use Rattle.std.specs.Fmt.{digit_glyph}
+use Rattle.std.specs.Str.{chars, IsUtf8, IsCharBoundary}
+use Rattle.std.proofs.Math.Bool.{or-false}
+use Rattle.std.proofs.Math.Utf8.{low_scalar}
+use Rattle.std.proofs.lemmas.Bool.{agree_below_at, cases_Bool, cond-false, and_parts, and_from, or_cases, eqb-true, eqb-false, ne_eqb, or_parts, not-true, ltb-true, not-false, false_from_ne_true}
+use Rattle.std.proofs.lemmas.List.{append-nil, take-append-drop, drop-drop, length-drop, get_or-drop}
+use Rattle.std.proofs.lemmas.List.Folds.{list_all-append}
+use Rattle.std.proofs.lemmas.List.Sums.{prefix_len_stops}
+use Rattle.std.proofs.lemmas.Str.{encode_ascii, IsUtf8-take, IsUtf8-drop, IsCharBoundary-from_rest}
+use Rattle.uri_pct.specs.Chunks.{widest_set}
+use Rattle.uri_pct.specs.Pieces.{WellFormed}
+use Rattle.uri_pct.specs.Reading.{LacksPastAscii, is_readable, read_alone, read_piece, read_run, read_from, read_tokens, lower_token}
+use Rattle.uri_pct.specs.Sets.{TableSet, allows_past_ascii, is_unreserved}
+use Rattle.uri_pct.specs.Texts.{lacks}
+use Rattle.uri_pct.specs.Tokens.{Token, Char, Octet, tokens, tokens_of, text_of_token, print, allows_token, is_valid_for, IsValidFor}
+use Rattle.uri_pct.proofs.Decodings.Decoding.{BeginsOctet, octet_of_bytes, octet_boundary, tokens_front, text_boundary}
+use Rattle.uri_pct.proofs.Readings.Formatting.{encode_formatting-none}
+use Rattle.uri_pct.proofs.Readings.Octets.{read-alone}
+use Rattle.uri_pct.proofs.Unicode.CharacterPieces.{utf8_pieces-encode_first, char_of-encode}
+use Rattle.uri_pct.proofs.Unicode.Pieces.{take_two}
+use Rattle.uri_pct.proofs.ValidTexts.Allowed.{past_ascii_scalar}
+use Rattle.uri_ops.specs.Models.Readings.{IsFront, IsKeptOctet, cased, cased_append, cased_text, text_read}
+use Rattle.uri_ops.proofs.Meanings.Cased.{print_cased}
+use Rattle.uri_ops.proofs.Meanings.ReadParts.{no_run}
+
+-- characters
+read_chars : (set : TableSet) (cs : List ℕ) (us : List Token) → read_tokens set (map Char cs ++ us) ≡ map Char cs ++ read_tokens set us
+unfolding read_from
+read_chars set [] us = refl
+read_chars set (c ∷ cs) us = ap (λ x. x ++ Char c ∷ read_from set [] (map Char cs ++ us)) (no_run set) ∙ ap (λ ts. Char c ∷ ts) (read_chars set cs us)
+
+-- the octets of a whole character
+run_first : (set : TableSet) (c : ℕ) (more : List ℕ) → IsScalar c → read_run set (encode_utf8 c ++ more) ≡ read_piece set (WellFormed (encode_utf8 c)) ++ read_run set more
+unfolding read_run
+run_first set c more scalar = ap (flat_map (read_piece set)) (utf8_pieces-encode_first c more scalar)
+
+from_first : (set : TableSet) (c : ℕ) (more : List ℕ) (ts : List Token) → IsScalar c → read_from set (encode_utf8 c ++ more) ts ≡ read_piece set (WellFormed (encode_utf8 c)) ++ read_from set more ts
+unfolding read_from
+from_first set c more [] scalar = run_first set c more scalar
+from_first set c more (Octet value ∷ ts) scalar =
+    ap (λ run. read_from set run ts) (append_assoc (encode_utf8 c) more (value ∷ [])) ∙ from_first set c (more ++ value ∷ []) ts scalar
+from_first set c more (Char d ∷ ts) scalar =
+    ap (λ x. x ++ Char d ∷ read_from set [] ts) (run_first set c more scalar)
+    ∙ append_assoc (read_piece set (WellFormed (encode_utf8 c))) (read_run set more) (Char d ∷ read_from set [] ts)
+
+-- an octet of ASCII
+ascii_readable : (set : TableSet) (b : ℕ) → b < 128 → is_readable set b ≡ is_unreserved b
+unfolding is_readable
+ascii_readable set b low =
+    let none : allows_past_ascii set b ≡ false = false_from_ne_true _ (λ e. let p = past_ascii_scalar set b e in absurd (omega arith)) in
+    ap (λ x. is_unreserved b || x) none ∙ or-false (is_unreserved b)
+
+one_alone : (b : ℕ) → cond (is_unreserved b) (Char b ∷ []) (Octet b ∷ []) ≡ read_alone (Octet b) ∷ []
+one_alone b = ⊎_elim (λ e. rw e refl) (λ e. rw e refl) (cases_Bool (is_unreserved b))
+
+ascii_piece : (set : TableSet) (b : ℕ) → b < 128 → read_piece set (WellFormed (encode_utf8 b)) ≡ read_alone (Octet b) ∷ []
+ascii_piece set b low =
+    let scalar = low_scalar b (omega arith) in
+    ap (λ c. cond (is_readable set c) (Char c ∷ []) (map Octet (encode_utf8 b))) (char_of-encode b scalar)
+    ∙ ap (λ bytes. cond (is_readable set b) (Char b ∷ []) (map Octet bytes)) (encode_ascii b low)
+    ∙ ap (λ t. cond t (Char b ∷ []) (Octet b ∷ [])) (ascii_readable set b low)
+    ∙ one_alone b
+
+ascii_octet : (set : TableSet) (b : ℕ) (us : List Token) → b < 128 → read_tokens set (Octet b ∷ us) ≡ read_alone (Octet b) ∷ read_tokens set us
+unfolding read_from
+ascii_octet set b us low =
+    let spelt : encode_utf8 b ++ [] ≡ b ∷ [] = append-nil (encode_utf8 b) ∙ encode_ascii b low in
+    ap (λ run. read_from set run us) (sym spelt)
+    ∙ from_first set b [] us (low_scalar b (omega arith))
+    ∙ ap (λ ts. ts ++ read_from set [] us) (ascii_piece set b low)
+
+-- any octet, where the set has no characters past ASCII
+tokens_alone : (set : TableSet) (text : List ℕ) → LacksPastAscii set → read_tokens set (tokens text) ≡ map read_alone (tokens text)
+tokens_alone set text none =
+    sym (encode_formatting-none set (read_tokens set (tokens text)) (ap (λ b. b && set.pct_encoded) none.0)) ∙ read-alone set text none
+
+-- the octet at the front of a text
+abbrev pub first_value : {text : List ℕ} → BeginsOctet text → ℕ
+first_value o = 16 * digit_value o.high + digit_value o.low
+
+octet_alone : (set : TableSet) (text : List ℕ) (o : BeginsOctet text) (alone : Bool) → (alone ≡ true → LacksPastAscii set) → (alone || ltb (first_value o) 128) ≡ true
+    → read_tokens set (tokens text) ≡ read_alone (Octet (first_value o)) ∷ read_tokens set (tokens o.behind)
+octet_alone set text o alone none e = ⊎_elim
+    (λ a.
+    tokens_alone set text (none a) ∙ ap (map read_alone) o.first
+    ∙ ap (λ ts. read_alone (Octet (first_value o)) ∷ ts) (sym (tokens_alone set o.behind (none a))))
+    (λ low. ap (read_tokens set) o.first ∙ ascii_octet set (first_value o) (tokens o.behind) (ltb-true _ 128 low))
+    (or_cases alone (ltb (first_value o) 128) e)
+
+pub octet_read : (lowers : Bool) (set : TableSet) (text : List ℕ) (o : BeginsOctet text) (alone : Bool) → (alone ≡ true → LacksPastAscii set) → (alone || ltb (first_value o) 128) ≡ true
+    → text_read lowers set text ≡ print (cased lowers (read_alone (Octet (first_value o)) ∷ [])) ++ text_read lowers set o.behind
+octet_read lowers set text o alone none e =
+    ap (λ ts. print (cased lowers ts)) (octet_alone set text o alone none e)
+    ∙ cased_append lowers (read_alone (Octet (first_value o)) ∷ []) (read_tokens set (tokens o.behind))
+
+-- an octet in upper case is printed as it stands
+is_glyph : ℕ → Bool
+is_glyph h = not (is_ascii_hexdigit h) || (eqb (digit_glyph true (digit_value h)) h && ltb (digit_value h) 16)
+
+upper_glyph : (h : ℕ) → is_ascii_hexdigit h ≡ true → h < 97 → (digit_glyph true (digit_value h) ≡ h) × (digit_value h < 16)
+unfolding is_glyph
+upper_glyph h digit upper =
+    let e : is_glyph h ≡ true = agree_below_at is_glyph (λ _. true) 97 h refl upper in
+    let p = and_parts _ _ (sym (ap (λ b. not b || (eqb (digit_glyph true (digit_value h)) h && ltb (digit_value h) 16)) digit) ∙ e) in
+    (eqb-true _ h p.0, ltb-true _ 16 p.1)
+
+upper_octet : (high low : ℕ) → is_ascii_hexdigit high ≡ true → is_ascii_hexdigit low ≡ true → high < 97 → low < 97
+    → text_of_token (Octet (16 * digit_value high + digit_value low)) ≡ 37 ∷ high ∷ low ∷ []
+upper_octet high low h l hu lu =
+    let p = upper_glyph high h hu in
+    let q = upper_glyph low l lu in
+    let above : (16 * digit_value high + digit_value low) / 16 ≡ digit_value high = omega (arith, q.1) in
+    let below : (16 * digit_value high + digit_value low) % 16 ≡ digit_value low = omega (arith, q.1) in
+    rw (above, below) (ap (λ x. 37 ∷ x ∷ digit_glyph true (digit_value low) ∷ []) p.0 ∙ ap (λ x. 37 ∷ high ∷ x ∷ []) q.0)
+
+pub kept_octet : (set : TableSet) (text : List ℕ) (o : BeginsOctet text) (alone : Bool) → (alone ≡ true → LacksPastAscii set) → IsKeptOctet alone o.high o.low
+    → IsFront false set text 3
+kept_octet set text o alone none kept =
+    let octet = upper_octet o.high o.low o.high_digit o.low_digit kept.high_upper kept.low_upper in
+    octet_read false set text o alone none kept.by_itself
+    ∙ ap (λ t. (text_of_token t ++ []) ++ text_read false set o.behind) (cond-false _ _ _ kept.reserved)
+    ∙ ap (λ x. (x ++ []) ++ text_read false set o.behind) octet
+    ∙ sym (ap (λ x. take 3 x ++ text_read false set (drop 3 x)) o.spelt)
+
+-- characters at the front of a text
+plain_read : (lowers : Bool) (set : TableSet) (front back : List ℕ) → IsUtf8 front → lacks 37 front ≡ true → text_read lowers set (front ++ back) ≡ cased_text lowers front ++ text_read lowers set back
+plain_read lowers set front back u e =
+    ap (λ ts. print (cased lowers (read_tokens set ts))) (tokens_front front back u e)
+    ∙ ap (λ ts. print (cased lowers ts)) (read_chars set (chars front) (tokens back))
+    ∙ cased_append lowers (map Char (chars front)) (read_tokens set (tokens back))
+    ∙ ap (λ x. x ++ text_read lowers set back) (print_cased lowers front u)
+
+plain_valid : (front back : List ℕ) → IsUtf8 front → lacks 37 front ≡ true → IsValidFor widest_set (front ++ back) → IsValidFor widest_set back
+unfolding is_valid_for
+plain_valid front back u e v =
+    (and_parts _ _ (sym (list_all-append (allows_token widest_set) (map Char (chars front)) (tokens back)) ∙ sym (ap (list_all (allows_token widest_set)) (tokens_front front back u e)) ∙ v)).1
+
+abbrev first_percent : List ℕ → ℕ
+first_percent text = position_or_len (λ b. eqb b 37) text
+
+before_passes : (p : ℕ → Bool) (xs : List ℕ) → list_all p (take (prefix_len p xs) xs) ≡ true
+before_passes p [] = refl
+before_passes p (x ∷ xs) =
+    let next : 1 + prefix_len p xs ≡ suc (prefix_len p xs) = omega arith in
+    ⊎_elim (λ e. rw e (rw next (and_from _ _ e (before_passes p xs)))) (λ e. rw e refl) (cases_Bool (p x))
+
+-- the text before the first `%`
+pub record PlainFront (text : List ℕ) (n : ℕ) : Type 0 where
+  pub boundary : IsCharBoundary text n
+  pub valid : IsValidFor widest_set (drop n text)
+  pub stop : n < length text → get_or text n 0 ≡ 37
+  pub front : (lowers : Bool) (set : TableSet) → IsFront lowers set text n
+
+percent_at : (text : List ℕ) → first_percent text < length text → get_or text (first_percent text) 0 ≡ 37
+percent_at text h = eqb-true _ 37 (not-false _ (prefix_len_stops (λ b. not (eqb b 37)) text 0 h))
+
+pub plain_front : (text : List ℕ) (n : ℕ) → IsUtf8 text → IsValidFor widest_set text → n ≡ first_percent text → PlainFront text n
+plain_front text n u v e =
+    let boundary : IsCharBoundary text n = subst (IsCharBoundary text) (sym e) (text_boundary text) in
+    let utf8 : IsUtf8 (take n text) = IsUtf8-take text n u boundary in
+    let plain : lacks 37 (take n text) ≡ true = ap (λ k. lacks 37 (take k text)) e ∙ before_passes (λ b. not (eqb b 37)) text in
+    let whole = take-append-drop n text in
+    record {
+      boundary = boundary;
+      valid = plain_valid (take n text) (drop n text) utf8 plain (subst (IsValidFor widest_set) (sym whole) v);
+      stop = subst (λ k. k < length text → get_or text k 0 ≡ 37) (sym e) (percent_at text);
+      front = λ lowers set. ap (text_read lowers set) (sym whole) ∙ plain_read lowers set (take n text) (drop n text) utf8 plain;
+    }
+
+-- a front of what stands behind a front
+pub no_front : (set : TableSet) (text : List ℕ) → IsFront false set text 0
+no_front set text = refl
+
+pub longer_front : (set : TableSet) (text : List ℕ) (n m : ℕ) → IsFront false set text n → IsFront false set (drop n text) m → IsFront false set text (n + m)
+longer_front set text n m first next =
+    let behind = text_read false set (drop m (drop n text)) in
+    first ∙ ap (λ x. take n text ++ x) next ∙ sym (append_assoc (take n text) (take m (drop n text)) behind)
+    ∙ ap (λ x. x ++ behind) (take_two n m text) ∙ ap (λ x. take (n + m) text ++ text_read false set x) (drop-drop m n text)
+
+pub behind_front : (text : List ℕ) (n m : ℕ) → IsValidFor widest_set (drop m (drop n text)) → IsValidFor widest_set (drop (n + m) text)
+behind_front text n m v = subst (IsValidFor widest_set) (drop-drop m n text) v
+
+octet_length : (text : List ℕ) (o : BeginsOctet text) → length text ≡ 3 + length o.behind
+octet_length text o = ap length o.spelt ∙ omega arith
+
+-- where its digits stand, and what stands behind it
+digits_of : (text : List ℕ) (o : BeginsOctet text) → (get_or text 1 0 ≡ o.high) × ((get_or text 2 0 ≡ o.low) × (drop 3 text ≡ o.behind))
+digits_of text o = (ap (λ x. get_or x 1 0) o.spelt, (ap (λ x. get_or x 2 0) o.spelt, ap (drop 3) o.spelt))
+
+-- an octet that stands within a text, and its digits, by the text's bytes
+pub record OctetAt (bytes text : List ℕ) (i : ℕ) : Type 0 where
+  pub octet : BeginsOctet (drop i text)
+  pub within : i + 2 < length bytes
+  pub high : get_or bytes (i + 1) 0 ≡ octet.high
+  pub low : get_or bytes (i + 2) 0 ≡ octet.low
+  pub boundary : IsCharBoundary text (i + 3)
+  pub valid : IsValidFor widest_set (drop (i + 3) text)
+
+pub octet_at : (bytes text : List ℕ) (i : ℕ) → bytes ≡ text → IsUtf8 text → IsCharBoundary text i → IsValidFor widest_set (drop i text) → i < length bytes → get_or bytes i 0 ≡ 37
+    → OctetAt bytes text i
+octet_at bytes text i same u b v inside percent =
+    let rest = drop i text in
+    let utf8 : IsUtf8 rest = IsUtf8-drop text i u b in
+    let long : length rest ≡ length text - i = length-drop i text in
+    let lengths : length bytes ≡ length text = ap length same in
+    let at : (k : ℕ) → get_or rest k 0 ≡ get_or bytes (i + k) 0 = λ k. get_or-drop i text k 0 ∙ ap (λ x. get_or x (i + k) 0) (sym same) in
+    let first : get_or rest 0 0 ≡ 37 = at 0 ∙ ap (λ k. get_or bytes k 0) (add-zero i) ∙ percent in
+    let o = octet_of_bytes rest rest refl utf8 v (ne_eqb (length rest) 0 (λ e. omega (arith, long, lengths))) first in
+    let three = octet_length rest o in
+    let digits = digits_of rest o in
+    record {
+      octet = o;
+      within = omega (arith, long, lengths, three);
+      high = sym (at 1) ∙ digits.0;
+      low = sym (at 2) ∙ digits.1.0;
+      boundary = IsCharBoundary-from_rest text i 3 (omega (arith, inside, lengths)) (octet_boundary rest utf8 o);
+      valid = behind_front text i 3 (subst (IsValidFor widest_set) (sym digits.1.1) o.valid);
+    }
+
+-- an octet where no front is left, by the text's bytes
+pub record FirstOctet (bytes text : List ℕ) : Type 0 where
+  pub octet : BeginsOctet text
+  pub long : 3 ≤ length bytes
+  pub high : is_ascii_hexdigit (get_or bytes 1 0) ≡ true
+  pub low : is_ascii_hexdigit (get_or bytes 2 0) ≡ true
+  pub value : 16 * digit_value (get_or bytes 1 0) + digit_value (get_or bytes 2 0) ≡ first_value octet
+  pub boundary : IsCharBoundary text 3
+  pub behind : drop 3 text ≡ octet.behind
+
+pub first_octet : (bytes text : List ℕ) (n : ℕ) → bytes ≡ text → IsUtf8 bytes → IsValidFor widest_set text → eqb (length text) 0 ≡ false → n ≤ 0 → (n < length text → get_or text n 0 ≡ 37) → FirstOctet bytes text
+first_octet bytes text n same u v some none stop =
+    let zero_front : n ≡ 0 = omega (arith, none) in
+    let first : get_or text 0 0 ≡ 37 = subst (λ k. k < length text → get_or text k 0 ≡ 37) zero_front stop (omega (arith, eqb-false (length text) 0 some)) in
+    let o = octet_of_bytes bytes text same u v (ap (λ x. eqb (length x) 0) same ∙ some) (ap (λ x. get_or x 0 0) same ∙ first) in
+    let three = octet_length text o in
+    let lengths : length bytes ≡ length text = ap length same in
+    let digits = digits_of text o in
+    let high : get_or bytes 1 0 ≡ o.high = ap (λ x. get_or x 1 0) same ∙ digits.0 in
+    let low : get_or bytes 2 0 ≡ o.low = ap (λ x. get_or x 2 0) same ∙ digits.1.0 in
+    record {
+      octet = o;
+      long = omega (arith, three, lengths);
+      high = ap is_ascii_hexdigit high ∙ o.high_digit;
+      low = ap is_ascii_hexdigit low ∙ o.low_digit;
+      value = ap (λ h. 16 * digit_value h + digit_value (get_or bytes 2 0)) high ∙ ap (λ l. 16 * digit_value o.high + digit_value l) low;
+      boundary = octet_boundary text (subst IsUtf8 same u) o;
+      behind = digits.1.1;
+    }
+
+pub octet_step : (lowers : Bool) (set : TableSet) (out new whole rest behind : List ℕ) (value : ℕ) (o : BeginsOctet rest) (alone : Bool) → (alone ≡ true → LacksPastAscii set) → (alone || ltb value 128) ≡ true
+    → value ≡ first_value o → behind ≡ o.behind → new ≡ out ++ print (cased lowers (read_alone (Octet value) ∷ [])) → out ++ text_read lowers set rest ≡ whole → new ++ text_read lowers set behind ≡ whole
+octet_step lowers set out new whole rest behind value o alone none itself same after pushed total =
+    let read = print (cased lowers (read_alone (Octet value) ∷ [])) in
+    let split : text_read lowers set rest ≡ read ++ text_read lowers set behind =
+    octet_read lowers set rest o alone none (ap (λ v. alone || ltb v 128) (sym same) ∙ itself)
+    ∙ ap (λ v. print (cased lowers (read_alone (Octet v) ∷ [])) ++ text_read lowers set o.behind) (sym same)
+    ∙ ap (λ x. read ++ text_read lowers set x) (sym after) in
+    ap (λ x. x ++ text_read lowers set behind) pushed ∙ append_assoc out read (text_read lowers set behind) ∙ ap (λ x. out ++ x) (sym split) ∙ total
+
+-- the flags of a set without characters past ASCII
+pub lacks_past_ascii : (set : TableSet) (some : Bool) → some ≡ (set.ucschar || set.iprivate) → not some ≡ true → LacksPastAscii set
+lacks_past_ascii set some e none = or_parts set.ucschar set.iprivate (sym e ∙ not-true some none)
+
+pub nothing_read : (lowers : Bool) (set : TableSet) → text_read lowers set [] ≡ []
+unfolding tokens_of chars read_from
+nothing_read true set = ap (λ ts. print (map lower_token ts)) (no_run set)
+nothing_read false set = ap print (no_run set)
