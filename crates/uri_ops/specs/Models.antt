@@ -2,6 +2,7 @@
 pub mod Directories
 pub mod DraftPlaces
 pub mod EncodedPlaces
+pub mod LeadingSegments
 pub mod Places
 pub mod Readings
 pub mod Written

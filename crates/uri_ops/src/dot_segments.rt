@@ -1,10 +1,11 @@
 //! The removal of dot segments (RFC 3986, section 5.2.4).
 ghost use Rattle.std.specs.Prelude.{◌≡◌, ◌≤◌, ◌<◌, ◌==◌, ◌||◌, ◌++◌, ◌+◌, IfOk, false, true, OnOk};
-ghost use Rattle.std.specs.Prelude.{length, drop, take, string_bytes};
+ghost use Rattle.std.specs.Prelude.{◌&&◌, length, drop, take, slice_index, string_bytes};
 ghost use Rattle.std.specs.Str.{IsCharBoundary};
 ghost use Rattle.uri_parts.specs.Appending.{Pushes};
 ghost use Rattle.uri_parts.specs.Components.{IsRooted};
 ghost use Rattle.uri_ops.specs.Models.Directories.{IsClosed, IsPlainDirectory, parent_directory};
+ghost use Rattle.uri_ops.specs.Models.LeadingSegments.{IsLeading, IsPart, begins_with_dot};
 ghost use Rattle.uri_ops.specs.Models.Places.{IsSlashOrAt};
 ghost use Rattle.uri_ops.specs.Dots.{EndsInSlash, IsAbsolute, before_last_slash, directory, has_slash};
 ghost use Rattle.uri_ops.specs.Dots.{is_double_dot, is_empty, is_single_dot, lacks_dot_segments};
@@ -12,6 +13,15 @@ ghost use Rattle.uri_ops.specs.Dots.{remove_dot_segments, underflows};
 ghost use Rattle.uri_ops.specs.Target.{merged};
 
 use std::alloc::AllocError;
+use uri_pct::lanes::LANES;
+use uri_pct::search::length_before_dots;
+
+/// Whether a path begins with a dot or an octet, as each dot segment does.
+fn begins_with_dot(path: &[u8]) -> bool
+    ensures { result ≡ begins_with_dot path.now }
+{
+    matches!(path, [b'.' | b'%', ..])
+}
 
 /// Whether a segment is `.`, where the dot may be percent-encoded.
 fn is_single_dot(segment: &str) -> bool
@@ -24,6 +34,9 @@ fn is_single_dot(segment: &str) -> bool
 pub(crate) fn is_double_dot(segment: &str) -> bool
     ensures { result ≡ is_double_dot segment.now }
 {
+    if !begins_with_dot(segment.as_bytes()) {
+        return false;
+    }
     matches!(
         segment,
         ".." | ".%2E" | ".%2e" | "%2E." | "%2e." | "%2E%2E" | "%2E%2e" | "%2e%2E" | "%2e%2e"
@@ -75,19 +88,28 @@ fn is_dot_start(byte: u8) -> bool
 fn plain_len(path: &str) -> usize
     ensures plain { lacks_dot_segments (take result path.now) ≡ true }
     ensures closed { 0 < result → IsClosed (take result path.now) (drop result path.now) }
+    ensures some { begins_with_dot path.now ≡ false → 0 < length path.now → 0 < result }
     ensures place { IsCharBoundary path.now result }
 {
     let bytes = path.as_bytes();
-    let mut is_behind_slash = true;
+    if begins_with_dot(bytes) {
+        return 0;
+    }
     let mut i = 0;
-    while i < bytes.len() {
-        if is_behind_slash & is_dot_start(bytes[i]) {
-            return i;
+    while bytes.len() - i > LANES {
+        let plain = length_before_dots(bytes, i);
+        if plain < LANES {
+            return i + plain + 1;
         }
-        is_behind_slash = bytes[i] == b'/';
+        i += LANES;
+    }
+    while i + 1 < bytes.len() {
+        if bytes[i] == b'/' && is_dot_start(bytes[i + 1]) {
+            return i + 1;
+        }
         i += 1;
     }
-    i
+    bytes.len()
 }
 
 /// Whether a segment begins with a dot or an octet, as it does where there is a dot segment.
@@ -133,6 +155,68 @@ fn next_segment(path: &str, end: usize) -> usize
     if end < path.len() { end + 1 } else { end }
 }
 
+/// What a path begins with, and how many of its bytes that takes, with the `/` behind it.
+enum Leading {
+    /// A single dot.
+    SingleDot(usize),
+    /// A double dot.
+    DoubleDot(usize),
+    /// Segments that are neither.
+    Plain(usize),
+}
+
+/// What a path begins with, told by its first segment.
+fn leading_segment(path: &str) -> Leading
+    requires { 0 < length path.now }
+    ensures leading { IsLeading path.now result }
+    ensures part { IsPart path.now result }
+{
+    let end = segment_end(path);
+    let next = next_segment(path, end);
+    if is_single_dot(&path[..end]) {
+        Leading::SingleDot(next)
+    } else if is_double_dot(&path[..end]) {
+        Leading::DoubleDot(next)
+    } else {
+        Leading::Plain(next)
+    }
+}
+
+/// Whether the first segment is `.`.
+fn is_first_dot(path: &[u8]) -> bool
+    ensures { result ≡ (slice_index path.now 0 == 46
+        && (length path.now == 1 || slice_index path.now 1 == 47)) }
+{
+    matches!(path, [b'.'] | [b'.', b'/', ..])
+}
+
+/// Whether the first segment is `..`.
+fn is_first_double_dot(path: &[u8]) -> bool
+    ensures { result ≡ (slice_index path.now 0 == 46 && slice_index path.now 1 == 46
+        && (length path.now == 2 || slice_index path.now 2 == 47)) }
+{
+    matches!(path, [b'.', b'.'] | [b'.', b'.', b'/', ..])
+}
+
+/// What a path begins with. Segments that can't be dot segments are taken together.
+fn leading_part(path: &str) -> Leading
+    requires { 0 < length path.now }
+    ensures leading { IsLeading path.now result }
+    ensures part { IsPart path.now result }
+{
+    let bytes = path.as_bytes();
+    if is_first_double_dot(bytes) {
+        return Leading::DoubleDot(next_segment(path, 2));
+    }
+    if is_first_dot(bytes) {
+        return Leading::SingleDot(next_segment(path, 1));
+    }
+    if begins_with_dot(bytes) {
+        return leading_segment(path);
+    }
+    Leading::Plain(plain_len(path))
+}
+
 /// Appends the segments of a path to the directory that stands in `out` from `start` on, without
 /// dot segments, and answers whether a double dot had nothing left to remove.
 ///
@@ -149,19 +233,13 @@ fn push_segments(path: &str, start: usize, out: &mut String) -> Result<bool, All
     let mut underflowed = false;
     let mut rest = path;
     while !rest.is_empty() {
-        let plain = plain_len(rest);
-        if plain > 0 {
-            out.push_str(&rest[..plain])?;
-            rest = &rest[plain..];
-        } else {
-            let end = segment_end(rest);
-            let next = next_segment(rest, end);
-            if is_single_dot(&rest[..end]) {
-                rest = &rest[next..];
-            } else if is_double_dot(&rest[..end]) {
+        match leading_part(rest) {
+            Leading::SingleDot(next) => rest = &rest[next..],
+            Leading::DoubleDot(next) => {
                 underflowed |= pop_segment(start, out);
                 rest = &rest[next..];
-            } else {
+            }
+            Leading::Plain(next) => {
                 out.push_str(&rest[..next])?;
                 rest = &rest[next..];
             }
@@ -183,8 +261,12 @@ pub fn push_without_dot_segments(path: &str, out: &mut String) -> Result<bool, A
     ensures underflow { IfOk result (λ underflowed. underflowed ≡ underflows path.now) }
 {
     let start = out.len();
-    out.push('/')?;
-    let underflowed = push_segments(&path[1..], start, out)?;
+    let plain = plain_len(path);
+    out.push_str(&path[..plain])?;
+    if plain == path.len() {
+        return Ok(false);
+    }
+    let underflowed = push_segments(&path[plain..], start, out)?;
     Ok(underflowed)
 }
 

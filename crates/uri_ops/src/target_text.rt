@@ -167,12 +167,22 @@ fn push_marked_query(source: &Placed<'_>, out: &mut String) -> Result<Option<usi
         ≡ option_map (λ q. length (string_bytes out.old) + 1 + length q)
         (components_of source.now).query) }
 {
-    out.push_str(source.marked_query())?;
     if source.has_query() {
-        Ok(Some(out.len()))
-    } else {
-        Ok(None)
+        out.push_str(source.marked_query())?;
+        return Ok(Some(out.len()));
     }
+    Ok(None)
+}
+
+/// Appends the fragment of a text with its `#`, where it is present.
+fn push_marked_fragment(source: &Placed<'_>, out: &mut String) -> Result<(), AllocError>
+    ensures { OnOk result (Pushes out.old out.new
+        (marked (codes "#") (components_of source.now).fragment [])) }
+{
+    if source.has_fragment() {
+        return out.push_str(source.marked_fragment());
+    }
+    Ok(())
 }
 
 /// Appends the target's query with its `?`, where it is present, and answers where it ends.
@@ -216,7 +226,7 @@ fn push_target(
     let underflowed = push_guarded(base, reference, authority.is_some(), out)?;
     let path_end = out.len();
     let query_end = push_query(base, reference, out)?;
-    out.push_str(reference.marked_fragment())?;
+    push_marked_fragment(reference, out)?;
     let positions = Positions {
         scheme_end: scheme_end(base, reference),
         authority,
@@ -272,8 +282,7 @@ pub(crate) fn target_text(
     if is_refused(base, reference) {
         return Err(ResolveError::InvalidReferenceAgainstOpaqueBase);
     }
-    let mut text = String::new(alloc);
-    text.reserve(room_for(base, reference))?;
+    let mut text = String::with_capacity(alloc, room_for(base, reference))?;
     let (positions, underflowed) = push_target(base, reference, &mut text)?;
     if underflowed && !allow_path_underflow {
         return Err(ResolveError::PathUnderflow);

@@ -5,3 +5,4 @@ pub mod FirstPlaces
 pub mod AsciiRuns
 pub mod LaneBits
 pub mod OctetLanes
+pub mod DotLanes

@@ -9,6 +9,7 @@ ghost use Rattle.uri_pct.specs.PercentSigns.{has_digits};
 ghost use Rattle.uri_pct.specs.Models.LaneMasks.{bytes_of_masks, bit_of};
 ghost use Rattle.uri_pct.specs.Masks.{has_bit};
 
+use crate::search::places_of;
 use std::simd::prelude::*;
 
 /// How many bytes are read at once.
@@ -119,9 +120,7 @@ fn octet_starts(bytes: &[u8], at: usize) -> u64
     ensures { (k : ℕ) → bit_at result k ≡ 1 → (k + 3 ≤ 16)
         × (slice_index bytes.now (at + k) ≡ percent_sign) × (has_digits bytes.now (at + k) ≡ true) }
 {
-    let percents = u8x16::from_slice(&bytes[at..])
-        .simd_eq(u8x16::splat(b'%'))
-        .to_bitmask();
+    let percents = places_of(b'%', bytes, at);
     // The masks of the hexadecimal digits, and the two lanes behind the last, in which none stands.
     let others = outside(0x03FF_0000_0000_0000, 0x0000_007E_0000_007E, bytes, at) | 0x3_0000;
     percents & !((others >> 1) | (others >> 2))

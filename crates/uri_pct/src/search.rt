@@ -1,6 +1,8 @@
 //! The search for a byte, sixteen bytes at a time.
-ghost use Rattle.std.specs.Prelude.{◌≤◌, ◌+◌, ◌==◌, ◌≡◌, length, map, not};
+ghost use Rattle.std.specs.Prelude.{◌≡◌, ◌+◌, ◌≤◌, ◌<◌, ◌==◌, ◌&&◌, ◌||◌, ℕ, false, length, map};
+ghost use Rattle.std.specs.Prelude.{not, slice_index};
 ghost use Rattle.std.specs.Simd.Lanes.{mask_l, chunk};
+ghost use Rattle.uri_pct.specs.Delimiters.{full_stop, percent_sign, slash};
 ghost use Rattle.uri_pct.specs.Models.ByteRuns.{IsRun};
 
 use crate::lanes::LANES;
@@ -33,4 +35,23 @@ pub fn find_byte(byte: u8, bytes: &[u8], start: usize) -> usize
         i += 1;
     }
     i
+}
+
+/// How many of the sixteen bytes from `at` on stand before the first `/` that has a `.` or a `%`
+/// behind it.
+#[inline(always)]
+pub fn length_before_dots(bytes: &[u8], at: usize) -> usize
+    requires { at + LANES < length bytes.now }
+    ensures few { result ≤ 16 }
+    ensures none { (k : ℕ) → k < result → (slice_index bytes.now (at + k) == slash
+        && (slice_index bytes.now (at + k + 1) == full_stop
+        || slice_index bytes.now (at + k + 1) == percent_sign)) ≡ false }
+    ensures slash { result < 16 → slice_index bytes.now (at + result) ≡ slash }
+{
+    let dots = places_of(b'.', bytes, at + 1) | places_of(b'%', bytes, at + 1);
+    let found = places_of(b'/', bytes, at) & dots;
+    if found == 0 {
+        return LANES;
+    }
+    found.trailing_zeros() as usize
 }

@@ -1,10 +1,11 @@
 -- A path in which neither `.` nor `%` stands first or behind a `/` has no dot segment.
-use Rattle.std.proofs.Common.{◌≡◌, ℕ, suc, ◌+◌, ◌<◌, Bool, true, false, not, List, [], ◌∷◌, ◌++◌, length, take, get_or, refl, sym, ap, ◌∙◌, ◌&&◌, ◌||◌, arith}
+use Rattle.std.proofs.Common.{◌≡◌, ℕ, zero, suc, ◌+◌, ◌<◌, Bool, true, false, not, List, [], ◌∷◌, ◌++◌, length, take, get_or, refl, sym, ap, ◌∙◌, ◌&&◌, ◌||◌, arith}
 use Rattle.std.specs.Prelude.{◌==◌}
 use Rattle.std.proofs.Math.Seq.{take-suc}
-use Rattle.std.proofs.lemmas.Bool.{and_from, eqb-true, or_from, or_parts}
+use Rattle.std.proofs.lemmas.Bool.{and_from, or_from, or_parts}
 use Rattle.std.proofs.lemmas.Bool.Decides.{nat_tests}
-use Rattle.uri_ops.specs.Dots.{EndsInSlash, is_dot_segment, lacks_dot_segments, segments}
+use Rattle.uri_ops.specs.Dots.{is_dot_segment, lacks_dot_segments, segments}
+use Rattle.uri_ops.specs.Models.LeadingSegments.{begins_with_dot}
 use Rattle.uri_ops.proofs.Paths.Segments.{Passes, is_plain}
 use Rattle.uri_ops.proofs.Paths.SlashedSegments.{slashed, slashed_segments}
 
@@ -75,19 +76,22 @@ module _ (bytes : List ℕ) (i : ℕ) (within : i < length bytes) where
   pub next_ends : (get_or bytes i 0 == 47) ≡ ends_behind true (take (i + 1) bytes)
   next_ends = sym (ap (ends_behind true) (one_more bytes i within) ∙ ends_more true (take i bytes) (get_or bytes i 0))
 
-pub none_taken : dots_begin true [] ≡ false
+-- a byte that a dot segment begins with stands behind a `/` at this place
+abbrev pub begins_at : List ℕ → ℕ → Bool
+begins_at bytes i = (get_or bytes i 0 == 47) && is_dot_start (get_or bytes (i + 1) 0)
+
+pub one_further : (bytes : List ℕ) (i : ℕ) → i + 1 < length bytes → dots_begin true (take (i + 1) bytes) ≡ false → begins_at bytes i ≡ false → dots_begin true (take (i + 1 + 1) bytes) ≡ false
+one_further bytes i within plain e =
+    next_plain bytes (i + 1) within plain (ap (λ b. b && is_dot_start (get_or bytes (i + 1) 0)) (sym (next_ends bytes i (omega (arith, within)))) ∙ e)
+
+pub some_further : (bytes : List ℕ) (i n : ℕ) → i + n < length bytes → dots_begin true (take (i + 1) bytes) ≡ false → ((k : ℕ) → k < n → begins_at bytes (i + k) ≡ false) → dots_begin true (take (i + n + 1) bytes) ≡ false
+some_further bytes i zero within plain none = ap (λ m. dots_begin true (take m bytes)) (omega arith) ∙ plain
+some_further bytes i (suc n) within plain none =
+    let next : i + suc n + 1 ≡ i + n + 1 + 1 = omega arith in
+    ap (λ m. dots_begin true (take m bytes)) next
+    ∙ one_further bytes (i + n) (omega (arith, within)) (some_further bytes i n (omega (arith, within)) plain (λ k h. none k (omega (arith, h)))) (none n (omega arith))
+
+pub first_plain : (bytes : List ℕ) → begins_with_dot bytes ≡ false → dots_begin true (take 1 bytes) ≡ false
 unfolding dots_begin
-none_taken = refl
-
-pub first_ends : true ≡ ends_behind true []
-unfolding ends_behind
-first_ends = refl
-
-pub closed_from : (b : Bool) (text : List ℕ) → 0 < length text → ends_behind b text ≡ true → EndsInSlash text
-unfolding ends_behind
-closed_from b [] some e = absurd (omega (arith, some))
-closed_from b (c ∷ []) some e = ([], ap (λ d. d ∷ []) (eqb-true c 47 e))
-closed_from b (c ∷ d ∷ text) some e = let r = closed_from (c == 47) (d ∷ text) (omega arith) e in (c ∷ r.0, ap (λ t. c ∷ t) r.1)
-
-pub start_ascii : (c : ℕ) → is_dot_start c ≡ true → c < 128
-start_ascii c e = grind (arith, nat_tests)
+first_plain [] e = refl
+first_plain (c ∷ rest) e = or_from (is_dot_start c) false e refl

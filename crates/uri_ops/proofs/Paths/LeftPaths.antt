@@ -6,7 +6,7 @@ use Rattle.std.specs.List.{list_all, slice_range}
 use Rattle.std.proofs.Math.Bool.{or-false, or_assoc}
 use Rattle.std.proofs.lemmas.List.{append-nil, take-append-drop, drop_at, take_at, drop-append-le, take-append-le, length-drop, length-take-le}
 use Rattle.std.proofs.lemmas.List.Folds.{list_all-append}
-use Rattle.std.proofs.lemmas.Bool.{and_parts, and_from, cases_Bool, false≢true, not_from_false, or_from, or_right}
+use Rattle.std.proofs.lemmas.Bool.{and_parts, and_from, cases_Bool, false≢true, not_from_false, or_right}
 use Rattle.uri_parts.specs.Components.{IsRooted}
 use Rattle.uri_ops.specs.Dots.{is_single_dot, is_double_dot, is_dot_segment, is_empty, before_last_slash, has_slash, lacks_dot_segments, segments, remove_dot_segments, underflows, IsAbsolute}
 use Rattle.uri_ops.specs.Models.Directories.{IsPlainDirectory, IsClosed, parent_directory}
@@ -141,7 +141,7 @@ drops_double = by_directory (Drops is_double_dot parent_directory (λ k. is_empt
         }
 
 -- what is kept of a segment that is none of dots, with the `/` behind it
-lone_plain : (s rest : List ℕ) → has_slash s ≡ false → is_dot_segment s ≡ false → IsRooted rest → lacks_dot_segments (s ++ take 1 rest) ≡ true
+pub lone_plain : (s rest : List ℕ) → has_slash s ≡ false → is_dot_segment s ≡ false → IsRooted rest → lacks_dot_segments (s ++ take 1 rest) ≡ true
 lone_plain s rest free other = rooted (λ rest. lacks_dot_segments (s ++ take 1 rest) ≡ true)
     (ap (list_all is_plain) (segments_last s free) ∙ and_from (is_plain s) true (not_from_false _ other) refl)
     (λ rest h. ap (λ t. lacks_dot_segments (s ++ take 1 t)) (absolute_is rest h) ∙ ap (list_all is_plain) (segments_next s [] free) ∙ and_from (is_plain s) true (not_from_false _ other) refl)
@@ -192,10 +192,6 @@ module _ (path kept rest : List ℕ) (underflowed : Bool) (h : IsLeft path kept 
             kept (directory_of_left path kept rest underflowed h some);
         closed = ⊎_elim inl (λ e. inr (kept ++ e.0, ap (λ t. kept ++ t) e.1 ∙ sym (append_assoc kept e.0 (codes "/")))) closed;
       }
-
-  pub left_other : (next : ℕ) → has_slash (take n rest) ≡ false → IsRooted (drop n rest) → is_single_dot (take n rest) ≡ false → is_double_dot (take n rest) ≡ false
-      → take next rest ≡ take n rest ++ take 1 (drop n rest) → lacks_dot_segments (take next rest) ≡ true
-  left_other next free rooted single double front = ap lacks_dot_segments front ∙ lone_plain (take n rest) (drop n rest) free (or_from _ _ single double) rooted
 
 -- what stands in a text from a place on
 some_absolute : (path : List ℕ) → IsAbsolute path → 0 < length path

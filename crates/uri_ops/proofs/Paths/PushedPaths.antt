@@ -1,16 +1,34 @@
 -- What is appended of a path without its dot segments, and of a reference's path behind the
 -- directory of a base's path.
-use Rattle.std.proofs.Common.{◌≡◌, ℕ, Bool, List, [], ◌++◌, length, take, drop, refl, sym, ap, subst, ◌∙◌, ◌||◌, inr, rules}
-use Rattle.std.specs.Prelude.{codes}
-use Rattle.std.proofs.lemmas.List.{take-append-drop, take_at, drop_at}
-use Rattle.uri_ops.specs.Dots.{remove_dot_segments, underflows, directory, IsAbsolute, EndsInSlash}
-use Rattle.uri_ops.specs.Models.Directories.{IsPlainDirectory}
+use Rattle.std.proofs.Common.{◌≡◌, ◌<◌, ◌≤◌, ℕ, zero, suc, Bool, true, false, List, [], ◌∷◌, ◌++◌, length, take, drop, sym, ap, subst, ◌∙◌, ◌||◌, inr, arith, ⊎_elim}
+use Rattle.std.proofs.Math.Seq.{take-length}
+use Rattle.std.proofs.lemmas.Bool.{eqb-true, false≢true}
+use Rattle.uri_pct.proofs.Tests.{true_of}
+use Rattle.std.specs.Prelude.{◌==◌}
+use Rattle.std.proofs.lemmas.List.{length-drop, take-append-drop, take_at, drop_at}
+use Rattle.uri_ops.specs.Dots.{lacks_dot_segments, remove_dot_segments, underflows, directory, IsAbsolute, EndsInSlash}
+use Rattle.uri_ops.specs.Models.Directories.{IsClosed, IsPlainDirectory}
+use Rattle.uri_ops.specs.Models.LeadingSegments.{begins_with_dot}
 use Rattle.uri_ops.specs.Target.{merged}
-use Rattle.uri_ops.proofs.Paths.DotLaws.{directory_absolute, directory_ends, removed_absolute, removed_directory, removed_in_pieces, removed_lacks, underflows_in_pieces}
-use Rattle.uri_ops.proofs.Paths.TakenSegments.{absolute_is}
+use Rattle.uri_ops.proofs.Paths.DotLaws.{directory_absolute, directory_ends, removed_absolute, removed_directory, removed_in_pieces, removed_lacks, removed_of_plain, underflows_in_pieces, underflows_of_plain}
 
-root_plain : IsPlainDirectory (codes "/")
-root_plain = record { absolute = search rules; closed = ([], refl); plain = refl }
+-- the first bytes of a path
+absolute_take : (path : List ℕ) (n : ℕ) → IsAbsolute path → 0 < n → IsAbsolute (take n path)
+absolute_take path zero h some = absurd (omega (arith, some))
+absolute_take [] (suc n) h some = h
+absolute_take (c ∷ path) (suc n) h some = h
+
+pub absolute_start : (path : List ℕ) → IsAbsolute path → (begins_with_dot path ≡ false) × (0 < length path)
+absolute_start [] h = absurd (false≢true (true_of _ h))
+absolute_start (c ∷ path) h = (ap (λ b. b == 46 || b == 37) (eqb-true c 47 (true_of _ h)), omega arith)
+
+-- a path that is taken whole
+pub whole_plain : (path front : List ℕ) (n : ℕ) → IsAbsolute path → n ≡ length path → lacks_dot_segments (take n path) ≡ true → front ≡ take n path
+    → (front ≡ remove_dot_segments path) × (false ≡ underflows path)
+whole_plain path front n absolute end plain is =
+    let all : take n path ≡ path = ap (λ m. take m path) end ∙ take-length path in
+    let free = sym (ap lacks_dot_segments all) ∙ plain in
+    (is ∙ all ∙ sym (removed_of_plain path absolute free), sym (underflows_of_plain path absolute free))
 
 -- behind what stood there
 module _ (old : List ℕ) (start : ℕ) (at : start ≡ length old) (mid : List ℕ) where
@@ -22,19 +40,26 @@ module _ (old : List ℕ) (start : ℕ) (at : start ≡ length old) (mid : List 
       sym (take-append-drop start new)
       ∙ ap (λ t. t ++ drop start new) (before ∙ ap (take start) e ∙ take_at old text start (sym at)) ∙ ap (λ t. old ++ t) is
 
-  -- one path, of which the first `/` is appended before the rest is read
-  module _ (e : mid ≡ old ++ codes "/") where
-    pub root_pushed : IsPlainDirectory (drop start mid)
-    root_pushed = subst IsPlainDirectory (sym (behind_old (codes "/") e)) root_plain
+  -- one path, of which the front without dot segments is appended before the rest is read
+  module _ (path : List ℕ) (absolute : IsAbsolute path) (n : ℕ) (front : List ℕ) (is : front ≡ take n path) (e : mid ≡ old ++ front) where
+    front_is : drop start mid ≡ take n path
+    front_is = behind_old front e ∙ is
 
-    module _ (path : List ℕ) (absolute : IsAbsolute path) where
-      path_is : drop start mid ++ drop 1 path ≡ path
-      path_is = ap (λ t. t ++ drop 1 path) (behind_old (codes "/") e) ∙ sym (absolute_is path absolute)
+    pub front_pushed : 0 < n → n ≤ length path → (n ≡ length path → ⊥) → lacks_dot_segments (take n path) ≡ true → IsClosed (take n path) (drop n path) → IsPlainDirectory (drop start mid)
+    front_pushed some within more plain closed = subst IsPlainDirectory (sym front_is) (record {
+      absolute = absolute_take path n absolute some;
+      closed = ⊎_elim (λ none. absurd (more (omega (arith, within, length-drop n path, ap length none)))) (λ d. d) closed;
+      plain = plain;
+    })
 
-      pub path_pushed : (new : List ℕ) → take start new ≡ take start mid → drop start new ≡ remove_dot_segments (drop start mid ++ drop 1 path) → new ≡ old ++ remove_dot_segments path
-      path_pushed new before kept = whole (codes "/") new (remove_dot_segments path) e before (kept ∙ ap remove_dot_segments path_is)
+    module _ (rest : List ℕ) (left : rest ≡ drop n path) where
+      path_is : drop start mid ++ rest ≡ path
+      path_is = ap (λ t. t ++ rest) front_is ∙ ap (λ t. take n path ++ t) left ∙ take-append-drop n path
 
-      pub path_underflows : (underflowed : Bool) → underflowed ≡ underflows (drop start mid ++ drop 1 path) → underflowed ≡ underflows path
+      pub path_pushed : (new : List ℕ) → take start new ≡ take start mid → drop start new ≡ remove_dot_segments (drop start mid ++ rest) → new ≡ old ++ remove_dot_segments path
+      path_pushed new before kept = whole front new (remove_dot_segments path) e before (kept ∙ ap remove_dot_segments path_is)
+
+      pub path_underflows : (underflowed : Bool) → underflowed ≡ underflows (drop start mid ++ rest) → underflowed ≡ underflows path
       path_underflows underflowed f = f ∙ ap underflows path_is
 
   -- two paths, of which the first has the base's directory

@@ -1,7 +1,5 @@
 -- The segments of a path, taken one after the other behind a directory that has no dot segment.
-use Rattle.std.proofs.Common.{◌≡◌, ℕ, Bool, true, false, List, [], ◌∷◌, ◌++◌, drop, refl, sym, ap, ◌∙◌, ◌||◌, arith}
-use Rattle.std.specs.Str.{IsUtf8, IsCharBoundary}
-use Rattle.std.proofs.lemmas.Str.{IsCharBoundary-after_ascii}
+use Rattle.std.proofs.Common.{◌≡◌, ℕ, Bool, true, false, List, [], ◌∷◌, ◌++◌, drop, refl, sym, ap, ◌∙◌, ◌||◌}
 use Rattle.std.proofs.lemmas.List.{append-nil}
 use Rattle.std.proofs.lemmas.Bool.{and_from, eqb-true, false≢true, not_from_false, or_right}
 use Rattle.uri_parts.specs.Components.{IsRooted}
@@ -68,10 +66,6 @@ segments_next s r e = ap (λ t. segments (s ++ t)) (sym (slashed_segments r)) �
 pub absolute_is : (path : List ℕ) → IsAbsolute path → path ≡ 47 ∷ drop 1 path
 absolute_is [] h = absurd (false≢true (true_of _ h))
 absolute_is (c ∷ rest) h = ap (λ d. d ∷ rest) (eqb-true c 47 (true_of _ h))
-
-pub absolute_cut : (path : List ℕ) → IsUtf8 path → IsAbsolute path → IsCharBoundary path 1
-absolute_cut [] u h = absurd (false≢true (true_of _ h))
-absolute_cut (c ∷ rest) u h = IsCharBoundary-after_ascii (c ∷ rest) 0 u (omega arith) (omega (arith, eqb-true c 47 (true_of _ h)))
 
 module _ (xs : List (List ℕ)) (plain : Passes is_plain xs) (lack : NoSlashes xs) (s : List ℕ) (free : has_slash s ≡ false) (dot : is_dot_segment s ≡ true) where
   left_lacks : NoSlashes (step_of xs s)

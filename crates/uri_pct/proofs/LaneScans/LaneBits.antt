@@ -1,9 +1,10 @@
 -- Masks of lanes, bit by bit: shifted, and as the lanes of a load.
-use Rattle.std.proofs.Common.{◌≡◌, ℕ, ◌+◌, ◌-◌, ◌*◌, ◌/◌, ◌%◌, ◌^◌, ◌<◌, ◌≤◌, min, Bool, true, false, not, cond, eqb, List, map, length, get_or, refl, sym, ap, subst, ◌∙◌, arith}
-use Rattle.std.specs.Int.{bit_at}
+use Rattle.std.proofs.Common.{◌≡◌, ℕ, zero, suc, ◌+◌, ◌-◌, ◌*◌, ◌/◌, ◌%◌, ◌^◌, ◌<◌, ◌≤◌, min, Bool, true, false, not, cond, eqb, List, map, length, get_or, refl, sym, ap, subst, ◌∙◌, arith, w64, ⊎_elim}
+use Rattle.std.specs.Int.{bit_at, trailing_zeros}
 use Rattle.std.proofs.lemmas.Nat.{shr-shr, and_mask, pow_pos}
-use Rattle.std.proofs.lemmas.Nat.Bits.{bit_at-lt, bit_at_and, bit_at_ones, bit_at_cat_high, bit_at_cat_low, bit_at-zero}
+use Rattle.std.proofs.lemmas.Nat.Bits.{bit_at-lt, bit_at_and, bit_at_ones, bit_at_cat_high, bit_at_cat_low, bit_at-zero, bit_at_above, bit_at-trailing_zeros}
 use Rattle.std.specs.Simd.Lanes.{mask_l, chunk}
+use Rattle.std.proofs.lemmas.Bool.{cases_lt}
 use Rattle.std.proofs.lemmas.Simd.{bit_mask_l, mask_l-lt, get_or-chunk, length-chunk}
 use Rattle.std.proofs.lemmas.List.{get_or_default, length-map}
 use Rattle.std.proofs.Math.ListN.{get_or-map}
@@ -39,20 +40,32 @@ lane_test test bs i w mask k m h e = unset (test (get_or bs (i + k) 0)) (sym (ap
     unset true f = refl
     unset false f = sym f
 
--- the lanes of a load at which `%` stands
-pub percent_lane : (bs : List ℕ) (i k : ℕ) → i + 16 ≤ length bs → k < 16 → bit (mask_l (map (λ b. eqb b 37) (chunk i 16 bs))) k ≡ eqb (get_or bs (i + k) 0) 37
-percent_lane bs i k room h =
+-- the lanes of a load at which a byte stands
+pub byte_lane : (byte : ℕ) (bs : List ℕ) (i k : ℕ) → i + 16 ≤ length bs → k < 16 → bit (mask_l (map (λ b. eqb b byte) (chunk i 16 bs))) k ≡ eqb (get_or bs (i + k) 0) byte
+byte_lane byte bs i k room h =
     let v = chunk i 16 bs in
-    let ms = map (λ b. eqb b 37) v in
-    let long : length ms ≡ 16 = length-map v (λ b. eqb b 37) ∙ length-chunk i 16 bs room in
-    ap (λ m. eqb m 1) (bit_mask_l ms k ∙ ap (λ b. cond b 1 0) (get_or_default ms k false (eqb 0 37) (omega (arith, long)) ∙ get_or-map (λ b. eqb b 37) v k 0 ∙ ap (λ b. eqb b 37) (get_or-chunk i 16 bs k 0 h)))
-    ∙ one_if (eqb (get_or bs (i + k) 0) 37)
+    let ms = map (λ b. eqb b byte) v in
+    let long : length ms ≡ 16 = length-map v (λ b. eqb b byte) ∙ length-chunk i 16 bs room in
+    ap (λ m. eqb m 1) (bit_mask_l ms k ∙ ap (λ b. cond b 1 0) (get_or_default ms k false (eqb 0 byte) (omega (arith, long)) ∙ get_or-map (λ b. eqb b byte) v k 0 ∙ ap (λ b. eqb b byte) (get_or-chunk i 16 bs k 0 h)))
+    ∙ one_if (eqb (get_or bs (i + k) 0) byte)
   where
     one_if : (b : Bool) → eqb (cond b 1 0) 1 ≡ b
     one_if true = refl
     one_if false = refl
 
-pub percents_below : (bs : List ℕ) (i : ℕ) → i + 16 ≤ length bs → mask_l (map (λ b. eqb b 37) (chunk i 16 bs)) < 2 ^ 16
-percents_below bs i room =
-    let ms = map (λ b. eqb b 37) (chunk i 16 bs) in
-    subst (λ n. mask_l ms < 2 ^ n) (length-map (chunk i 16 bs) (λ b. eqb b 37) ∙ length-chunk i 16 bs room) (mask_l-lt ms)
+pub bytes_below : (byte : ℕ) (bs : List ℕ) (i : ℕ) → i + 16 ≤ length bs → mask_l (map (λ b. eqb b byte) (chunk i 16 bs)) < 2 ^ 16
+bytes_below byte bs i room =
+    let ms = map (λ b. eqb b byte) (chunk i 16 bs) in
+    subst (λ n. mask_l ms < 2 ^ n) (length-map (chunk i 16 bs) (λ b. eqb b byte) ∙ length-chunk i 16 bs room) (mask_l-lt ms)
+
+-- the first lane that is set
+pub first_lane : (mask : ℕ) → mask < 2 ^ 16 → (mask ≡ 0 → ⊥) → (trailing_zeros w64 mask < 16) × (bit_at mask (trailing_zeros w64 mask) ≡ 1) × ((k : ℕ) → k < trailing_zeros w64 mask → bit_at mask k ≡ 0)
+first_lane mask below some =
+    let pos : 0 < mask = pos-from-nonzero mask some in
+    let z = bit_at-trailing_zeros w64 mask pos (omega (arith, below)) in
+    let set : bit_at mask (trailing_zeros w64 mask) ≡ 1 = z.1 in
+    (⊎_elim (λ (h : trailing_zeros w64 mask < 16). h) (λ (h : 16 ≤ trailing_zeros w64 mask). let none = bit_at_above mask 16 (trailing_zeros w64 mask) below h in absurd (omega (arith, none, set))) (cases_lt (trailing_zeros w64 mask) 16), set, z.2)
+  where
+    pos-from-nonzero : (n : ℕ) → (n ≡ 0 → ⊥) → 0 < n
+    pos-from-nonzero zero e = absurd (e refl)
+    pos-from-nonzero (suc n) e = omega arith

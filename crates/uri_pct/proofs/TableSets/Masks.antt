@@ -86,6 +86,12 @@ min_test x y p q = grind (arith, nat_tests)
 pub or_test : (a b i : ℕ) → eqb (bit_at (bit_or a b) i) 1 ≡ (eqb (bit_at a i) 1 || eqb (bit_at b i) 1)
 or_test a b i = ap (λ n. eqb n 1) (bit_at_or a b i) ∙ max_test (bit_at a i) (bit_at b i) (bit_at-lt a i) (bit_at-lt b i)
 
+both_test : (x y : ℕ) → x < 2 → y < 2 → eqb (min x y) 1 ≡ (eqb x 1 && eqb y 1)
+both_test x y p q = grind (arith, nat_tests)
+
+pub and_test : (a b i : ℕ) → eqb (bit_at (bit_and a b) i) 1 ≡ (eqb (bit_at a i) 1 && eqb (bit_at b i) 1)
+and_test a b i = ap (λ n. eqb n 1) (bit_at_and a b i) ∙ both_test (bit_at a i) (bit_at b i) (bit_at-lt a i) (bit_at-lt b i)
+
 pub without_test : (a b i : ℕ) → b < 2 ^ 64 → i < 64 → eqb (bit_at (bit_and a (bit_not w64 b)) i) 1 ≡ (eqb (bit_at a i) 1 && not (eqb (bit_at b i) 1))
 without_test a b i fits within =
     ap (λ n. eqb n 1) (bit_at_and a (bit_not w64 b) i) ∙ ap (λ n. eqb (min (bit_at a i) n) 1) (bit_at_not w64 b i fits within)

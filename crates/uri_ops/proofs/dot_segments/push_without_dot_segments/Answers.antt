@@ -1,28 +1,47 @@
-use Rattle.std.proofs.Common.{◌≡◌, ◌++◌, length, rules, string_bytes}
-use Rattle.std.specs.Prelude.{codes}
-use Rattle.uri_ops.proofs.Paths.PushedPaths.{path_pushed, path_underflows, root_pushed}
-use Rattle.uri_ops.proofs.Paths.TakenSegments.{absolute_cut}
+use Rattle.std.proofs.Common.{◌≡◌, ◌++◌, ap, length, rules, string_bytes, ◌∙◌}
+use Rattle.uri_ops.proofs.Paths.LeftPaths.{front_of}
+use Rattle.uri_ops.proofs.Paths.PushedPaths.{absolute_start, front_pushed, path_pushed, path_underflows, whole_plain}
 use Rattle.uri_ops.proofs.dot_segments.push_without_dot_segments.Goals as goal
 
-pub range_from-requires : goal.range_from-requires
-range_from-requires c = λ _. absolute_cut c.args.path.now c.utf8.path c.requires
+pub returns-then-plain-path-clause-text : goal.returns-then-plain-path-clause-text
+returns-then-plain-path-clause-text c =
+    let path = c.args.path.now in
+    let n = c.plain_len-plain.result in
+    c.in_ok-push_str.ensures.bytes
+    ∙ ap (λ t. string_bytes c.args.out.now ++ t)
+    (whole_plain path c.range.result.now n c.requires c.if-plain-path.true c.plain_len-plain.ensures.plain (front_of path c.range.result.now n c.range.ensures.value)).0
+
+pub returns-then-plain-path-clause-underflow : goal.returns-then-plain-path-clause-underflow
+returns-then-plain-path-clause-underflow c =
+    let path = c.args.path.now in
+    let n = c.plain_len-plain.result in
+    (whole_plain path c.range.result.now n c.requires c.if-plain-path.true c.plain_len-plain.ensures.plain (front_of path c.range.result.now n c.range.ensures.value)).1
 
 pub push_segments-requires : goal.push_segments-requires
 push_segments-requires c =
     let at : c.len-start.result ≡ length (string_bytes c.args.out.now) = search rules in
-    let grown : string_bytes c.push.new.self ≡ string_bytes c.args.out.now ++ codes "/" = search rules in
-    root_pushed (string_bytes c.args.out.now) c.len-start.result at (string_bytes c.push.new.self) grown
+    let path = c.args.path.now in
+    let n = c.plain_len-plain.result in
+    let begins = absolute_start path c.requires in
+    let some = c.plain_len-plain.ensures.some begins.0 begins.1 in
+    front_pushed (string_bytes c.args.out.now) c.len-start.result at (string_bytes c.push_str.new.self)
+    path c.requires n c.range.result.now (front_of path c.range.result.now n c.range.ensures.value) c.in_ok-push_str.ensures.bytes
+    some c.plain_len-plain.ensures.place.0 c.if-plain-path.false c.plain_len-plain.ensures.plain (c.plain_len-plain.ensures.closed some)
 
 pub returns-clause-text : goal.returns-clause-text
 returns-clause-text c =
     let at : c.len-start.result ≡ length (string_bytes c.args.out.now) = search rules in
-    let grown : string_bytes c.push.new.self ≡ string_bytes c.args.out.now ++ codes "/" = search rules in
-    path_pushed (string_bytes c.args.out.now) c.len-start.result at (string_bytes c.push.new.self) grown c.args.path.now c.requires
-    (string_bytes c.push_segments.new.out) c.in_ok-underflowed.ensures.before (search rules)
+    let path = c.args.path.now in
+    let n = c.plain_len-plain.result in
+    path_pushed (string_bytes c.args.out.now) c.len-start.result at (string_bytes c.push_str.new.self)
+    path c.requires n c.range.result.now (front_of path c.range.result.now n c.range.ensures.value) c.in_ok-push_str.ensures.bytes
+    c.range_from.result.now c.range_from.ensures.value (string_bytes c.push_segments.new.out) c.in_ok-underflowed.ensures.before c.in_ok-underflowed.ensures.text
 
 pub returns-clause-underflow : goal.returns-clause-underflow
 returns-clause-underflow c =
     let at : c.len-start.result ≡ length (string_bytes c.args.out.now) = search rules in
-    let grown : string_bytes c.push.new.self ≡ string_bytes c.args.out.now ++ codes "/" = search rules in
-    path_underflows (string_bytes c.args.out.now) c.len-start.result at (string_bytes c.push.new.self) grown c.args.path.now c.requires
-    c.in_ok-underflowed.underflowed (search rules)
+    let path = c.args.path.now in
+    let n = c.plain_len-plain.result in
+    path_underflows (string_bytes c.args.out.now) c.len-start.result at (string_bytes c.push_str.new.self)
+    path c.requires n c.range.result.now (front_of path c.range.result.now n c.range.ensures.value) c.in_ok-push_str.ensures.bytes
+    c.range_from.result.now c.range_from.ensures.value c.in_ok-underflowed.underflowed c.in_ok-underflowed.ensures.underflow

@@ -20,9 +20,9 @@ returns-clause-text c =
     let b = components_of c.args.base.now in
     let r = components_of c.args.reference.now in
     let o3 = string_bytes c.push_query.new.out in
-    written_pieces (finished (joined b r)) (string_bytes c.args.out.now) (string_bytes c.push_front.new.out) (string_bytes c.push_guarded.new.out) o3 (string_bytes c.push_str.new.self)
+    written_pieces (finished (joined b r)) (string_bytes c.args.out.now) (string_bytes c.push_front.new.out) (string_bytes c.push_guarded.new.out) o3 (string_bytes c.push_marked_fragment.new.out)
     c.in_ok-push_front.ensures c.in_ok-underflowed.ensures.text c.in_ok-query_end.ensures.text
-    (c.in_ok-push_str.ensures.bytes ∙ ap (λ x. o3 ++ x) (c.marked_fragment.ensures ∙ ap (λ f. marked (codes "#") f []) (sym (joined_fragment b r))))
+    (c.in_ok-push_marked_fragment.ensures ∙ ap (λ f. o3 ++ marked (codes "#") f []) (sym (joined_fragment b r)))
 
 pub returns-clause-places : goal.returns-clause-places
 returns-clause-places c = λ empty.

@@ -9,7 +9,7 @@ use Rattle.uri_ops.proofs.target_text.target_text.Goals as goal
 pub returns-clause-at : goal.returns-clause-at
 returns-clause-at c =
     let t = joined (components_of c.args.base.now) (components_of c.args.reference.now) in
-    let empty : string_bytes c.reserve.new.self ≡ [] = search rules in
+    let empty : string_bytes c.in_ok-text.text ≡ [] = search rules in
     let text = c.in_ok-positions.ensures.text ∙ ap (λ x. x ++ recompose (finished t)) empty in
     c.in_ok-positions.ensures.places empty
     ∙ sym (ap positions_of (ap components text ∙ target_components c.args.base.now.text.now c.args.reference.now.text.now c.requires))

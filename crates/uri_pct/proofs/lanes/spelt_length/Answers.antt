@@ -1,10 +1,11 @@
-use Rattle.std.proofs.Common.{◌≡◌, ◌+◌, ◌^◌, ◌<◌, ◌≤◌, ℕ, zero, suc, refl, ⊎_elim, eqb, length, subst, sym, ap, arith, ◌∙◌, w64}
+use Rattle.std.proofs.Common.{◌≡◌, ◌+◌, ◌^◌, ◌<◌, ◌≤◌, ℕ, eqb, length, subst, sym, ap, arith, ◌∙◌, w64}
 use Rattle.std.specs.Int.{bit_at, bit_not, trailing_zeros}
 use Rattle.std.proofs.lemmas.Nat.{and_le_l}
-use Rattle.std.proofs.lemmas.Nat.Bits.{bit_at-zero, bit_at-trailing_zeros, bit_at_above}
-use Rattle.std.proofs.lemmas.Bool.{eq-eqb, cases_lt}
+use Rattle.std.proofs.lemmas.Nat.Bits.{bit_at-zero}
+use Rattle.std.proofs.lemmas.Bool.{eq-eqb}
 use Rattle.uri_pct.specs.Masks.{has_bit}
 use Rattle.uri_pct.proofs.LaneScans.LaneRuns.{LaneMarks, marks_of_load}
+use Rattle.uri_pct.proofs.LaneScans.LaneBits.{first_lane}
 use Rattle.uri_pct.proofs.LaneScans.OctetLanes.{are_spelt, opened, covered}
 use Rattle.uri_pct.proofs.lanes.spelt_length.Goals as goal
 
@@ -19,17 +20,7 @@ returns-then-open-eq0-clause-spelt c =
 
 -- the first lane that is open
 first : (misses begun : ℕ) → misses < 2 ^ 16 → (opened misses begun ≡ 0 → ⊥) → (trailing_zeros w64 (opened misses begun) < 16) × (bit_at (opened misses begun) (trailing_zeros w64 (opened misses begun)) ≡ 1) × ((k : ℕ) → k < trailing_zeros w64 (opened misses begun) → bit_at (opened misses begun) k ≡ 0)
-first misses begun small some =
-    let o = opened misses begun in
-    let below : o < 2 ^ 16 = omega (arith, small, and_le_l misses (bit_not w64 (covered begun))) in
-    let pos : 0 < o = pos-from-nonzero o some in
-    let z = bit_at-trailing_zeros w64 o pos (omega arith) in
-    let set : bit_at o (trailing_zeros w64 o) ≡ 1 = z.1 in
-    (⊎_elim (λ (h : trailing_zeros w64 o < 16). h) (λ (h : 16 ≤ trailing_zeros w64 o). let none = bit_at_above o 16 (trailing_zeros w64 o) below h in absurd (omega arith)) (cases_lt (trailing_zeros w64 o) 16), set, z.2)
-  where
-    pos-from-nonzero : (n : ℕ) → (n ≡ 0 → ⊥) → 0 < n
-    pos-from-nonzero zero e = absurd (e refl)
-    pos-from-nonzero (suc n) e = omega arith
+first misses begun small some = first_lane (opened misses begun) (omega (arith, small, and_le_l misses (bit_not w64 (covered begun)))) some
 
 pub returns-clause-few : goal.returns-clause-few
 returns-clause-few c =

@@ -1,0 +1,42 @@
+-- What a path begins with: a dot segment, or segments that are none.
+use Rattle.std.specs.Prelude.{◌≡◌, ◌<◌, ◌||◌, ◌==◌, ℕ, Bool, true, false, List, [], ◌∷◌, take, drop}
+use Rattle.std.specs.Str.{IsCharBoundary}
+use Rattle.uri_parts.specs.Components.{IsRooted}
+use Rattle.uri_ops.specs.declared.dot_segments.Leading.{Leading}
+use Rattle.uri_ops.specs.declared.dot_segments.Leading.TheVariants.{SingleDot, DoubleDot, Plain}
+use Rattle.uri_ops.specs.Dots.{has_slash, is_double_dot, is_single_dot, lacks_dot_segments}
+use Rattle.uri_ops.specs.Models.Directories.{IsClosed}
+
+-- the path begins with a dot or an octet
+abbrev pub begins_with_dot : List ℕ → Bool
+begins_with_dot [] = false
+begins_with_dot (c ∷ rest) = c == 46 || c == 37
+
+-- the first segment passes a test, and n bytes are taken with the `/` behind it
+pub record IsFirst (test : List ℕ → Bool) (path : List ℕ) (n : ℕ) : Type 0 where
+  pub end : ℕ
+  pub segment : has_slash (take end path) ≡ false
+  pub behind : IsRooted (drop end path)
+  pub passes : test (take end path) ≡ true
+  pub rest : drop n path ≡ drop 1 (drop end path)
+
+-- the first n bytes have no dot segment, and another segment begins behind them
+pub record IsPlainFront (path : List ℕ) (n : ℕ) : Type 0 where
+  pub plain : lacks_dot_segments (take n path) ≡ true
+  pub closed : IsClosed (take n path) (drop n path)
+
+-- what is said of the path's beginning
+abbrev pub IsLeading : List ℕ → Leading → Type 0
+IsLeading path (SingleDot n) = IsFirst is_single_dot path n
+IsLeading path (DoubleDot n) = IsFirst is_double_dot path n
+IsLeading path (Plain n) = IsPlainFront path n
+
+-- how many bytes it takes
+abbrev pub taken : Leading → ℕ
+taken (SingleDot n) = n
+taken (DoubleDot n) = n
+taken (Plain n) = n
+
+-- it takes some, and ends where a character does
+abbrev pub IsPart : List ℕ → Leading → Type 0
+IsPart path leading = (0 < taken leading) × IsCharBoundary path (taken leading)
