@@ -1,16 +1,12 @@
 //! Fronts of texts that are read as they stand (RFC 3986, sections 6.2.2.1 and 6.2.2.2).
-ghost use Rattle.std.specs.Prelude.{◌≡◌, ◌==◌, ◌<◌, ◌∷◌, [], IsTrue, OnOk, drop, false, length};
-ghost use Rattle.std.specs.Prelude.{slice_index};
-ghost use Rattle.std.specs.Char.{is_ascii_hexdigit};
-ghost use Rattle.std.specs.List.{position_or_len};
-ghost use Rattle.std.specs.Str.{IsCharBoundary};
-ghost use Rattle.uri_pct.specs.Chunks.{widest_set};
-ghost use Rattle.uri_pct.specs.Delimiters.{percent_sign};
-ghost use Rattle.uri_pct.specs.Reading.{LacksPastAscii, read_alone};
-ghost use Rattle.uri_pct.specs.Sets.{TableSet, is_unreserved};
-ghost use Rattle.uri_pct.specs.Tokens.{Octet, print, IsValidFor};
+ghost use Rattle.std.specs.Prelude.{◌≡◌, ◌&&◌, ◌∷◌, ◌+◌, ◌*◌, [], Bool, IsTrue};
+ghost use Rattle.std.specs.Prelude.{MatchOption, OnOk, false, nat_lt, true};
+ghost use Rattle.std.specs.Char.{digit_value, is_ascii_hexdigit};
+ghost use Rattle.uri_pct.specs.Reading.{read_alone};
+ghost use Rattle.uri_pct.specs.Sets.{is_unreserved};
+ghost use Rattle.uri_pct.specs.Tokens.{Octet, print};
 ghost use Rattle.uri_parts.specs.Appending.{Pushes};
-ghost use Rattle.uri_ops.specs.Models.Readings.{IsFront, IsKeptOctet, cased, cased_text};
+ghost use Rattle.uri_ops.specs.Models.Readings.{cased, cased_text};
 
 use crate::reading::push_lower;
 use std::alloc::{AllocError, Global};
@@ -18,79 +14,43 @@ use uri_pct::octet::{octet_value, pct_encoded};
 
 /// Whether the character is unreserved (RFC 3986, section 2.3).
 #[tactic(auto, using(std::proofs::lemmas::Bool::Decides::nat_tests))]
+#[inline(always)]
 fn is_unreserved(byte: u8) -> bool
     ensures { result ≡ is_unreserved byte }
 {
     byte.is_ascii_alphanumeric() || matches!(byte, b'-' | b'.' | b'_' | b'~')
 }
 
-/// Where the first `%` stands, or the length where there is none.
-fn unencoded_len(text: &str) -> usize
-    ensures { result ≡ position_or_len (λ b. b == percent_sign) text.now }
-{
-    match text.split_once('%') {
-        Some((before, _)) => before.len(),
-        None => text.len(),
-    }
-}
-
-/// Whether an octet with these digits is read as it stands: they are upper case, and it is read by
-/// itself and is no unreserved character.
-fn is_kept(high: u8, low: u8, alone: bool) -> bool
+/// The unreserved character that the octet with these digits spells, if it spells one.
+#[inline(always)]
+pub(crate) fn spelt(high: u8, low: u8) -> Option<u8>
     requires high { IsTrue (is_ascii_hexdigit high) }
     requires low { IsTrue (is_ascii_hexdigit low) }
-    ensures { IsTrue result → IsKeptOctet alone high low }
+    ensures { let value = 16 * digit_value high + digit_value low in
+        MatchOption result (is_unreserved value ≡ false)
+        (λ ch. (ch ≡ value) × (is_unreserved value ≡ true)) }
 {
-    if high >= b'a' || low >= b'a' {
-        return false;
-    }
     if high >= b'8' {
-        return alone;
+        return None;
     }
-    !is_unreserved(octet_value(high, low))
-}
-
-/// How many bytes at the front are read as they stand: characters, and octets that are kept.
-fn kept_len(alone: bool, text: &str) -> usize
-    requires { IsValidFor widest_set text.now }
-    ensures boundary { IsCharBoundary text.now result }
-    ensures valid { IsValidFor widest_set (drop result text.now) }
-    ensures stop { result < length text.now → slice_index text.now result ≡ percent_sign }
-    ensures front { (set : TableSet) → (IsTrue alone → LacksPastAscii set)
-        → IsFront false set text.now result }
-{
-    let bytes = text.as_bytes();
-    let mut len = 0;
-    while len < bytes.len() {
-        if bytes[len] != b'%' {
-            len += unencoded_len(&text[len..]);
-        } else if is_kept(bytes[len + 1], bytes[len + 2], alone) {
-            len += 3;
-        } else {
-            return len;
-        }
-    }
-    len
-}
-
-/// How many bytes at the front are read as they stand, but for letters that are lowered: no octets
-/// then, since their digits are upper case.
-pub(crate) fn front_len(alone: bool, lowers: bool, text: &str) -> usize
-    requires { IsValidFor widest_set text.now }
-    ensures boundary { IsCharBoundary text.now result }
-    ensures valid { IsValidFor widest_set (drop result text.now) }
-    ensures stop { result < length text.now → slice_index text.now result ≡ percent_sign }
-    ensures front { (set : TableSet) → (IsTrue alone → LacksPastAscii set)
-        → IsFront lowers set text.now result }
-{
-    if lowers {
-        unencoded_len(text)
+    let value = octet_value(high, low);
+    if is_unreserved(value) {
+        Some(value)
     } else {
-        kept_len(alone, text)
+        None
     }
 }
 
-/// Appends the text, with its letters lowered where that is asked.
+/// Whether both hexadecimal digits are in upper case.
+#[inline(always)]
+pub(crate) fn are_upper(high: u8, low: u8) -> bool
+    ensures { result ≡ (nat_lt high 97 && nat_lt low 97) }
+{
+    high < b'a' && low < b'a'
+}
+
+/// Appends the text, with its letters lowered where that is asked. An empty one costs no call.
+#[inline(always)]
 pub(crate) fn push_plain(
     alloc: Global,
     lowers: bool,
@@ -99,6 +59,9 @@ pub(crate) fn push_plain(
 ) -> Result<(), AllocError>
     ensures { OnOk result (Pushes out.old out.new (cased_text lowers text.now)) }
 {
+    if text.is_empty() {
+        return Ok(());
+    }
     if lowers {
         push_lower(alloc, text, out)
     } else {
@@ -106,18 +69,38 @@ pub(crate) fn push_plain(
     }
 }
 
+/// Appends the unreserved character that an octet spells, a letter lowered where that is asked.
+#[inline(always)]
+pub(crate) fn push_letter(lowers: bool, value: u8, out: &mut String) -> Result<(), AllocError>
+    requires { is_unreserved value ≡ true }
+    ensures { OnOk result
+        (Pushes out.old out.new (print (cased lowers (read_alone (Octet value) ∷ [])))) }
+{
+    if lowers {
+        out.push(char::from(value.to_ascii_lowercase()))
+    } else {
+        out.push(char::from(value))
+    }
+}
+
+/// Appends an octet that spells no unreserved character, its digits in upper case.
+#[inline(always)]
+pub(crate) fn push_octet(value: u8, out: &mut String) -> Result<(), AllocError>
+    requires { is_unreserved value ≡ false }
+    ensures { (lowers : Bool) → OnOk result
+        (Pushes out.old out.new (print (cased lowers (read_alone (Octet value) ∷ [])))) }
+{
+    out.push_str(pct_encoded(value))
+}
+
 /// Appends what is read of an octet by itself, a letter lowered where that is asked.
 pub(crate) fn push_alone(lowers: bool, value: u8, out: &mut String) -> Result<(), AllocError>
     ensures { OnOk result
         (Pushes out.old out.new (print (cased lowers (read_alone (Octet value) ∷ [])))) }
 {
-    if !is_unreserved(value) {
-        return out.push_str(pct_encoded(value));
-    }
-    let ch = if lowers {
-        value.to_ascii_lowercase()
+    if is_unreserved(value) {
+        push_letter(lowers, value, out)
     } else {
-        value
-    };
-    out.push(char::from(ch))
+        push_octet(value, out)
+    }
 }

@@ -11,10 +11,10 @@ ghost use Rattle.uri_parts.specs.Appending.{Pushes};
 ghost use Rattle.uri_ops.specs.Models.Readings.{cased};
 
 use crate::formatting::encode_formatting;
-use crate::fronts::{front_len, push_alone, push_plain};
+use crate::fronts::{are_upper, push_alone, push_letter, push_octet, push_plain, spelt};
 use std::alloc::{AllocError, Global};
 use std::mem;
-use uri_pct::decode::Decode;
+use uri_pct::decode::{Decode, unencoded_len};
 use uri_pct::encode::{push_octets, push_text};
 use uri_pct::encoder::Encoder;
 use uri_pct::octet::octet_value;
@@ -52,6 +52,10 @@ impl TakeParts for Reading {
         } else {
             push_text(&readable, text, &mut self.text)
         }
+    }
+
+    fn take_ascii(&mut self, byte: u8) -> Result<(), AllocError> {
+        push_alone(self.lowers, byte, &mut self.text)
     }
 
     fn take_ill_formed(&mut self, bytes: &[u8]) -> Result<(), AllocError> {
@@ -107,23 +111,37 @@ fn push_tokens(
         (print (cased lowers (read_tokens (set_of table.now) (tokens text.now))))) }
 {
     let alone = !table.allows_some_past_ascii();
-    let mut rest = text;
-    while !rest.is_empty() {
-        let len = front_len(alone, lowers, rest);
-        if len > 0 {
-            push_plain(alloc, lowers, &rest[..len], out)?;
-            rest = &rest[len..];
+    let bytes = text.as_bytes();
+    let mut done = 0;
+    let mut end = 0;
+    while end < bytes.len() {
+        if bytes[end] != b'%' {
+            end += unencoded_len(&text[end..]);
             continue;
         }
-        let bytes = rest.as_bytes();
-        let value = octet_value(bytes[1], bytes[2]);
-        if !alone && value >= 128 {
-            return push_parts(alloc, table, lowers, rest, out);
+        let high = bytes[end + 1];
+        let low = bytes[end + 2];
+        if high >= b'8' && !alone {
+            push_plain(alloc, lowers, &text[done..end], out)?;
+            return push_parts(alloc, table, lowers, &text[end..], out);
         }
-        push_alone(lowers, value, out)?;
-        rest = &rest[3..];
+        if let Some(ch) = spelt(high, low) {
+            push_plain(alloc, lowers, &text[done..end], out)?;
+            push_letter(lowers, ch, out)?;
+            end += 3;
+            done = end;
+            continue;
+        }
+        if !lowers && are_upper(high, low) {
+            end += 3;
+            continue;
+        }
+        push_plain(alloc, lowers, &text[done..end], out)?;
+        push_octet(octet_value(high, low), out)?;
+        end += 3;
+        done = end;
     }
-    Ok(())
+    push_plain(alloc, lowers, &text[done..], out)
 }
 
 /// Appends what is read of the text, with its letters lowered where that is asked.

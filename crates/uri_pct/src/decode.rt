@@ -41,10 +41,8 @@ pub struct Decode<'a> {
 }
 
 /// The byte offset of the first `%`, or the length where there is none.
-///
-/// It stands apart, so that an octet, which needs no search, is read without a call.
-#[inline(never)]
-fn unencoded_len(text: &str) -> usize
+#[doc(hidden)]
+pub fn unencoded_len(text: &str) -> usize
     ensures { result ≡ position_or_len (λ b. b == percent_sign) text.now }
 {
     find_byte(b'%', text.as_bytes(), 0)

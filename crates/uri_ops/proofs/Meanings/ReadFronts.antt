@@ -1,19 +1,21 @@
 -- What stands at the front of a text is read by itself: characters, and octets of ASCII, or all where
 -- a set has no characters past it.
-use Rattle.std.proofs.Common.{◌≡◌, ℕ, suc, ◌+◌, ◌*◌, ◌-◌, ◌/◌, ◌%◌, ◌<◌, Bool, true, false, cond, eqb, ltb, not, List, [], ◌∷◌, ◌++◌, length, get_or, take, drop, map, ◌≤◌, add-zero, refl, sym, ap, subst, ◌∙◌, arith, ◌&&◌, ◌||◌, ⊎_elim, append_assoc}
+use Rattle.std.proofs.Common.{◌≡◌, ℕ, suc, take_all, ◌+◌, ◌*◌, ◌-◌, ◌/◌, ◌%◌, ◌<◌, Bool, true, false, cond, eqb, ltb, not, List, [], ◌∷◌, ◌++◌, length, get_or, take, drop, map, ◌≤◌, add-zero, refl, sym, ap, subst, ◌∙◌, arith, ◌&&◌, ◌||◌, ⊎_elim, ◌⊎◌, append_assoc}
 use Rattle.std.specs.List.{list_all, flat_map, position_or_len, prefix_len}
-use Rattle.std.specs.Char.{encode_utf8, digit_value, is_ascii_hexdigit, IsScalar}
+use Rattle.std.specs.Char.{encode_utf8, digit_value, is_ascii_hexdigit, to_ascii_lowercase, IsScalar}
 use Rattle.std.specs.Fmt.{digit_glyph}
 use Rattle.std.specs.Str.{chars, IsUtf8, IsCharBoundary}
 use Rattle.std.proofs.Math.Bool.{or-false}
 use Rattle.std.proofs.Math.Utf8.{low_scalar}
-use Rattle.std.proofs.lemmas.Bool.{agree_below_at, cases_Bool, cond-false, and_parts, and_from, or_cases, eqb-true, eqb-false, ne_eqb, or_parts, not-true, ltb-true, not-false, false_from_ne_true}
-use Rattle.std.proofs.lemmas.List.{append-nil, take-append-drop, drop-drop, length-drop, get_or-drop}
+use Rattle.std.proofs.lemmas.Bool.{agree_below_at, cases_Bool, cond-false, and_parts, and_from, or_cases, eqb-true, eqb-false, ne_eqb, or_parts, or_left, or_right, lt-ltb, not-true, ltb-true, not-false, false_from_ne_true}
+use Rattle.std.proofs.lemmas.Bool.Decides.{nat_tests}
+use Rattle.std.proofs.lemmas.List.{append-nil, take-append-drop, drop-drop, length-drop, get_or-drop, drop_all, map-append}
 use Rattle.std.proofs.lemmas.List.Folds.{list_all-append}
 use Rattle.std.proofs.lemmas.List.Sums.{prefix_len_stops}
 use Rattle.std.proofs.lemmas.Str.{encode_ascii, IsUtf8-take, IsUtf8-drop, IsCharBoundary-from_rest}
 use Rattle.uri_pct.specs.Chunks.{widest_set}
-use Rattle.uri_pct.specs.Pieces.{WellFormed}
+use Rattle.uri_pct.specs.Parts.{Read}
+use Rattle.uri_pct.specs.Pieces.{WellFormed, utf8_pieces}
 use Rattle.uri_pct.specs.Reading.{LacksPastAscii, is_readable, read_alone, read_piece, read_run, read_from, read_tokens, lower_token}
 use Rattle.uri_pct.specs.Sets.{TableSet, allows_past_ascii, is_unreserved}
 use Rattle.uri_pct.specs.Texts.{lacks}
@@ -24,9 +26,10 @@ use Rattle.uri_pct.proofs.Readings.Octets.{read-alone}
 use Rattle.uri_pct.proofs.Unicode.CharacterPieces.{utf8_pieces-encode_first, char_of-encode}
 use Rattle.uri_pct.proofs.Unicode.Pieces.{take_two}
 use Rattle.uri_pct.proofs.ValidTexts.Allowed.{past_ascii_scalar}
-use Rattle.uri_ops.specs.Models.Readings.{IsFront, IsKeptOctet, cased, cased_append, cased_text, text_read}
+use Rattle.uri_ops.specs.Models.Readings.{IsFront, read_parts, cased, cased_append, cased_text}
+use Rattle.uri_ops.specs.Models.Readings.{text_read}
 use Rattle.uri_ops.proofs.Meanings.Cased.{print_cased}
-use Rattle.uri_ops.proofs.Meanings.ReadParts.{no_run}
+use Rattle.uri_ops.proofs.Meanings.ReadParts.{no_run, parts_of_run}
 
 -- characters
 read_chars : (set : TableSet) (cs : List ℕ) (us : List Token) → read_tokens set (map Char cs ++ us) ≡ map Char cs ++ read_tokens set us
@@ -74,6 +77,19 @@ ascii_octet set b us low =
     ∙ from_first set b [] us (low_scalar b (omega arith))
     ∙ ap (λ ts. ts ++ read_from set [] us) (ascii_piece set b low)
 
+-- the same octet as a part
+pub ascii_part : (lowers : Bool) (set : TableSet) (b : ℕ) → b < 128
+    → print (cased lowers (read_parts set (map Read (utf8_pieces (b ∷ [])))))
+    ≡ print (cased lowers (read_alone (Octet b) ∷ []))
+unfolding read_run
+ascii_part lowers set b low =
+    let spelt : encode_utf8 b ++ [] ≡ b ∷ [] = append-nil (encode_utf8 b) ∙ encode_ascii b low in
+    let piece = read_piece set (WellFormed (encode_utf8 b)) in
+    ap (λ ts. print (cased lowers ts))
+    (parts_of_run set (utf8_pieces (b ∷ [])) ∙ ap (read_run set) (sym spelt)
+    ∙ run_first set b [] (low_scalar b (omega arith)) ∙ ap (λ ts. piece ++ ts) (no_run set)
+    ∙ append-nil piece ∙ ascii_piece set b low)
+
 -- any octet, where the set has no characters past ASCII
 tokens_alone : (set : TableSet) (text : List ℕ) → LacksPastAscii set → read_tokens set (tokens text) ≡ map read_alone (tokens text)
 tokens_alone set text none =
@@ -118,13 +134,15 @@ upper_octet high low h l hu lu =
     let below : (16 * digit_value high + digit_value low) % 16 ≡ digit_value low = omega (arith, q.1) in
     rw (above, below) (ap (λ x. 37 ∷ x ∷ digit_glyph true (digit_value low) ∷ []) p.0 ∙ ap (λ x. 37 ∷ high ∷ x ∷ []) q.0)
 
-pub kept_octet : (set : TableSet) (text : List ℕ) (o : BeginsOctet text) (alone : Bool) → (alone ≡ true → LacksPastAscii set) → IsKeptOctet alone o.high o.low
-    → IsFront false set text 3
-kept_octet set text o alone none kept =
-    let octet = upper_octet o.high o.low o.high_digit o.low_digit kept.high_upper kept.low_upper in
-    octet_read false set text o alone none kept.by_itself
-    ∙ ap (λ t. (text_of_token t ++ []) ++ text_read false set o.behind) (cond-false _ _ _ kept.reserved)
-    ∙ ap (λ x. (x ++ []) ++ text_read false set o.behind) octet
+pub kept_octet : (set : TableSet) (text : List ℕ) (o : BeginsOctet text) (high low : ℕ) (alone : Bool) → high ≡ o.high → low ≡ o.low → (ltb high 97 && ltb low 97) ≡ true
+    → is_unreserved (first_value o) ≡ false → (alone ≡ true → LacksPastAscii set) → (alone || ltb (first_value o) 128) ≡ true → IsFront false set text 3
+kept_octet set text o high low alone is_high is_low upper reserved none itself =
+    let p = and_parts (ltb high 97) (ltb low 97) upper in
+    let above : o.high < 97 = subst (λ h. h < 97) is_high (ltb-true high 97 p.0) in
+    let below : o.low < 97 = subst (λ l. l < 97) is_low (ltb-true low 97 p.1) in
+    octet_read false set text o alone none itself
+    ∙ ap (λ t. (text_of_token t ++ []) ++ text_read false set o.behind) (cond-false _ _ _ reserved)
+    ∙ ap (λ x. (x ++ []) ++ text_read false set o.behind) (upper_octet o.high o.low o.high_digit o.low_digit above below)
     ∙ sym (ap (λ x. take 3 x ++ text_read false set (drop 3 x)) o.spelt)
 
 -- characters at the front of a text
@@ -153,11 +171,7 @@ before_passes p (x ∷ xs) =
 pub record PlainFront (text : List ℕ) (n : ℕ) : Type 0 where
   pub boundary : IsCharBoundary text n
   pub valid : IsValidFor widest_set (drop n text)
-  pub stop : n < length text → get_or text n 0 ≡ 37
   pub front : (lowers : Bool) (set : TableSet) → IsFront lowers set text n
-
-percent_at : (text : List ℕ) → first_percent text < length text → get_or text (first_percent text) 0 ≡ 37
-percent_at text h = eqb-true _ 37 (not-false _ (prefix_len_stops (λ b. not (eqb b 37)) text 0 h))
 
 pub plain_front : (text : List ℕ) (n : ℕ) → IsUtf8 text → IsValidFor widest_set text → n ≡ first_percent text → PlainFront text n
 plain_front text n u v e =
@@ -168,19 +182,45 @@ plain_front text n u v e =
     record {
       boundary = boundary;
       valid = plain_valid (take n text) (drop n text) utf8 plain (subst (IsValidFor widest_set) (sym whole) v);
-      stop = subst (λ k. k < length text → get_or text k 0 ≡ 37) (sym e) (percent_at text);
       front = λ lowers set. ap (text_read lowers set) (sym whole) ∙ plain_read lowers set (take n text) (drop n text) utf8 plain;
     }
 
 -- a front of what stands behind a front
-pub no_front : (set : TableSet) (text : List ℕ) → IsFront false set text 0
-no_front set text = refl
+cased_parts : (lowers : Bool) (xs ys : List ℕ) → cased_text lowers (xs ++ ys) ≡ cased_text lowers xs ++ cased_text lowers ys
+cased_parts true xs ys = map-append to_ascii_lowercase xs ys
+cased_parts false xs ys = refl
 
-pub longer_front : (set : TableSet) (text : List ℕ) (n m : ℕ) → IsFront false set text n → IsFront false set (drop n text) m → IsFront false set text (n + m)
-longer_front set text n m first next =
-    let behind = text_read false set (drop m (drop n text)) in
-    first ∙ ap (λ x. take n text ++ x) next ∙ sym (append_assoc (take n text) (take m (drop n text)) behind)
-    ∙ ap (λ x. x ++ behind) (take_two n m text) ∙ ap (λ x. take (n + m) text ++ text_read false set x) (drop-drop m n text)
+pub no_front : (lowers : Bool) (set : TableSet) (text : List ℕ) → IsFront lowers set text 0
+no_front true set text = refl
+no_front false set text = refl
+
+longer_front : (lowers : Bool) (set : TableSet) (text : List ℕ) (n m : ℕ) → IsFront lowers set text n → IsFront lowers set (drop n text) m → IsFront lowers set text (n + m)
+longer_front lowers set text n m first next =
+    let front = take n text in
+    let more = take m (drop n text) in
+    let behind = text_read lowers set (drop m (drop n text)) in
+    first ∙ ap (λ x. cased_text lowers front ++ x) next ∙ sym (append_assoc (cased_text lowers front) (cased_text lowers more) behind)
+    ∙ ap (λ x. x ++ behind) (sym (cased_parts lowers front more))
+    ∙ ap (λ x. cased_text lowers x ++ behind) (take_two n m text) ∙ ap (λ x. cased_text lowers (take (n + m) text) ++ text_read lowers set x) (drop-drop m n text)
+
+-- of a text of which a part is done
+between : (text : List ℕ) (done end : ℕ) → done ≤ end → drop (end - done) (drop done text) ≡ drop end text
+between text done end order = drop-drop (end - done) done text ∙ ap (λ k. drop k text) (omega arith)
+
+pub front_more : (lowers : Bool) (set : TableSet) (text : List ℕ) (done end m : ℕ) → done ≤ end → IsFront lowers set (drop done text) (end - done) → IsFront lowers set (drop end text) m
+    → IsFront lowers set (drop done text) (end + m - done)
+front_more lowers set text done end m order first next =
+    let count : end - done + m ≡ end + m - done = omega arith in
+    subst (IsFront lowers set (drop done text)) count
+    (longer_front lowers set (drop done text) (end - done) m first (subst (λ x. IsFront lowers set x m) (sym (between text done end order)) next))
+
+pub front_written : (lowers : Bool) (set : TableSet) (text out new whole : List ℕ) (done end : ℕ) → done ≤ end → IsFront lowers set (drop done text) (end - done)
+    → new ≡ out ++ cased_text lowers (take (end - done) (drop done text)) → out ++ text_read lowers set (drop done text) ≡ whole → new ++ text_read lowers set (drop end text) ≡ whole
+front_written lowers set text out new whole done end order front pushed total =
+    let written = cased_text lowers (take (end - done) (drop done text)) in
+    let behind = text_read lowers set (drop end text) in
+    let split : text_read lowers set (drop done text) ≡ written ++ behind = front ∙ ap (λ x. written ++ text_read lowers set x) (between text done end order) in
+    ap (λ x. x ++ behind) pushed ∙ append_assoc out written behind ∙ ap (λ x. out ++ x) (sym split) ∙ total
 
 pub behind_front : (text : List ℕ) (n m : ℕ) → IsValidFor widest_set (drop m (drop n text)) → IsValidFor widest_set (drop (n + m) text)
 behind_front text n m v = subst (IsValidFor widest_set) (drop-drop m n text) v
@@ -198,7 +238,11 @@ pub record OctetAt (bytes text : List ℕ) (i : ℕ) : Type 0 where
   pub within : i + 2 < length bytes
   pub high : get_or bytes (i + 1) 0 ≡ octet.high
   pub low : get_or bytes (i + 2) 0 ≡ octet.low
+  pub high_digit : is_ascii_hexdigit (get_or bytes (i + 1) 0) ≡ true
+  pub low_digit : is_ascii_hexdigit (get_or bytes (i + 2) 0) ≡ true
+  pub value : 16 * digit_value (get_or bytes (i + 1) 0) + digit_value (get_or bytes (i + 2) 0) ≡ first_value octet
   pub boundary : IsCharBoundary text (i + 3)
+  pub behind : drop (i + 3) text ≡ octet.behind
   pub valid : IsValidFor widest_set (drop (i + 3) text)
 
 pub octet_at : (bytes text : List ℕ) (i : ℕ) → bytes ≡ text → IsUtf8 text → IsCharBoundary text i → IsValidFor widest_set (drop i text) → i < length bytes → get_or bytes i 0 ≡ 37
@@ -213,60 +257,59 @@ octet_at bytes text i same u b v inside percent =
     let o = octet_of_bytes rest rest refl utf8 v (ne_eqb (length rest) 0 (λ e. omega (arith, long, lengths))) first in
     let three = octet_length rest o in
     let digits = digits_of rest o in
+    let high : get_or bytes (i + 1) 0 ≡ o.high = sym (at 1) ∙ digits.0 in
+    let low : get_or bytes (i + 2) 0 ≡ o.low = sym (at 2) ∙ digits.1.0 in
+    let behind : drop (i + 3) text ≡ o.behind = sym (drop-drop 3 i text) ∙ digits.1.1 in
     record {
       octet = o;
       within = omega (arith, long, lengths, three);
-      high = sym (at 1) ∙ digits.0;
-      low = sym (at 2) ∙ digits.1.0;
+      high = high;
+      low = low;
+      high_digit = ap is_ascii_hexdigit high ∙ o.high_digit;
+      low_digit = ap is_ascii_hexdigit low ∙ o.low_digit;
+      value = ap (λ h. 16 * digit_value h + digit_value (get_or bytes (i + 2) 0)) high ∙ ap (λ l. 16 * digit_value o.high + digit_value l) low;
       boundary = IsCharBoundary-from_rest text i 3 (omega (arith, inside, lengths)) (octet_boundary rest utf8 o);
-      valid = behind_front text i 3 (subst (IsValidFor widest_set) (sym digits.1.1) o.valid);
+      behind = behind;
+      valid = subst (IsValidFor widest_set) (sym behind) o.valid;
     }
 
--- an octet where no front is left, by the text's bytes
-pub record FirstOctet (bytes text : List ℕ) : Type 0 where
-  pub octet : BeginsOctet text
-  pub long : 3 ≤ length bytes
-  pub high : is_ascii_hexdigit (get_or bytes 1 0) ≡ true
-  pub low : is_ascii_hexdigit (get_or bytes 2 0) ≡ true
-  pub value : 16 * digit_value (get_or bytes 1 0) + digit_value (get_or bytes 2 0) ≡ first_value octet
-  pub boundary : IsCharBoundary text 3
-  pub behind : drop 3 text ≡ octet.behind
-
-pub first_octet : (bytes text : List ℕ) (n : ℕ) → bytes ≡ text → IsUtf8 bytes → IsValidFor widest_set text → eqb (length text) 0 ≡ false → n ≤ 0 → (n < length text → get_or text n 0 ≡ 37) → FirstOctet bytes text
-first_octet bytes text n same u v some none stop =
-    let zero_front : n ≡ 0 = omega (arith, none) in
-    let first : get_or text 0 0 ≡ 37 = subst (λ k. k < length text → get_or text k 0 ≡ 37) zero_front stop (omega (arith, eqb-false (length text) 0 some)) in
-    let o = octet_of_bytes bytes text same u v (ap (λ x. eqb (length x) 0) same ∙ some) (ap (λ x. get_or x 0 0) same ∙ first) in
-    let three = octet_length text o in
-    let lengths : length bytes ≡ length text = ap length same in
-    let digits = digits_of text o in
-    let high : get_or bytes 1 0 ≡ o.high = ap (λ x. get_or x 1 0) same ∙ digits.0 in
-    let low : get_or bytes 2 0 ≡ o.low = ap (λ x. get_or x 2 0) same ∙ digits.1.0 in
-    record {
-      octet = o;
-      long = omega (arith, three, lengths);
-      high = ap is_ascii_hexdigit high ∙ o.high_digit;
-      low = ap is_ascii_hexdigit low ∙ o.low_digit;
-      value = ap (λ h. 16 * digit_value h + digit_value (get_or bytes 2 0)) high ∙ ap (λ l. 16 * digit_value o.high + digit_value l) low;
-      boundary = octet_boundary text (subst IsUtf8 same u) o;
-      behind = digits.1.1;
-    }
-
-pub octet_step : (lowers : Bool) (set : TableSet) (out new whole rest behind : List ℕ) (value : ℕ) (o : BeginsOctet rest) (alone : Bool) → (alone ≡ true → LacksPastAscii set) → (alone || ltb value 128) ≡ true
+pub octet_step : (lowers : Bool) (set : TableSet) (out new whole rest behind : List ℕ) (value : ℕ) (o : BeginsOctet rest) (alone : Bool) → (alone ≡ true → LacksPastAscii set) → (alone || ltb (first_value o) 128) ≡ true
     → value ≡ first_value o → behind ≡ o.behind → new ≡ out ++ print (cased lowers (read_alone (Octet value) ∷ [])) → out ++ text_read lowers set rest ≡ whole → new ++ text_read lowers set behind ≡ whole
 octet_step lowers set out new whole rest behind value o alone none itself same after pushed total =
     let read = print (cased lowers (read_alone (Octet value) ∷ [])) in
     let split : text_read lowers set rest ≡ read ++ text_read lowers set behind =
-    octet_read lowers set rest o alone none (ap (λ v. alone || ltb v 128) (sym same) ∙ itself)
+    octet_read lowers set rest o alone none itself
     ∙ ap (λ v. print (cased lowers (read_alone (Octet v) ∷ [])) ++ text_read lowers set o.behind) (sym same)
     ∙ ap (λ x. read ++ text_read lowers set x) (sym after) in
     ap (λ x. x ++ text_read lowers set behind) pushed ∙ append_assoc out read (text_read lowers set behind) ∙ ap (λ x. out ++ x) (sym split) ∙ total
+
+-- an octet is read by itself where all are, or where its first digit is below 8
+low_octet : (high low : ℕ) → is_ascii_hexdigit high ≡ true → is_ascii_hexdigit low ≡ true → high < 56 → 16 * digit_value high + digit_value low < 128
+low_octet high low h l small = grind (arith, nat_tests)
+
+pub by_itself : (bytes text : List ℕ) (i : ℕ) (at : OctetAt bytes text i) (alone : Bool) → (alone ≡ true) ⊎ (get_or bytes (i + 1) 0 < 56) → (alone || ltb (first_value at.octet) 128) ≡ true
+by_itself bytes text i at alone either = ⊎_elim
+    (λ a. or_left alone (ltb (first_value at.octet) 128) a)
+    (λ small.
+    let low = low_octet (get_or bytes (i + 1) 0) (get_or bytes (i + 2) 0) at.high_digit at.low_digit small in
+    or_right alone (ltb (first_value at.octet) 128) (lt-ltb (first_value at.octet) 128 (subst (λ v. v < 128) at.value low)))
+    either
 
 -- the flags of a set without characters past ASCII
 pub lacks_past_ascii : (set : TableSet) (some : Bool) → some ≡ (set.ucschar || set.iprivate) → not some ≡ true → LacksPastAscii set
 lacks_past_ascii set some e none = or_parts set.ucschar set.iprivate (sym e ∙ not-true some none)
 
-pub nothing_read : (lowers : Bool) (set : TableSet) → text_read lowers set [] ≡ []
+nothing_read : (lowers : Bool) (set : TableSet) → text_read lowers set [] ≡ []
 unfolding tokens_of chars read_from
 nothing_read true set = ap (λ ts. print (map lower_token ts)) (no_run set)
 nothing_read false set = ap print (no_run set)
+
+-- what is left to write at the end
+pub all_written : (lowers : Bool) (set : TableSet) (text out new whole : List ℕ) (done end : ℕ) → done ≤ end → length text ≤ end → IsFront lowers set (drop done text) (end - done)
+    → new ≡ out ++ cased_text lowers (drop done text) → out ++ text_read lowers set (drop done text) ≡ whole → new ≡ whole
+all_written lowers set text out new whole done end order over front pushed total =
+    let rest = drop done text in
+    let all : take (end - done) rest ≡ rest = take_all (end - done) rest (omega (arith, length-drop done text)) in
+    let none : drop end text ≡ [] = drop_all end text over in
+    sym (append-nil new) ∙ ap (λ x. new ++ x) (sym (nothing_read lowers set)) ∙ ap (λ x. new ++ text_read lowers set x) (sym none)
+    ∙ front_written lowers set text out new whole done end order front (pushed ∙ ap (λ x. out ++ cased_text lowers x) (sym all)) total

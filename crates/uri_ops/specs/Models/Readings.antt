@@ -1,6 +1,5 @@
 -- What the parts of a component leave in the reading that takes them, one part after the other.
-use Rattle.std.specs.Prelude.{◌+◌, ◌*◌, ◌<◌, ◌||◌, nat_lt, take, drop, if◌then◌else◌}
-use Rattle.std.specs.Char.{digit_value}
+use Rattle.std.specs.Prelude.{take, drop, if◌then◌else◌}
 use Rattle.std.proofs.Common.{◌≡◌, ℕ, Bool, true, false, List, [], ◌++◌, map, refl, sym, ap, ◌∙◌}
 use Rattle.std.proofs.Common.{append_assoc, string_bytes}
 use Rattle.std.specs.List.{flat_map}
@@ -9,7 +8,7 @@ use Rattle.std.proofs.lemmas.List.{append-nil, map-append}
 use Rattle.std.proofs.lemmas.List.Concat.{flat_map-append}
 use Rattle.uri_pct.specs.Parts.{Part, Plain, Read}
 use Rattle.uri_pct.specs.Reading.{read_piece, read_tokens, lower_token}
-use Rattle.uri_pct.specs.Sets.{TableSet, is_unreserved}
+use Rattle.uri_pct.specs.Sets.{TableSet}
 use Rattle.uri_pct.specs.Tables.{set_of}
 use Rattle.uri_pct.specs.Tokens.{Token, Char, text_of_token, tokens, print}
 use Rattle.uri_ops.specs.declared.reading.Reading.{Reading}
@@ -39,14 +38,6 @@ abbrev pub IsFront : Bool → TableSet → List ℕ → ℕ → Type 0
 IsFront lowers set text n =
     text_read lowers set text
     ≡ cased_text lowers (take n text) ++ text_read lowers set (drop n text)
-
--- digits in upper case of an octet that is no unreserved character, and of ASCII unless all octets
--- are read alone
-pub record IsKeptOctet (alone : Bool) (high low : ℕ) : Type 0 where
-  pub high_upper : high < 97
-  pub low_upper : low < 97
-  pub reserved : is_unreserved (16 * digit_value high + digit_value low) ≡ false
-  pub by_itself : (alone || nat_lt (16 * digit_value high + digit_value low) 128) ≡ true
 
 -- the reading grew by what is read of the parts
 pub record TookReading (s : Reading) (ps : List Part) (t : Reading) : Type 0 where
