@@ -49,6 +49,17 @@ pub(crate) fn are_upper(high: u8, low: u8) -> bool
     high < b'a' && low < b'a'
 }
 
+/// Appends the text. An empty one costs no call.
+#[inline(always)]
+pub(crate) fn push_some(text: &str, out: &mut String) -> Result<(), AllocError>
+    ensures { OnOk result (Pushes out.old out.new text.now) }
+{
+    if text.is_empty() {
+        return Ok(());
+    }
+    out.push_str(text)
+}
+
 /// Appends the text, with its letters lowered where that is asked. An empty one costs no call.
 #[inline(always)]
 pub(crate) fn push_plain(

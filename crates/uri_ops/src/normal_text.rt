@@ -1,5 +1,5 @@
 //! The normal text of a value (RFC 3986, section 6.2.2; RFC 3987, section 5.3.2).
-ghost use Rattle.std.specs.Prelude.{◌≡◌, ◌+◌, ◌++◌, ℕ, List, Option, [], IfOk, OnOk, codes};
+ghost use Rattle.std.specs.Prelude.{◌≡◌, ◌+◌, ◌<◌, ◌++◌, ◌∷◌, ℕ, List, Option, [], IfOk, OnOk, codes};
 ghost use Rattle.std.specs.Prelude.{is_some, length, option_map, string_bytes, true};
 ghost use Rattle.uri_pct.specs.EStrs.{text_of};
 ghost use Rattle.uri_pct.specs.Reading.{read};
@@ -22,6 +22,7 @@ ghost use Rattle.uri_ops.specs.Models.Written.{parts_at, written_at};
 
 use crate::default_port::DefaultPort;
 use crate::dot_segments::{may_have_dot_segments, push_without_dot_segments};
+use crate::fronts::push_some;
 use crate::normal_authority::push_authority;
 use crate::reading::{push_component, push_lower, push_read};
 use crate::slashes::begins_with_two_slashes;
@@ -78,7 +79,8 @@ fn push_marked_authority<U: Encoder, R: Encoder, P: DefaultPort>(
     let Some(authority) = authority else {
         return Ok(None);
     };
-    out.push_str("//")?;
+    out.push('/')?;
+    out.push('/')?;
     let places = push_authority(alloc, authority, scheme, ports, out)?;
     Ok(Some(places))
 }
@@ -86,20 +88,21 @@ fn push_marked_authority<U: Encoder, R: Encoder, P: DefaultPort>(
 /// Appends what is read of a query or a fragment, behind its mark, and answers where it ends.
 fn push_marked<E: Encoder>(
     alloc: Global,
-    mark: &str,
+    mark: char,
     part: Option<EStr<'_, E>>,
     out: &mut String,
 ) -> Result<Option<usize>, AllocError>
+    requires { mark < 128 }
     ensures text { OnOk result (Pushes out.old out.new
-        (marked mark.now (normal_part E.set (option_map text_of part.entry)) [])) }
+        (marked (mark ∷ []) (normal_part E.set (option_map text_of part.entry)) [])) }
     ensures end { IfOk result (λ end. end
-        ≡ option_map (λ s. length (string_bytes out.old) + length mark.now + length s)
+        ≡ option_map (λ s. length (string_bytes out.old) + 1 + length s)
         (normal_part E.set (option_map text_of part.entry))) }
 {
     let Some(part) = part else {
         return Ok(None);
     };
-    out.push_str(mark)?;
+    out.push(mark)?;
     push_component(alloc, part, out)?;
     Ok(Some(out.len()))
 }
@@ -129,7 +132,7 @@ fn push_guarded<E: Encoder>(
     ensures { (authority : Option (List ℕ)) → is_some authority ≡ follows_authority
         → OnOk result (Pushes out.old out.new (guarded authority (print (read E.set path.now)))) }
 {
-    out.push_str(guard_before(follows_authority, path))?;
+    push_some(guard_before(follows_authority, path), out)?;
     push_read(alloc, &E::table(), path, out)
 }
 
@@ -231,8 +234,8 @@ pub fn push_normal<K: Kind, P: DefaultPort>(
     let path = core.path();
     let underflows = push_path(alloc, core.has_scheme(), core.has_authority(), path, out)?;
     let path_end = out.len();
-    let query_end = push_marked(alloc, "?", core.query(), out)?;
-    push_marked(alloc, "#", core.fragment(), out)?;
+    let query_end = push_marked(alloc, '?', core.query(), out)?;
+    push_marked(alloc, '#', core.fragment(), out)?;
     let positions = Positions {
         scheme_end,
         authority,

@@ -68,7 +68,7 @@ impl TakeParts for Reading {
 fn encodes_formatting(table: &Table) -> bool
     ensures { result ≡ ((set_of table.now).ucschar && (set_of table.now).pct_encoded) }
 {
-    table.allows('\u{200E}') && table.allows_pct_encoded()
+    table.allows_some_past_ascii() && table.allows('\u{200E}') && table.allows_pct_encoded()
 }
 
 /// Appends what is read of the parts of the text, with its letters lowered where that is asked.
