@@ -5,7 +5,8 @@ ghost use Rattle.std.specs.Str.{IsCharBoundary};
 ghost use Rattle.uri_parts.specs.Appending.{Pushes};
 ghost use Rattle.uri_parts.specs.Components.{IsRooted};
 ghost use Rattle.uri_ops.specs.Models.Directories.{IsClosed, IsPlainDirectory, parent_directory};
-ghost use Rattle.uri_ops.specs.Models.LeadingSegments.{IsLeading, IsPart, begins_with_dot};
+ghost use Rattle.uri_ops.specs.Models.LeadingSegments.{IsBeforeDots, IsLeading, IsPart};
+ghost use Rattle.uri_ops.specs.Models.LeadingSegments.{begins_with_dot};
 ghost use Rattle.uri_ops.specs.Models.Places.{IsSlashOrAt};
 ghost use Rattle.uri_ops.specs.Dots.{EndsInSlash, IsAbsolute, before_last_slash, directory, has_slash};
 ghost use Rattle.uri_ops.specs.Dots.{is_double_dot, is_empty, is_single_dot, lacks_dot_segments};
@@ -83,6 +84,26 @@ fn is_dot_start(byte: u8) -> bool
     byte == b'.' || byte == b'%'
 }
 
+/// How far a text reads up to the first `/` that has a dot or an octet behind it, and with it.
+///
+/// The last window begins so that it ends with the text: what is read twice has no such `/`.
+fn long_plain_len(bytes: &[u8]) -> usize
+    requires { LANES < length bytes.now }
+    ensures { IsBeforeDots bytes.now result }
+{
+    let last = bytes.len() - LANES - 1;
+    let mut i = 0;
+    while i < last {
+        let plain = length_before_dots(bytes, i);
+        if plain < LANES {
+            return i + plain + 1;
+        }
+        i += LANES;
+    }
+    let plain = length_before_dots(bytes, last);
+    last + plain + 1
+}
+
 /// How far a path reads before a segment that begins with a dot or an octet, as each dot segment
 /// does.
 fn plain_len(path: &str) -> usize
@@ -95,14 +116,10 @@ fn plain_len(path: &str) -> usize
     if begins_with_dot(bytes) {
         return 0;
     }
-    let mut i = 0;
-    while bytes.len() - i > LANES {
-        let plain = length_before_dots(bytes, i);
-        if plain < LANES {
-            return i + plain + 1;
-        }
-        i += LANES;
+    if bytes.len() > LANES {
+        return long_plain_len(bytes);
     }
+    let mut i = 0;
     while i + 1 < bytes.len() {
         if bytes[i] == b'/' && is_dot_start(bytes[i + 1]) {
             return i + 1;

@@ -9,7 +9,7 @@ ghost use Rattle.uri_parts.specs.Appending.{Pushes};
 ghost use Rattle.uri_ops.specs.Models.Readings.{cased, cased_text};
 
 use crate::reading::push_lower;
-use std::alloc::{AllocError, Global};
+use std::alloc::AllocError;
 use uri_pct::octet::{octet_value, pct_encoded};
 
 /// Whether the character is unreserved (RFC 3986, section 2.3).
@@ -62,19 +62,14 @@ pub(crate) fn push_some(text: &str, out: &mut String) -> Result<(), AllocError>
 
 /// Appends the text, with its letters lowered where that is asked. An empty one costs no call.
 #[inline(always)]
-pub(crate) fn push_plain(
-    alloc: Global,
-    lowers: bool,
-    text: &str,
-    out: &mut String,
-) -> Result<(), AllocError>
+pub(crate) fn push_plain(lowers: bool, text: &str, out: &mut String) -> Result<(), AllocError>
     ensures { OnOk result (Pushes out.old out.new (cased_text lowers text.now)) }
 {
     if text.is_empty() {
         return Ok(());
     }
     if lowers {
-        push_lower(alloc, text, out)
+        push_lower(text, out)
     } else {
         out.push_str(text)
     }

@@ -96,7 +96,7 @@ pub fn push_host<U: Encoder, R: Encoder>(
     }
     match authority.host_parsed() {
         HostOf::Ipv6(address) => write!(out, "[{address}]"),
-        _ => push_lower(alloc, host, out),
+        _ => push_lower(host, out),
     }
 }
 

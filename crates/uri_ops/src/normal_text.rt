@@ -35,11 +35,7 @@ use uri_pct::encoder::{Encoder, PathEncoder};
 use uri_pct::pct_enc::EStr;
 
 /// Appends the scheme in lower case, and its `:`, and answers where it ends.
-fn push_scheme(
-    alloc: Global,
-    scheme: Option<Scheme<'_>>,
-    out: &mut String,
-) -> Result<Option<usize>, AllocError>
+fn push_scheme(scheme: Option<Scheme<'_>>, out: &mut String) -> Result<Option<usize>, AllocError>
     ensures text { OnOk result (Pushes out.old out.new
         (marked [] (normal_scheme (option_map scheme_text scheme.entry)) (codes ":"))) }
     ensures end { IfOk result (λ end. end
@@ -49,7 +45,7 @@ fn push_scheme(
     let Some(scheme) = scheme else {
         return Ok(None);
     };
-    push_lower(alloc, scheme.as_str(), out)?;
+    push_lower(scheme.as_str(), out)?;
     let end = out.len();
     out.push(':')?;
     Ok(Some(end))
@@ -228,7 +224,7 @@ pub fn push_normal<K: Kind, P: DefaultPort>(
         IfOk result (λ written. written.1 ≡ path_underflows p.scheme p.path) }
 {
     let scheme = core.scheme();
-    let scheme_end = push_scheme(alloc, scheme, out)?;
+    let scheme_end = push_scheme(scheme, out)?;
     let authority = push_marked_authority(alloc, core.authority(), scheme, ports, out)?;
     let path_start = out.len();
     let path = core.path();

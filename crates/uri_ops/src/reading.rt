@@ -41,7 +41,7 @@ impl TakeParts for Reading {
     ghost takes_on = { took_on };
 
     fn take_unencoded(&mut self, text: &str) -> Result<(), AllocError> {
-        push_plain(self.alloc, self.lowers, text, &mut self.text)
+        push_plain(self.lowers, text, &mut self.text)
     }
 
     fn take_well_formed(&mut self, text: &str) -> Result<(), AllocError> {
@@ -97,9 +97,13 @@ fn push_parts(
     taken
 }
 
-/// Appends what is read of the tokens of the text, with its letters lowered where that is asked.
-/// Only an octet past ASCII of an IRI is not read by itself.
-fn push_tokens(
+/// Appends what is read of the tokens of the text, with its letters lowered where that is asked:
+/// runs of what is read as it stands, and between them what octets by themselves are read as. Only
+/// an octet past ASCII of an IRI is not read by itself.
+///
+/// It stands apart, since most texts have no octet.
+#[inline(never)]
+fn push_runs(
     alloc: Global,
     table: &Table,
     lowers: bool,
@@ -122,11 +126,11 @@ fn push_tokens(
         let high = bytes[end + 1];
         let low = bytes[end + 2];
         if high >= b'8' && !alone {
-            push_plain(alloc, lowers, &text[done..end], out)?;
+            push_plain(lowers, &text[done..end], out)?;
             return push_parts(alloc, table, lowers, &text[end..], out);
         }
         if let Some(ch) = spelt(high, low) {
-            push_plain(alloc, lowers, &text[done..end], out)?;
+            push_plain(lowers, &text[done..end], out)?;
             push_letter(lowers, ch, out)?;
             end += 3;
             done = end;
@@ -136,12 +140,30 @@ fn push_tokens(
             end += 3;
             continue;
         }
-        push_plain(alloc, lowers, &text[done..end], out)?;
+        push_plain(lowers, &text[done..end], out)?;
         push_octet(octet_value(high, low), out)?;
         end += 3;
         done = end;
     }
-    push_plain(alloc, lowers, &text[done..], out)
+    push_plain(lowers, &text[done..], out)
+}
+
+/// Appends what `push_runs` does. A text without octets is pushed at once.
+fn push_tokens(
+    alloc: Global,
+    table: &Table,
+    lowers: bool,
+    text: &str,
+    out: &mut String,
+) -> Result<(), AllocError>
+    requires { IsValidFor widest_set text.now }
+    ensures { OnOk result (Pushes out.old out.new
+        (print (cased lowers (read_tokens (set_of table.now) (tokens text.now))))) }
+{
+    if Decode::of_text(text).is_unencoded() {
+        return push_plain(lowers, text, out);
+    }
+    push_runs(alloc, table, lowers, text, out)
 }
 
 /// Appends what is read of the text, with its letters lowered where that is asked.
@@ -217,12 +239,21 @@ pub fn push_read_host(
 
 /// Appends the text with its ASCII letters in lower case.
 #[doc(hidden)]
-pub fn push_lower(alloc: Global, text: &str, out: &mut String) -> Result<(), AllocError>
+pub fn push_lower(text: &str, out: &mut String) -> Result<(), AllocError>
     ensures { OnOk result (Pushes out.old out.new (str_to_ascii_lowercase text.now)) }
 {
     if text.as_bytes().iter().any(|byte| byte.is_ascii_uppercase()) {
-        let lower = text.to_ascii_lowercase(alloc)?;
-        return out.push_str(&lower);
+        return push_lowered(text, out);
     }
     out.push_str(text)
+}
+
+/// Appends the text character by character, the ASCII letters in lower case.
+fn push_lowered(text: &str, out: &mut String) -> Result<(), AllocError>
+    ensures { OnOk result (Pushes out.old out.new (str_to_ascii_lowercase text.now)) }
+{
+    for ch in text.chars() {
+        out.push(ch.to_ascii_lowercase())?;
+    }
+    Ok(())
 }

@@ -41,7 +41,7 @@ high_char c h =
     let first : 128 ≤ w.first = subst (λ x. 128 ≤ slice_index x 0) (append-nil (encode_utf8 c) ∙ w.spelt) (lead c [] h) in
     ap (map to_ascii_lowercase) w.spelt ∙ ap (λ x. x ∷ map to_ascii_lowercase w.more) (past_same w.first first) ∙ ap (λ x. w.first ∷ x) (high_bytes w.more w.high) ∙ sym w.spelt
 
-lower_char : (c : ℕ) → encode_utf8 (to_ascii_lowercase c) ≡ map to_ascii_lowercase (encode_utf8 c)
+pub lower_char : (c : ℕ) → encode_utf8 (to_ascii_lowercase c) ≡ map to_ascii_lowercase (encode_utf8 c)
 lower_char c = ⊎_elim
     (λ h. encode_ascii (to_ascii_lowercase c) (lowercase_ascii c h) ∙ sym (ap (map to_ascii_lowercase) (encode_ascii c h)))
     (λ h. ap encode_utf8 (past_same c h) ∙ sym (high_char c h))

@@ -7,11 +7,10 @@ use Rattle.std.specs.Fmt.{digit_glyph}
 use Rattle.std.specs.Str.{chars, IsUtf8, IsCharBoundary}
 use Rattle.std.proofs.Math.Bool.{or-false}
 use Rattle.std.proofs.Math.Utf8.{low_scalar}
-use Rattle.std.proofs.lemmas.Bool.{agree_below_at, cases_Bool, cond-false, and_parts, and_from, or_cases, eqb-true, eqb-false, ne_eqb, or_parts, or_left, or_right, lt-ltb, not-true, ltb-true, not-false, false_from_ne_true}
+use Rattle.std.proofs.lemmas.Bool.{agree_below_at, cases_Bool, cond-false, and_parts, and_from, or_cases, eqb-true, ne_eqb, or_parts, or_left, or_right, lt-ltb, not-true, ltb-true, false_from_ne_true}
 use Rattle.std.proofs.lemmas.Bool.Decides.{nat_tests}
 use Rattle.std.proofs.lemmas.List.{append-nil, take-append-drop, drop-drop, length-drop, get_or-drop, drop_all, map-append}
 use Rattle.std.proofs.lemmas.List.Folds.{list_all-append}
-use Rattle.std.proofs.lemmas.List.Sums.{prefix_len_stops}
 use Rattle.std.proofs.lemmas.Str.{encode_ascii, IsUtf8-take, IsUtf8-drop, IsCharBoundary-from_rest}
 use Rattle.uri_pct.specs.Chunks.{widest_set}
 use Rattle.uri_pct.specs.Parts.{Read}
@@ -303,6 +302,12 @@ nothing_read : (lowers : Bool) (set : TableSet) → text_read lowers set [] ≡ 
 unfolding tokens_of chars read_from
 nothing_read true set = ap (λ ts. print (map lower_token ts)) (no_run set)
 nothing_read false set = ap print (no_run set)
+
+-- a text without octets
+pub unencoded_read : (lowers : Bool) (set : TableSet) (text : List ℕ) → IsUtf8 text → lacks 37 text ≡ true → text_read lowers set text ≡ cased_text lowers text
+unencoded_read lowers set text u e =
+    ap (text_read lowers set) (sym (append-nil text)) ∙ plain_read lowers set text [] u e
+    ∙ ap (λ x. cased_text lowers text ++ x) (nothing_read lowers set) ∙ append-nil (cased_text lowers text)
 
 -- what is left to write at the end
 pub all_written : (lowers : Bool) (set : TableSet) (text out new whole : List ℕ) (done end : ℕ) → done ≤ end → length text ≤ end → IsFront lowers set (drop done text) (end - done)

@@ -1,11 +1,15 @@
 -- A path in which neither `.` nor `%` stands first or behind a `/` has no dot segment.
-use Rattle.std.proofs.Common.{◌≡◌, ℕ, zero, suc, ◌+◌, ◌<◌, Bool, true, false, not, List, [], ◌∷◌, ◌++◌, length, take, get_or, refl, sym, ap, ◌∙◌, ◌&&◌, ◌||◌, arith}
+use Rattle.std.proofs.Common.{◌≤◌, ◌-◌, inl, inr, subst, drop, ⊎_elim, ◌≡◌, ℕ, zero, suc, ◌+◌, ◌<◌, Bool, true, false, not, List, [], ◌∷◌, ◌++◌, length, take, get_or, refl, sym, ap, ◌∙◌, ◌&&◌, ◌||◌, arith}
 use Rattle.std.specs.Prelude.{◌==◌}
 use Rattle.std.proofs.Math.Seq.{take-suc}
-use Rattle.std.proofs.lemmas.Bool.{and_from, or_from, or_parts}
+use Rattle.std.proofs.lemmas.List.{drop_all}
+use Rattle.std.proofs.lemmas.Str.{IsCharBoundary-after_ascii}
+use Rattle.std.specs.Str.{IsCharBoundary, IsUtf8}
+use Rattle.uri_ops.specs.Models.Directories.{IsClosed}
+use Rattle.std.proofs.lemmas.Bool.{cases_lt, and_from, or_from, or_parts}
 use Rattle.std.proofs.lemmas.Bool.Decides.{nat_tests}
 use Rattle.uri_ops.specs.Dots.{is_dot_segment, lacks_dot_segments, segments}
-use Rattle.uri_ops.specs.Models.LeadingSegments.{begins_with_dot}
+use Rattle.uri_ops.specs.Models.LeadingSegments.{IsBeforeDots, begins_at, begins_with_dot}
 use Rattle.uri_ops.proofs.Paths.Segments.{Passes, is_plain}
 use Rattle.uri_ops.proofs.Paths.SlashedSegments.{slashed, slashed_segments}
 
@@ -76,10 +80,6 @@ module _ (bytes : List ℕ) (i : ℕ) (within : i < length bytes) where
   pub next_ends : (get_or bytes i 0 == 47) ≡ ends_behind true (take (i + 1) bytes)
   next_ends = sym (ap (ends_behind true) (one_more bytes i within) ∙ ends_more true (take i bytes) (get_or bytes i 0))
 
--- a byte that a dot segment begins with stands behind a `/` at this place
-abbrev pub begins_at : List ℕ → ℕ → Bool
-begins_at bytes i = (get_or bytes i 0 == 47) && is_dot_start (get_or bytes (i + 1) 0)
-
 pub one_further : (bytes : List ℕ) (i : ℕ) → i + 1 < length bytes → dots_begin true (take (i + 1) bytes) ≡ false → begins_at bytes i ≡ false → dots_begin true (take (i + 1 + 1) bytes) ≡ false
 one_further bytes i within plain e =
     next_plain bytes (i + 1) within plain (ap (λ b. b && is_dot_start (get_or bytes (i + 1) 0)) (sym (next_ends bytes i (omega (arith, within)))) ∙ e)
@@ -95,3 +95,41 @@ pub first_plain : (bytes : List ℕ) → begins_with_dot bytes ≡ false → dot
 unfolding dots_begin
 first_plain [] e = refl
 first_plain (c ∷ rest) e = or_from (is_dot_start c) false e refl
+
+-- a window that begins no later than what was passed over ends
+pub in_window : (bytes : List ℕ) (i at n : ℕ) → at ≤ i → ((k : ℕ) → k < i → begins_at bytes k ≡ false) → ((k : ℕ) → k < n → begins_at bytes (at + k) ≡ false) → (k : ℕ) → k < at + n → begins_at bytes k ≡ false
+in_window bytes i at n from passed window k to = ⊎_elim
+    (λ (h : k < at). passed k (omega (arith, h, from)))
+    (λ (h : at ≤ k).
+    let place : k ≡ at + (k - at) = omega (arith, h) in
+    ap (begins_at bytes) place ∙ window (k - at) (omega (arith, h, to)))
+    (cases_lt k at)
+
+-- what is known of the text up to such a place
+module _ (bytes : List ℕ) (n : ℕ) (starts : begins_with_dot bytes ≡ false) (h : IsBeforeDots bytes n) where
+  pub lacks_before : lacks_dot_segments (take n bytes) ≡ true
+  lacks_before =
+      let some = h.some in
+      let within = h.within in
+      let end : 0 + (n - 1) + 1 ≡ n = omega (arith, some) in
+      ap (λ m. lacks_dot_segments (take m bytes)) (sym end)
+      ∙ lacks_from (take (0 + (n - 1) + 1) bytes) (some_further bytes 0 (n - 1) (omega (arith, some, within)) (first_plain bytes starts) (λ k to. ap (begins_at bytes) (omega arith) ∙ h.none k (omega (arith, to))))
+
+  pub closed_before : IsClosed (take n bytes) (drop n bytes)
+  closed_before = ⊎_elim
+      (λ (more : n < length bytes).
+      let some = h.some in
+      let end : n - 1 + 1 ≡ n = omega (arith, some) in
+      inr (take (n - 1) bytes, ap (λ m. take m bytes) (sym end) ∙ one_more bytes (n - 1) (omega (arith, more)) ∙ ap (λ c. take (n - 1) bytes ++ c ∷ []) (h.ends more)))
+      (λ (all : length bytes ≤ n). inl (drop_all n bytes all))
+      (cases_lt n (length bytes))
+
+  pub boundary_before : IsUtf8 bytes → IsCharBoundary bytes n
+  boundary_before u =
+      let some = h.some in
+      let within = h.within in
+      let end : n - 1 + 1 ≡ n = omega (arith, some) in
+      ⊎_elim
+      (λ (more : n < length bytes). subst (IsCharBoundary bytes) end (IsCharBoundary-after_ascii bytes (n - 1) u (omega (arith, more)) (omega (arith, h.ends more))))
+      (λ (all : length bytes ≤ n). (within, λ more. absurd (omega (arith, more, all))))
+      (cases_lt n (length bytes))

@@ -1,6 +1,8 @@
 -- What a path begins with: a dot segment, or segments that are none.
-use Rattle.std.specs.Prelude.{◌≡◌, ◌<◌, ◌||◌, ◌==◌, ℕ, Bool, true, false, List, [], ◌∷◌, take, drop}
+use Rattle.std.specs.Prelude.{◌≡◌, ◌<◌, ◌≤◌, ◌+◌, ◌-◌, ◌&&◌, ◌||◌, ◌==◌, ℕ, Bool, true, false}
+use Rattle.std.specs.Prelude.{List, [], ◌∷◌, length, take, drop, slice_index}
 use Rattle.std.specs.Str.{IsCharBoundary}
+use Rattle.uri_pct.specs.Delimiters.{slash}
 use Rattle.uri_parts.specs.Components.{IsRooted}
 use Rattle.uri_ops.specs.declared.dot_segments.Leading.{Leading}
 use Rattle.uri_ops.specs.declared.dot_segments.Leading.TheVariants.{SingleDot, DoubleDot, Plain}
@@ -11,6 +13,19 @@ use Rattle.uri_ops.specs.Models.Directories.{IsClosed}
 abbrev pub begins_with_dot : List ℕ → Bool
 begins_with_dot [] = false
 begins_with_dot (c ∷ rest) = c == 46 || c == 37
+
+-- a `/` stands at the place, and a dot or the `%` of an octet behind it
+abbrev pub begins_at : List ℕ → ℕ → Bool
+begins_at bytes k =
+    slice_index bytes k == slash
+    && (slice_index bytes (k + 1) == 46 || slice_index bytes (k + 1) == 37)
+
+-- the first n bytes end in the first such `/`, or are all
+pub record IsBeforeDots (bytes : List ℕ) (n : ℕ) : Type 0 where
+  pub some : 0 < n
+  pub within : n ≤ length bytes
+  pub none : (k : ℕ) → k + 1 < n → begins_at bytes k ≡ false
+  pub ends : n < length bytes → slice_index bytes (n - 1) ≡ slash
 
 -- the first segment passes a test, and n bytes are taken with the `/` behind it
 pub record IsFirst (test : List ℕ → Bool) (path : List ℕ) (n : ℕ) : Type 0 where

@@ -7,9 +7,3 @@ invariant-loop-i l = record { within : l.i ≤ length l.bytes; plain : dots_begi
 
 abbrev pub decreases-loop-i : goal.decreases-loop-i
 decreases-loop-i l = length l.bytes - l.i
-
-abbrev pub invariant-loop-i-2 : goal.invariant-loop-i-2
-invariant-loop-i-2 l = record { within : l.i ≤ length l.bytes; plain : dots_begin true (take (l.i + 1) l.bytes) ≡ false }
-
-abbrev pub decreases-loop-i-2 : goal.decreases-loop-i-2
-decreases-loop-i-2 l = length l.bytes - l.i

@@ -4,7 +4,7 @@ use Rattle.uri_pct.specs.Chunks.{widest_set}
 use Rattle.uri_pct.specs.Tables.{set_of}
 use Rattle.uri_pct.specs.Tokens.{IsValidFor}
 use Rattle.uri_ops.specs.Models.Readings.{IsFront, text_read}
-use Rattle.uri_ops.proofs.reading.push_tokens.Given as goal
+use Rattle.uri_ops.proofs.reading.push_runs.Given as goal
 
 abbrev pub invariant-loop-end : goal.invariant-loop-end
 invariant-loop-end l = record {
