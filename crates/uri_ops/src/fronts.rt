@@ -1,5 +1,5 @@
 //! Fronts of texts that are read as they stand (RFC 3986, sections 6.2.2.1 and 6.2.2.2).
-ghost use Rattle.std.specs.Prelude.{◌≡◌, ◌&&◌, ◌∷◌, ◌+◌, ◌*◌, [], Bool, IsTrue};
+ghost use Rattle.std.specs.Prelude.{◌≡◌, ◌<◌, ◌&&◌, ◌∷◌, ◌+◌, ◌*◌, [], Bool, IsTrue};
 ghost use Rattle.std.specs.Prelude.{MatchOption, OnOk, false, nat_lt, true};
 ghost use Rattle.std.specs.Char.{digit_value, is_ascii_hexdigit};
 ghost use Rattle.uri_pct.specs.Reading.{read_alone};
@@ -10,15 +10,19 @@ ghost use Rattle.uri_ops.specs.Models.Readings.{cased, cased_text};
 
 use crate::reading::push_lower;
 use std::alloc::AllocError;
+use uri_pct::lanes::has;
 use uri_pct::octet::{octet_value, pct_encoded};
+use uri_pct::table::UNRESERVED;
 
 /// Whether the character is unreserved (RFC 3986, section 2.3).
-#[tactic(auto, using(std::proofs::lemmas::Bool::Decides::nat_tests))]
+#[tactic(auto, using(uri_pct::proofs::TableSets::Constants::unreserved_table))]
 #[inline(always)]
 fn is_unreserved(byte: u8) -> bool
+    requires { byte < 128 }
     ensures { result ≡ is_unreserved byte }
 {
-    byte.is_ascii_alphanumeric() || matches!(byte, b'-' | b'.' | b'_' | b'~')
+    let (low, high) = UNRESERVED.masks();
+    has(low, high, byte)
 }
 
 /// The unreserved character that the octet with these digits spells, if it spells one.
@@ -28,7 +32,7 @@ pub(crate) fn spelt(high: u8, low: u8) -> Option<u8>
     requires low { IsTrue (is_ascii_hexdigit low) }
     ensures { let value = 16 * digit_value high + digit_value low in
         MatchOption result (is_unreserved value ≡ false)
-        (λ ch. (ch ≡ value) × (is_unreserved value ≡ true)) }
+        (λ ch. (ch ≡ value) × (is_unreserved value ≡ true) × (high < 56)) }
 {
     if high >= b'8' {
         return None;
@@ -101,6 +105,7 @@ pub(crate) fn push_octet(value: u8, out: &mut String) -> Result<(), AllocError>
 
 /// Appends what is read of an octet by itself, a letter lowered where that is asked.
 pub(crate) fn push_alone(lowers: bool, value: u8, out: &mut String) -> Result<(), AllocError>
+    requires { value < 128 }
     ensures { OnOk result
         (Pushes out.old out.new (print (cased lowers (read_alone (Octet value) ∷ [])))) }
 {

@@ -125,16 +125,16 @@ fn push_runs(
         }
         let high = bytes[end + 1];
         let low = bytes[end + 2];
-        if high >= b'8' && !alone {
-            push_plain(lowers, &text[done..end], out)?;
-            return push_parts(alloc, table, lowers, &text[end..], out);
-        }
         if let Some(ch) = spelt(high, low) {
             push_plain(lowers, &text[done..end], out)?;
             push_letter(lowers, ch, out)?;
             end += 3;
             done = end;
             continue;
+        }
+        if high >= b'8' && !alone {
+            push_plain(lowers, &text[done..end], out)?;
+            return push_parts(alloc, table, lowers, &text[end..], out);
         }
         if !lowers && are_upper(high, low) {
             end += 3;

@@ -81,10 +81,10 @@ returns-then-not-alone c =
     let set = set_of c.args.table.now in
     let out = string_bytes c.loop-end.out in
     let held = c.loop-end.invariant in
-    let pushed = c.in_ok-push_plain.ensures ∙ ap (λ x. out ++ cased_text lowers x) c.range.ensures.value in
-    let total = front_written lowers set text out (string_bytes c.push_plain.new.out) (string_bytes c.args.out.now ++ text_read lowers set text) c.loop-end.done c.loop-end.end held.order held.front pushed held.total in
+    let pushed = c.in_ok-push_plain-2.ensures ∙ ap (λ x. out ++ cased_text lowers x) c.range-then-not-alone.ensures.value in
+    let total = front_written lowers set text out (string_bytes c.push_plain-then-not-alone.new.out) (string_bytes c.args.out.now ++ text_read lowers set text) c.loop-end.done c.loop-end.end held.order held.front pushed held.total in
     on_ok_weaker c.push_parts.result
-    (λ read. read ∙ ap (λ x. string_bytes c.push_plain.new.out ++ text_read lowers set x) c.range_from-then-not-alone.ensures.value ∙ total)
+    (λ read. read ∙ ap (λ x. string_bytes c.push_plain-then-not-alone.new.out ++ text_read lowers set x) c.range_from-then-not-alone.ensures.value ∙ total)
     c.push_parts.ensures
 
 pub loop-end-preserved-in-Some : goal.loop-end-preserved-in-Some
@@ -95,13 +95,13 @@ loop-end-preserved-in-Some c =
     let alone = not c.allows_some_past_ascii-alone.result in
     let end = c.loop-end.end in
     let out = string_bytes c.loop-end.out in
-    let front = string_bytes c.push_plain-in-Some.new.out in
+    let front = string_bytes c.push_plain.new.out in
     let whole = string_bytes c.args.out.now ++ text_read lowers set text in
     let held = c.loop-end.invariant in
     let at = octet_at c.as_bytes-bytes.result.now c.args.text.now c.loop-end.end c.as_bytes-bytes.ensures.value c.utf8.text held.boundary held.valid c.loop-end-test.true c.if-bytes-end-ne37.false in
-    let pushed = c.in_ok-push_plain-2.ensures ∙ ap (λ x. out ++ cased_text lowers x) c.range-in-Some.ensures.value in
+    let pushed = c.in_ok-push_plain.ensures ∙ ap (λ x. out ++ cased_text lowers x) c.range.ensures.value in
     let total = front_written lowers set text out front whole c.loop-end.done end held.order held.front pushed held.total in
-    let either : (alone ≡ true) ⊎ (get_or c.as_bytes-bytes.result.now (end + 1) 0 < 56) = elim c.else-high-ge56.branch [ else-high-ge56-via-then-high-ge56+else-not-alone w ↦ inl (ap not w.if-not-alone.false) | else-high-ge56-via-else-high-ge56 w ↦ inr w.if-high-ge56.false ] in
+    let either : (alone ≡ true) ⊎ (get_or c.as_bytes-bytes.result.now (end + 1) 0 < 56) = inr c.in-Some.ensures.2 in
     let itself = by_itself c.as_bytes-bytes.result.now text end at alone either in
     let none = lacks_past_ascii set c.allows_some_past_ascii-alone.result c.allows_some_past_ascii-alone.ensures in
     let nothing : 0 ≡ end + 3 - (end + 3) = omega arith in
