@@ -129,13 +129,6 @@ fn plain_len(path: &str) -> usize
     bytes.len()
 }
 
-/// Whether a segment begins with a dot or an octet, as it does where there is a dot segment.
-pub(crate) fn may_have_dot_segments(path: &str) -> bool
-    ensures { result ≡ false → lacks_dot_segments path.now ≡ true }
-{
-    plain_len(path) < path.len()
-}
-
 /// How many bytes are looked at one by one before a segment's end is searched for: those of the
 /// longest dot segment, and the `/` behind it.
 const SHORT: usize = 7;
@@ -232,6 +225,22 @@ fn leading_part(path: &str) -> Leading
         return leading_segment(path);
     }
     Leading::Plain(plain_len(path))
+}
+
+/// Whether a path that begins with `/` has a dot segment (RFC 3986, section 3.3). A dot counts
+/// percent-encoded too.
+pub(crate) fn has_dot_segments(path: &str) -> bool
+    requires { IsAbsolute path.now }
+    ensures { result ≡ false → lacks_dot_segments path.now ≡ true }
+{
+    let mut done = 1;
+    while done < path.len() {
+        match leading_part(&path[done..]) {
+            Leading::Plain(next) => done += next,
+            Leading::SingleDot(_) | Leading::DoubleDot(_) => return true,
+        }
+    }
+    false
 }
 
 /// Appends the segments of a path to the directory that stands in `out` from `start` on, without

@@ -21,7 +21,7 @@ ghost use Rattle.uri_ops.specs.Target.{guarded};
 ghost use Rattle.uri_ops.specs.Models.Written.{parts_at, written_at};
 
 use crate::default_port::DefaultPort;
-use crate::dot_segments::{may_have_dot_segments, push_without_dot_segments};
+use crate::dot_segments::{has_dot_segments, push_without_dot_segments};
 use crate::fronts::push_some;
 use crate::normal_authority::push_authority;
 use crate::reading::{push_component, push_lower, push_read};
@@ -171,7 +171,7 @@ fn push_absolute<E: Encoder>(
         (guarded authority (print (read E.set (remove_dot_segments (text_of path.entry)))))) }
     ensures underflow { IfOk result (λ underflowed. underflowed ≡ underflows (text_of path.entry)) }
 {
-    if may_have_dot_segments(path.as_str()) {
+    if has_dot_segments(path.as_str()) {
         return push_cleaned(alloc, has_authority, path, out);
     }
     push_guarded::<E>(alloc, has_authority, path.as_str(), out)?;

@@ -1,15 +1,18 @@
 -- What is appended of a path without its dot segments, and of a reference's path behind the
 -- directory of a base's path.
-use Rattle.std.proofs.Common.{◌≡◌, ◌<◌, ◌≤◌, ℕ, zero, suc, Bool, true, false, List, [], ◌∷◌, ◌++◌, length, take, drop, sym, ap, subst, ◌∙◌, ◌||◌, inr, arith, ⊎_elim}
+use Rattle.std.proofs.Common.{◌≡◌, ◌<◌, ◌≤◌, ℕ, zero, suc, Bool, true, false, List, [], ◌∷◌, ◌++◌, length, take, drop, refl, sym, ap, subst, ◌∙◌, ◌||◌, inr, arith, ⊎_elim}
 use Rattle.std.proofs.Math.Seq.{take-length}
 use Rattle.std.proofs.lemmas.Bool.{eqb-true, false≢true}
 use Rattle.uri_pct.proofs.Tests.{true_of}
-use Rattle.std.specs.Prelude.{◌==◌}
+use Rattle.std.specs.Prelude.{◌==◌, codes}
+use Rattle.std.specs.Str.{IsUtf8, IsCharBoundary}
+use Rattle.std.proofs.lemmas.Str.{IsCharBoundary-after_ascii}
 use Rattle.std.proofs.lemmas.List.{length-drop, take-append-drop, take_at, drop_at}
 use Rattle.uri_ops.specs.Dots.{lacks_dot_segments, remove_dot_segments, underflows, directory, IsAbsolute, EndsInSlash}
 use Rattle.uri_ops.specs.Models.Directories.{IsClosed, IsPlainDirectory}
 use Rattle.uri_ops.specs.Models.LeadingSegments.{begins_with_dot}
 use Rattle.uri_ops.specs.Target.{merged}
+use Rattle.uri_ops.proofs.Paths.LeftPaths.{IsLeft}
 use Rattle.uri_ops.proofs.Paths.DotLaws.{directory_absolute, directory_ends, removed_absolute, removed_directory, removed_in_pieces, removed_lacks, removed_of_plain, underflows_in_pieces, underflows_of_plain}
 
 -- the first bytes of a path
@@ -21,6 +24,25 @@ absolute_take (c ∷ path) (suc n) h some = h
 pub absolute_start : (path : List ℕ) → IsAbsolute path → (begins_with_dot path ≡ false) × (0 < length path)
 absolute_start [] h = absurd (false≢true (true_of _ h))
 absolute_start (c ∷ path) h = (ap (λ b. b == 46 || b == 37) (eqb-true c 47 (true_of _ h)), omega arith)
+
+-- the root of an absolute path, and what stands behind it
+pub root_left : (path : List ℕ) → IsAbsolute path → IsLeft path (take 1 path) (drop 1 path) false
+root_left [] h = absurd (false≢true (true_of _ h))
+root_left (c ∷ path) h =
+    let root : c ∷ [] ≡ codes "/" = ap (λ b. b ∷ []) (eqb-true c 47 (true_of _ h)) in
+    record {
+      removed = refl;
+      underflow = refl;
+      absolute = h;
+      plain = ap lacks_dot_segments root;
+      closed = inr ([], root);
+    }
+
+pub root_place : (path : List ℕ) → IsUtf8 path → IsAbsolute path → IsCharBoundary path 1
+root_place [] u h = absurd (false≢true (true_of _ h))
+root_place (c ∷ path) u h =
+    let root = eqb-true c 47 (true_of _ h) in
+    IsCharBoundary-after_ascii (c ∷ path) 0 u (omega arith) (omega (arith, root))
 
 -- a path that is taken whole
 pub whole_plain : (path front : List ℕ) (n : ℕ) → IsAbsolute path → n ≡ length path → lacks_dot_segments (take n path) ≡ true → front ≡ take n path
