@@ -6,11 +6,13 @@ use Rattle.std.specs.Prelude.{Option, Some, None, IsTrue, IfSome, is_some, is_no
 pub true_of : (b : Bool) → IsTrue b → b ≡ true
 true_of b h = search rules
 
-pub each_some : (o : Option (List ℕ)) (P Q : List ℕ → Type 0) → ((x : List ℕ) → P x → Q x) → IfSome o P → IfSome o Q
+pub each_some : (o : Option (List ℕ)) (P Q : List ℕ → Type 0) → ((x : List ℕ) → P x → Q x)
+    → IfSome o P → IfSome o Q
 each_some None P Q f h = tt
 each_some (Some x) P Q f h = f x h
 
-pub both_some : (o : Option (List ℕ)) (P Q R : List ℕ → Type 0) → ((x : List ℕ) → P x → Q x → R x) → IfSome o P → IfSome o Q → IfSome o R
+pub both_some : (o : Option (List ℕ)) (P Q R : List ℕ → Type 0) → ((x : List ℕ) → P x → Q x → R x)
+    → IfSome o P → IfSome o Q → IfSome o R
 both_some None P Q R f p q = tt
 both_some (Some x) P Q R f p q = f x p q
 

@@ -1,12 +1,15 @@
 -- The texts of a kind whose sets have no characters past ASCII have none.
-use Rattle.std.proofs.Common.{◌≡◌, ℕ, zero, suc, ◌<◌, Bool, true, false, eqb, ltb, List, [], ◌∷◌, ◌++◌, take, refl, sym, ap, subst, ◌∙◌, arith, ◌&&◌, ⊎_elim}
+use Rattle.std.proofs.Common.{◌≡◌, ℕ, zero, suc, ◌<◌, Bool, true, false, eqb, ltb, List, [], ◌∷◌}
+use Rattle.std.proofs.Common.{◌++◌, take, refl, sym, ap, subst, ◌∙◌, arith, ◌&&◌, ⊎_elim}
 use Rattle.std.specs.Prelude.{codes, Option, Some, None, IfSome}
 use Rattle.std.specs.Char.{is_ascii_hexdigit, is_ascii_digit}
 use Rattle.std.specs.List.{list_all}
 use Rattle.std.specs.Str.{IsUtf8}
 use Rattle.std.proofs.lemmas.List.Folds.{list_all-append}
-use Rattle.std.proofs.lemmas.Bool.{cases_Bool, cases_lt, cond-true, cond-false, and_parts, and_from, lt-ltb, both_ways, eqb-true}
-use Rattle.uri_pct.specs.Sets.{TableSet, LacksPercent, allows_past_ascii, digit_set, is_userinfo_char}
+use Rattle.std.proofs.lemmas.Bool.{cases_Bool, cases_lt, cond-true, cond-false, and_parts, and_from}
+use Rattle.std.proofs.lemmas.Bool.{lt-ltb, both_ways, eqb-true}
+use Rattle.uri_pct.specs.Sets.{TableSet, LacksPercent, allows_past_ascii, digit_set}
+use Rattle.uri_pct.specs.Sets.{is_userinfo_char}
 use Rattle.uri_pct.specs.Tokens.{IsValidFor}
 use Rattle.uri_pct.specs.Models.Fronts.{allows_first, begins_hex, first_char}
 use Rattle.uri_pct.proofs.ValidTexts.Validity.{valid_from, is_valid_for-bytes, allows_first-past}
@@ -29,7 +32,8 @@ use Rattle.uri_ops.proofs.Meanings.AllowedParts.{is_part, part_utf8, part_valid}
 use Rattle.uri_ops.proofs.Meanings.TextParts.{AreParts}
 use Rattle.uri_pct.proofs.Tests.{each_some, both_some}
 use Rattle.uri_ops.proofs.Normal.NormalTexts.{parts_of}
-use Rattle.uri_ops.proofs.AsciiForms.EncodedAuthorities.{plain_ascii, bracketed_ascii, address_ascii, dotted_ascii}
+use Rattle.uri_ops.proofs.AsciiForms.EncodedAuthorities.{plain_ascii, bracketed_ascii}
+use Rattle.uri_ops.proofs.AsciiForms.EncodedAuthorities.{address_ascii, dotted_ascii}
 use Rattle.uri_ops.proofs.AsciiForms.EncodedMeanings.{scheme_plain}
 
 abbrev ascii : List ℕ → Bool
@@ -61,7 +65,8 @@ module _ (set : TableSet) where
   percent_below : (b : ℕ) → eqb b 37 ≡ true → b < 128
   percent_below b e = let d = eqb-true b 37 e in omega arith
 
-  valid_ascii : (skip : ℕ) (bs : List ℕ) → ascii (take skip bs) ≡ true → valid_from (ascii_set set) skip bs ≡ true → ascii bs ≡ true
+  valid_ascii : (skip : ℕ) (bs : List ℕ) → ascii (take skip bs) ≡ true
+      → valid_from (ascii_set set) skip bs ≡ true → ascii bs ≡ true
   unfolding valid_from
   valid_ascii skip [] t e = refl
   valid_ascii zero (b ∷ rest) t e = ⊎_elim
@@ -77,22 +82,27 @@ module _ (set : TableSet) where
       let p = and_parts (ltb b 128) (ascii (take k rest)) t in
       and_from _ _ p.0 (valid_ascii k rest p.1 e)
 
-  part_ascii : LacksPercent set → (text : List ℕ) → IsUtf8 text → IsValidFor (ascii_set set) text → ascii text ≡ true
+  part_ascii : LacksPercent set → (text : List ℕ) → IsUtf8 text → IsValidFor (ascii_set set) text
+      → ascii text ≡ true
   part_ascii lacks text u e = valid_ascii 0 text refl (sym (is_valid_for-bytes (ascii_set set) lacks text u) ∙ e)
 
 digits_ascii : (text : List ℕ) → IsUtf8 text → IsValidFor digit_set text → ascii text ≡ true
 digits_ascii text u e = plain_ascii is_ascii_digit text (sym (valid_plain is_ascii_digit refl text u) ∙ e)
 
-host_ascii : (names : TableSet) → LacksPercent names → (text : List ℕ) (h : HostKind) → IsUtf8 text → IsHost (ascii_set names) text h → ascii text ≡ true
-host_ascii names lacks text (Ipv6 segments) u (address, e, groups) = ap ascii e ∙ bracketed_ascii address (address_ascii address (address_text-ipv6 address segments groups))
+host_ascii : (names : TableSet) → LacksPercent names → (text : List ℕ) (h : HostKind) → IsUtf8 text
+    → IsHost (ascii_set names) text h → ascii text ≡ true
+host_ascii names lacks text (Ipv6 segments) u (address, e, groups) = ap ascii e
+    ∙ bracketed_ascii address (address_ascii address (address_text-ipv6 address segments groups))
 host_ascii names lacks text IpvFuture u (address, e, future) =
     let plain = plain_future address (utf8_bracketed address (subst IsUtf8 e u)) future in
-    ap ascii e ∙ bracketed_ascii address (plain_ascii is_userinfo_char address (future_chars address future plain))
+    ap ascii e
+    ∙ bracketed_ascii address (plain_ascii is_userinfo_char address (future_chars address future plain))
 host_ascii names lacks text (Ipv4 octets) u dotted = dotted_ascii text octets dotted
 host_ascii names lacks text RegName u (valid, other) = part_ascii names lacks text u valid
 
 -- a component that is absent or passes, with its marks
-marked_ascii : (before behind : List ℕ) (o : Option (List ℕ)) → ascii before ≡ true → ascii behind ≡ true → IfSome o (λ x. ascii x ≡ true) → ascii (marked before o behind) ≡ true
+marked_ascii : (before behind : List ℕ) (o : Option (List ℕ)) → ascii before ≡ true
+    → ascii behind ≡ true → IfSome o (λ x. ascii x ≡ true) → ascii (marked before o behind) ≡ true
 marked_ascii before behind None e f h = refl
 marked_ascii before behind (Some x) e f h = both_ascii (before ++ x) behind (both_ascii before x e h) f
 
@@ -109,10 +119,13 @@ module _ (kind : Kind) (sets : HasComponentSets kind) where
       let port = both_some p.port IsUtf8 (IsValidFor digit_set) (λ x. ascii x ≡ true) digits_ascii utf8.port grammar.port in
       let host = host_ascii kind.reg_name sets.reg_name.percent p.host grammar.host.0 utf8.host grammar.host.1 in
       let behind = marked (codes ":") p.port [] in
-      sym (ap ascii grammar.whole) ∙ both_ascii (marked [] p.userinfo (codes "@")) (p.host ++ behind) (marked_ascii [] (codes "@") p.userinfo refl refl user)
+      sym (ap ascii grammar.whole)
+      ∙ both_ascii (marked [] p.userinfo (codes "@")) (p.host ++ behind) (marked_ascii [] (codes "@") p.userinfo refl refl user)
       (both_ascii p.host behind host (marked_ascii (codes ":") [] p.port refl refl port))
 
-  component_ascii : (marks : List ℕ) (set : TableSet) → IsComponentSet marks set → (o : Option (List ℕ)) → IfSome o (λ x. is_part (ascii_set set) x ≡ true) → IfSome o (λ x. ascii x ≡ true)
+  component_ascii : (marks : List ℕ) (set : TableSet) → IsComponentSet marks set
+      → (o : Option (List ℕ)) → IfSome o (λ x. is_part (ascii_set set) x ≡ true)
+      → IfSome o (λ x. ascii x ≡ true)
   component_ascii marks set w o h = each_some o (λ x. is_part (ascii_set set) x ≡ true) (λ x. ascii x ≡ true) (λ x e. part_ascii set w.percent x (part_utf8 (ascii_set set) x e) (part_valid (ascii_set set) x e)) h
 
   parts_ascii : (p : Components) → AreParts plain_kind p → ascii (recompose p) ≡ true
@@ -131,5 +144,7 @@ module _ (kind : Kind) (sets : HasComponentSets kind) where
       (both_ascii p.path (q ++ f) path
       (both_ascii q f (marked_ascii (codes "?") [] p.query refl refl query) (marked_ascii (codes "#") [] p.fragment refl refl fragment))))
 
-  pub text_ascii : (text : List ℕ) → IsTextOf plain_kind text → list_all (λ c. ltb c 128) text ≡ true
-  text_ascii text w = sym (ap ascii (recompose-components text)) ∙ parts_ascii (components text) (parts_of plain_kind text w)
+  pub text_ascii : (text : List ℕ) → IsTextOf plain_kind text
+      → list_all (λ c. ltb c 128) text ≡ true
+  text_ascii text w = sym (ap ascii (recompose-components text))
+      ∙ parts_ascii (components text) (parts_of plain_kind text w)

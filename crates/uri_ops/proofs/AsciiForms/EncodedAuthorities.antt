@@ -1,5 +1,6 @@
 -- An authority without characters past ASCII is one, and has the meaning of the authority.
-use Rattle.std.proofs.Common.{◌≡◌, ℕ, Bool, true, ltb, List, [], ◌∷◌, ◌++◌, map, refl, sym, ap, subst, ◌∙◌, inl, inr, option_map, arith}
+use Rattle.std.proofs.Common.{◌≡◌, ℕ, Bool, true, ltb, List, [], ◌∷◌, ◌++◌, map, refl, sym, ap}
+use Rattle.std.proofs.Common.{subst, ◌∙◌, inl, inr, option_map, arith}
 use Rattle.std.specs.Prelude.{codes, Option, Some, None, IfSome}
 use Rattle.std.specs.Char.{is_ascii_digit}
 use Rattle.std.specs.List.{list_all}
@@ -16,21 +17,27 @@ use Rattle.uri_pct.specs.Tokens.{IsValidFor}
 use Rattle.uri_pct.specs.Reading.{read, lower_token}
 use Rattle.uri_pct.proofs.ValidTexts.Cuts.{excludes}
 use Rattle.uri_parts.specs.Components.{marked}
-use Rattle.uri_parts.specs.Hosts.{HostKind, Ipv4, Ipv6, IpvFuture, RegName, IsHost, bracketed, host_kind, ipv4_value}
+use Rattle.uri_parts.specs.Hosts.{HostKind, Ipv4, Ipv6, IpvFuture, RegName, IsHost, bracketed}
+use Rattle.uri_parts.specs.Hosts.{host_kind, ipv4_value}
 use Rattle.uri_parts.specs.Authority.{AuthorityParts, IsAuthorityFor, KeepsApart, authority_parts}
 use Rattle.uri_parts.specs.Authority.{recompose_authority}
 use Rattle.uri_parts.specs.Grammar.{Kind, is_authority}
-use Rattle.uri_parts.proofs.Authorities.Authority.{is_authority_for-sound, is_authority_for-complete, authority_parts-only, names_outside}
-use Rattle.uri_parts.proofs.HostForms.Addresses.{is_address_char, is_address_text, address_text-ipv6}
+use Rattle.uri_parts.proofs.Authorities.Authority.{is_authority_for-sound}
+use Rattle.uri_parts.proofs.Authorities.Authority.{is_authority_for-complete, authority_parts-only}
+use Rattle.uri_parts.proofs.Authorities.Authority.{names_outside}
+use Rattle.uri_parts.proofs.HostForms.Addresses.{is_address_char, is_address_text}
+use Rattle.uri_parts.proofs.HostForms.Addresses.{address_text-ipv6}
 use Rattle.uri_parts.proofs.HostForms.Hosts.{is_host-sound, lacks_starts, utf8_bracketed}
 use Rattle.uri_parts.proofs.TextKinds.SpeltTexts.{valid_lacks}
 use Rattle.uri_parts.proofs.HostForms.Futures.{ipv4_digits}
 use Rattle.uri_ops.specs.ComponentSets.{IsComponentSet, HasComponentSets}
 use Rattle.uri_ops.specs.Encoded.{encoded_text, ascii_set, ascii_kind}
-use Rattle.uri_ops.specs.Meaning.{AuthorityMeaning, Name, host_meaning, port_meaning, authority_meaning}
+use Rattle.uri_ops.specs.Meaning.{AuthorityMeaning, Name, host_meaning, port_meaning}
+use Rattle.uri_ops.specs.Meaning.{authority_meaning}
 use Rattle.uri_ops.proofs.Meanings.AllowedParts.{is_part, part_from, part_utf8, part_valid}
 use Rattle.uri_ops.proofs.Meanings.PlainTexts.{is_plain_char, valid_plain}
-use Rattle.uri_ops.proofs.Meanings.HostMeanings.{plain_addresses, plain_future, future_chars, name_meaning, at_name}
+use Rattle.uri_ops.proofs.Meanings.HostMeanings.{plain_addresses, plain_future, future_chars}
+use Rattle.uri_ops.proofs.Meanings.HostMeanings.{name_meaning, at_name}
 use Rattle.uri_ops.proofs.Meanings.AuthorityMeanings.{PartsUtf8, utf8_parts, keeps_apart}
 use Rattle.uri_ops.proofs.AsciiForms.EncodedTokens.{IsUtf8-encoded}
 use Rattle.uri_ops.proofs.AsciiForms.EncodedReadings.{part_encoded, read-encoded}
@@ -39,7 +46,8 @@ use Rattle.uri_ops.proofs.AsciiForms.EncodedComponents.{marked_encoded}
 use Rattle.uri_pct.proofs.Tests.{both_some}
 
 -- the sets of the URIs that go with a kind of IRIs
-ascii_component : (marks : List ℕ) (set : TableSet) → IsComponentSet marks set → IsComponentSet marks (ascii_set set)
+ascii_component : (marks : List ℕ) (set : TableSet) → IsComponentSet marks set
+    → IsComponentSet marks (ascii_set set)
 ascii_component marks set w = record {
   unreserved = record { ascii = w.unreserved.ascii; pct_encoded = w.unreserved.pct_encoded; ucschar = λ e. absurd (false≢true e); iprivate = λ e. absurd (false≢true e) };
   percent = w.percent;
@@ -58,20 +66,25 @@ ascii_sets kind sets = record {
 }
 
 -- texts that are ASCII in any case
-pub plain_ascii : (test : ℕ → Bool) (text : List ℕ) → list_all (is_plain_char test) text ≡ true → list_all (λ c. ltb c 128) text ≡ true
+pub plain_ascii : (test : ℕ → Bool) (text : List ℕ) → list_all (is_plain_char test) text ≡ true
+    → list_all (λ c. ltb c 128) text ≡ true
 plain_ascii test [] e = refl
 plain_ascii test (c ∷ text) e =
     let p = and_parts (is_plain_char test c) (list_all (is_plain_char test) text) e in
     and_from _ _ (and_parts (ltb c 128) (test c) p.0).0 (plain_ascii test text p.1)
 
-pub bracketed_ascii : (address : List ℕ) → list_all (λ c. ltb c 128) address ≡ true → list_all (λ c. ltb c 128) (bracketed address) ≡ true
-bracketed_ascii address e = list_all-append (λ c. ltb c 128) address (codes "]") ∙ and_from _ _ e refl
+pub bracketed_ascii : (address : List ℕ) → list_all (λ c. ltb c 128) address ≡ true
+    → list_all (λ c. ltb c 128) (bracketed address) ≡ true
+bracketed_ascii address e = list_all-append (λ c. ltb c 128) address (codes "]")
+    ∙ and_from _ _ e refl
 
-pub address_ascii : (text : List ℕ) → is_address_text text ≡ true → list_all (λ c. ltb c 128) text ≡ true
+pub address_ascii : (text : List ℕ) → is_address_text text ≡ true
+    → list_all (λ c. ltb c 128) text ≡ true
 unfolding is_address_text
 address_ascii text e = plain_ascii is_address_char text (plain_addresses text e)
 
-pub dotted_ascii : (text octets : List ℕ) → IsDotted text octets → list_all (λ c. ltb c 128) text ≡ true
+pub dotted_ascii : (text octets : List ℕ) → IsDotted text octets
+    → list_all (λ c. ltb c 128) text ≡ true
 dotted_ascii text octets h =
     list_all-from_AllPass (λ c. ltb c 128) text (All-weaker IsDigitOrDot (λ c. ltb c 128 ≡ true) below text (ipv4_digits text octets h))
   where
@@ -82,14 +95,17 @@ dotted_ascii text octets h =
 -- a host
 pub record KeepsHost (names : TableSet) (text : List ℕ) : Type 0 where
   pub host : (h : HostKind) × IsHost (ascii_set names) (encoded_text text) h
-  pub meaning : host_meaning names (encoded_text text) (host_kind (encoded_text text)) ≡ host_meaning names text (host_kind text)
+  pub meaning : host_meaning names (encoded_text text) (host_kind (encoded_text text))
+      ≡ host_meaning names text (host_kind text)
 
-kept_host : (names : TableSet) (text : List ℕ) (h : HostKind) → IsHost (ascii_set names) text h → list_all (λ c. ltb c 128) text ≡ true → KeepsHost names text
+kept_host : (names : TableSet) (text : List ℕ) (h : HostKind) → IsHost (ascii_set names) text h
+    → list_all (λ c. ltb c 128) text ≡ true → KeepsHost names text
 kept_host names text h is_h e =
     let same = encoded-ascii text e in
     record { host = (h, subst (λ t. IsHost (ascii_set names) t h) (sym same) is_h); meaning = ap (λ t. host_meaning names t (host_kind t)) same }
 
-module _ (names : TableSet) (w : IsComponentSet (codes "/?#[]@:") names) (apart : excludes names (codes "@:[") ≡ true) where
+module _ (names : TableSet) (w : IsComponentSet (codes "/?#[]@:") names)
+    (apart : excludes names (codes "@:[") ≡ true) where
   name_kept : (text : List ℕ) → is_part names text ≡ true → KeepsHost names text
   name_kept text part =
       let first = lacks_starts (codes "@:[") text 91 refl (valid_lacks names (codes "@:[") w.percent apart text (part_utf8 names text part) (part_valid names text part)) in
@@ -99,12 +115,14 @@ module _ (names : TableSet) (w : IsComponentSet (codes "/?#[]@:") names) (apart 
       let was = at_name names w apart text first (part_valid names text part) in
       record {
         host = (host_kind (encoded_text text), is_host-sound (ascii_set names) (encoded_text text) at.1);
-        meaning = ap (host_meaning names (encoded_text text)) at.0 ∙ name_meaning names w apart (encoded_text text) (ipv4_value (encoded_text text))
+        meaning = ap (host_meaning names (encoded_text text)) at.0
+            ∙ name_meaning names w apart (encoded_text text) (ipv4_value (encoded_text text))
             ∙ ap (λ ts. Name (map lower_token ts)) (read-encoded names text part)
             ∙ sym (ap (host_meaning names text) was.0 ∙ name_meaning names w apart text (ipv4_value text));
       }
 
-  pub host_kept : (text : List ℕ) (h : HostKind) → IsUtf8 text → IsHost names text h → KeepsHost names text
+  pub host_kept : (text : List ℕ) (h : HostKind) → IsUtf8 text → IsHost names text h
+      → KeepsHost names text
   host_kept text (Ipv6 segments) u (address, e, groups) =
       kept_host names text (Ipv6 segments) (address, e, groups) (ap (list_all (λ c. ltb c 128)) e ∙ bracketed_ascii address (address_ascii address (address_text-ipv6 address segments groups)))
   host_kept text IpvFuture u (address, e, future) =
@@ -117,7 +135,8 @@ module _ (names : TableSet) (w : IsComponentSet (codes "/?#[]@:") names) (apart 
 abbrev pub encoded_parts : AuthorityParts → AuthorityParts
 encoded_parts p = record { userinfo = option_map encoded_text p.userinfo; host = encoded_text p.host; port = option_map encoded_text p.port }
 
-pub recompose_authority-encoded : (p : AuthorityParts) → encoded_text (recompose_authority p) ≡ recompose_authority (encoded_parts p)
+pub recompose_authority-encoded : (p : AuthorityParts)
+    → encoded_text (recompose_authority p) ≡ recompose_authority (encoded_parts p)
 recompose_authority-encoded p =
     let port = marked (codes ":") p.port [] in
     encoded-append (marked [] p.userinfo (codes "@")) (p.host ++ port)
@@ -128,19 +147,23 @@ recompose_authority-encoded p =
 digits_ascii : (text : List ℕ) → IsUtf8 text → IsValidFor digit_set text → encoded_text text ≡ text
 digits_ascii text u e = encoded-ascii text (plain_ascii is_ascii_digit text (sym (valid_plain is_ascii_digit refl text u) ∙ e))
 
-port_ascii : (port : Option (List ℕ)) → IfSome port IsUtf8 → IfSome port (IsValidFor digit_set) → option_map encoded_text port ≡ port
+port_ascii : (port : Option (List ℕ)) → IfSome port IsUtf8 → IfSome port (IsValidFor digit_set)
+    → option_map encoded_text port ≡ port
 port_ascii None u h = refl
 port_ascii (Some digits) u h = ap Some (digits_ascii digits u h)
 
-map_some : (o : Option (List ℕ)) (P Q : List ℕ → Type 0) → ((x : List ℕ) → P x → Q (encoded_text x)) → IfSome o P → IfSome (option_map encoded_text o) Q
+map_some : (o : Option (List ℕ)) (P Q : List ℕ → Type 0) → ((x : List ℕ) → P x → Q (encoded_text x))
+    → IfSome o P → IfSome (option_map encoded_text o) Q
 map_some None P Q f h = tt
 map_some (Some x) P Q f h = f x h
 
-pub read_some : (set : TableSet) (o : Option (List ℕ)) → IfSome o (λ x. is_part set x ≡ true) → option_map (read set) (option_map encoded_text o) ≡ option_map (read set) o
+pub read_some : (set : TableSet) (o : Option (List ℕ)) → IfSome o (λ x. is_part set x ≡ true)
+    → option_map (read set) (option_map encoded_text o) ≡ option_map (read set) o
 read_some set None h = refl
 read_some set (Some x) h = ap Some (read-encoded set x h)
 
-module _ (kind : Kind) (sets : HasComponentSets kind) (a : List ℕ) (u : IsUtf8 a) (e : is_authority kind a ≡ true) where
+module _ (kind : Kind) (sets : HasComponentSets kind) (a : List ℕ) (u : IsUtf8 a)
+    (e : is_authority kind a ≡ true) where
   abbrev users : TableSet
   users = kind.userinfo
 
@@ -182,7 +205,8 @@ module _ (kind : Kind) (sets : HasComponentSets kind) (a : List ℕ) (u : IsUtf8
   pub authority_parts-encoded : authority_parts (encoded_text a) ≡ encoded_parts parts
   authority_parts-encoded = authority_parts-only (ascii_set users) (ascii_set names) ascii_apart (encoded_text a) (encoded_parts parts) (IsUtf8-encoded a u) encoded_grammar
 
-  pub authority_meaning-encoded : (default : Option ℕ) → authority_meaning kind default (encoded_text a) ≡ authority_meaning kind default a
+  pub authority_meaning-encoded : (default : Option ℕ)
+      → authority_meaning kind default (encoded_text a) ≡ authority_meaning kind default a
   authority_meaning-encoded default =
       let of_parts : AuthorityParts → AuthorityMeaning = λ p. record { userinfo = option_map (read users) p.userinfo; host = host_meaning names p.host (host_kind p.host); port = port_meaning default p.port } in
       let user_read = read_some users parts.userinfo user in

@@ -1,5 +1,7 @@
 -- The tokens of a text without characters past ASCII: the octets of each stand in its place.
-use Rattle.std.proofs.Common.{◌≡◌, ℕ, ◌+◌, ◌*◌, ◌/◌, ◌%◌, ◌<◌, ◌≤◌, Bool, true, false, cond, eqb, ltb, List, [], ◌∷◌, ◌++◌, get_or, map, refl, sym, ap, subst, ◌∙◌, arith, ◌&&◌, ⊎_elim, append_assoc}
+use Rattle.std.proofs.Common.{◌≡◌, ℕ, ◌+◌, ◌*◌, ◌/◌, ◌%◌, ◌<◌, ◌≤◌, Bool, true, false, cond, eqb}
+use Rattle.std.proofs.Common.{ltb, List, [], ◌∷◌, ◌++◌, get_or, map, refl, sym, ap, subst, ◌∙◌}
+use Rattle.std.proofs.Common.{arith, ◌&&◌, ⊎_elim, append_assoc}
 use Rattle.std.specs.Char.{IsScalar, encode_utf8, digit_value, is_ascii_hexdigit}
 use Rattle.std.specs.Fmt.{digit_glyph}
 use Rattle.std.specs.List.{list_all, flat_map}
@@ -8,9 +10,12 @@ use Rattle.std.proofs.lemmas.Str.{chars-encodes, chars-IsAscii, encode_ascii}
 use Rattle.std.proofs.lemmas.List.{append-nil}
 use Rattle.std.proofs.lemmas.List.Concat.{flat_map-append}
 use Rattle.std.proofs.lemmas.List.Folds.{list_all-append}
-use Rattle.std.proofs.lemmas.Bool.{cases_Bool, cases_lt, agree_below_at, cond-true, cond-false, and_left, and_right, and_from, and_parts, eqb-true, ltb-true, lt-ltb, le-ltb}
+use Rattle.std.proofs.lemmas.Bool.{cases_Bool, cases_lt, agree_below_at, cond-true, cond-false}
+use Rattle.std.proofs.lemmas.Bool.{and_left, and_right, and_from, and_parts, eqb-true, ltb-true}
+use Rattle.std.proofs.lemmas.Bool.{lt-ltb, le-ltb}
 use Rattle.std.proofs.lemmas.Bool.Decides.{nat_tests}
-use Rattle.uri_pct.specs.Tokens.{Token, Char, Octet, tokens, tokens_of, token_bytes, bytes_of_token, is_pct_encoded, text_of_token}
+use Rattle.uri_pct.specs.Tokens.{Token, Char, Octet, tokens, tokens_of, token_bytes, bytes_of_token}
+use Rattle.uri_pct.specs.Tokens.{is_pct_encoded, text_of_token}
 use Rattle.uri_pct.specs.Models.Fronts.{begins_hex}
 use Rattle.uri_pct.proofs.Unicode.Characters.{bytes_of_char, is_high, lead}
 use Rattle.uri_ops.specs.Encoded.{encoded_byte, encoded_text}
@@ -78,11 +83,13 @@ are_bytes c s =
     (cases_lt c 2048)))
     (cases_lt c 128)
 
-encoded_high : (bs : List ℕ) → list_all is_high bs ≡ true → flat_map encoded_byte bs ≡ flat_map octet_text bs
+encoded_high : (bs : List ℕ) → list_all is_high bs ≡ true
+    → flat_map encoded_byte bs ≡ flat_map octet_text bs
 encoded_high [] e = refl
 encoded_high (b ∷ bs) e =
     let p = and_parts (is_high b) (list_all is_high bs) e in
-    ap (λ t. t ++ flat_map encoded_byte bs) (cond-false _ _ _ (not_low b p.0)) ∙ ap (λ t. octet_text b ++ t) (encoded_high bs p.1)
+    ap (λ t. t ++ flat_map encoded_byte bs) (cond-false _ _ _ (not_low b p.0))
+    ∙ ap (λ t. octet_text b ++ t) (encoded_high bs p.1)
   where
     not_low : (b : ℕ) → is_high b ≡ true → ltb b 128 ≡ false
     not_low b e = grind (arith, nat_tests)
@@ -97,11 +104,13 @@ encoded_text-encodes : (cs : List ℕ) → encoded_text (encode_utf8_all cs) ≡
 unfolding encoded_text encoded_chars
 encoded_text-encodes [] = refl
 encoded_text-encodes (c ∷ cs) =
-    flat_map-append encoded_byte (encode_utf8 c) (encode_utf8_all cs) ∙ ap (λ t. t ++ flat_map encoded_byte (encode_utf8_all cs)) (char_encoded c)
+    flat_map-append encoded_byte (encode_utf8 c) (encode_utf8_all cs)
+    ∙ ap (λ t. t ++ flat_map encoded_byte (encode_utf8_all cs)) (char_encoded c)
     ∙ ap (λ t. encoded_char c ++ t) (encoded_text-encodes cs)
 
 -- a text without characters past ASCII
-digits_ascii : (v : ℕ) → v < 256 → (ltb (digit_glyph true (v / 16)) 128 && ltb (digit_glyph true (v % 16)) 128) ≡ true
+digits_ascii : (v : ℕ) → v < 256
+    → (ltb (digit_glyph true (v / 16)) 128 && ltb (digit_glyph true (v % 16)) 128) ≡ true
 digits_ascii v h = agree_below_at (λ v. ltb (digit_glyph true (v / 16)) 128 && ltb (digit_glyph true (v % 16)) 128) (λ _. true) 256 v refl h
 
 abbrev is_low : ℕ → Bool
@@ -113,11 +122,13 @@ octet_low b e =
     let p = and_parts _ _ (digits_ascii b (ltb-true b 256 e)) in
     and_from _ _ p.0 (and_from _ true p.1 refl)
 
-octets_low : (bs : List ℕ) → list_all is_byte bs ≡ true → list_all is_low (flat_map octet_text bs) ≡ true
+octets_low : (bs : List ℕ) → list_all is_byte bs ≡ true
+    → list_all is_low (flat_map octet_text bs) ≡ true
 octets_low [] e = refl
 octets_low (b ∷ bs) e =
     let p = and_parts (is_byte b) (list_all is_byte bs) e in
-    list_all-append is_low (octet_text b) (flat_map octet_text bs) ∙ and_from _ _ (octet_low b p.0) (octets_low bs p.1)
+    list_all-append is_low (octet_text b) (flat_map octet_text bs)
+    ∙ and_from _ _ (octet_low b p.0) (octets_low bs p.1)
 
 chars_low : (cs : List ℕ) → all_scalars cs ≡ true → list_all is_low (encoded_chars cs) ≡ true
 unfolding encoded_chars
@@ -130,36 +141,43 @@ chars_low (c ∷ cs) e =
     (cases_lt c 128)) (chars_low cs p.1)
 
 encoded_low : (text : List ℕ) → IsUtf8 text → list_all is_low (encoded_text text) ≡ true
-encoded_low text u = ap (λ t. list_all is_low (encoded_text t)) (sym u.1.1) ∙ ap (list_all is_low) (encoded_text-encodes u.0) ∙ chars_low u.0 u.1.0
+encoded_low text u = ap (λ t. list_all is_low (encoded_text t)) (sym u.1.1)
+    ∙ ap (list_all is_low) (encoded_text-encodes u.0) ∙ chars_low u.0 u.1.0
 
 pub IsUtf8-encoded : (text : List ℕ) → IsUtf8 text → IsUtf8 (encoded_text text)
 IsUtf8-encoded text u = utf8_ascii (encoded_text text) (encoded_low text u)
 
 -- its tokens
-tokens_cons : (c : ℕ) (cs : List ℕ) → (eqb c 37 && begins_hex cs) ≡ false → tokens_of (c ∷ cs) ≡ Char c ∷ tokens_of cs
+tokens_cons : (c : ℕ) (cs : List ℕ) → (eqb c 37 && begins_hex cs) ≡ false
+    → tokens_of (c ∷ cs) ≡ Char c ∷ tokens_of cs
 unfolding tokens_of is_pct_encoded begins_hex
 tokens_cons c [] e = refl
 tokens_cons c (d ∷ []) e = refl
 tokens_cons c (h ∷ l ∷ cs) e = cond-false _ _ _ e
 
-octet_first : (b : ℕ) (cs : List ℕ) → is_byte b ≡ true → tokens_of (octet_text b ++ cs) ≡ Octet b ∷ tokens_of cs
+octet_first : (b : ℕ) (cs : List ℕ) → is_byte b ≡ true
+    → tokens_of (octet_text b ++ cs) ≡ Octet b ∷ tokens_of cs
 unfolding is_byte tokens_of is_pct_encoded
 octet_first b cs e =
     let p = and_parts _ _ (digits_of b (ltb-true b 256 e)) in
     cond-true _ _ _ p.0 ∙ ap (λ n. Octet n ∷ tokens_of cs) (eqb-true _ b p.1)
 
-octets_first : (bs cs : List ℕ) → list_all is_byte bs ≡ true → tokens_of (flat_map octet_text bs ++ cs) ≡ map Octet bs ++ tokens_of cs
+octets_first : (bs cs : List ℕ) → list_all is_byte bs ≡ true
+    → tokens_of (flat_map octet_text bs ++ cs) ≡ map Octet bs ++ tokens_of cs
 octets_first [] cs e = refl
 octets_first (b ∷ bs) cs e =
     let p = and_parts (is_byte b) (list_all is_byte bs) e in
-    ap tokens_of (append_assoc (octet_text b) (flat_map octet_text bs) cs) ∙ octet_first b (flat_map octet_text bs ++ cs) p.0 ∙ ap (λ ts. Octet b ∷ ts) (octets_first bs cs p.1)
+    ap tokens_of (append_assoc (octet_text b) (flat_map octet_text bs) cs)
+    ∙ octet_first b (flat_map octet_text bs ++ cs) p.0
+    ∙ ap (λ ts. Octet b ∷ ts) (octets_first bs cs p.1)
 
 percent_first : (c : ℕ) (cs : List ℕ) → 128 ≤ c → get_or (encoded_chars (c ∷ cs)) 0 0 ≡ 37
 unfolding encoded_chars
 percent_first c cs h =
     ap (λ t. get_or (t ++ encoded_chars cs) 0 0) (cond-false _ _ _ (le-ltb c 128 h) ∙ ap (flat_map octet_text) (bytes_of_char c).spelt)
 
-hex_first : (cs : List ℕ) → is_ascii_hexdigit (get_or (encoded_chars cs) 0 0) ≡ is_ascii_hexdigit (get_or cs 0 0)
+hex_first : (cs : List ℕ)
+    → is_ascii_hexdigit (get_or (encoded_chars cs) 0 0) ≡ is_ascii_hexdigit (get_or cs 0 0)
 unfolding encoded_chars
 hex_first [] = refl
 hex_first (c ∷ cs) = ⊎_elim
@@ -177,7 +195,9 @@ begins_hex-encoded (c ∷ cs) = ⊎_elim
     (cases_lt c 128)
 
 -- a character that begins no octet
-char_token : (c : ℕ) (cs : List ℕ) → all_scalars (c ∷ cs) ≡ true → (eqb c 37 && begins_hex cs) ≡ false → tokens_of (encoded_chars cs) ≡ flat_map encoded_token (tokens_of cs)
+char_token : (c : ℕ) (cs : List ℕ) → all_scalars (c ∷ cs) ≡ true
+    → (eqb c 37 && begins_hex cs) ≡ false
+    → tokens_of (encoded_chars cs) ≡ flat_map encoded_token (tokens_of cs)
     → tokens_of (encoded_chars (c ∷ cs)) ≡ flat_map encoded_token (tokens_of (c ∷ cs))
 unfolding encoded_chars
 char_token c cs s e ih =
@@ -185,15 +205,18 @@ char_token c cs s e ih =
     ⊎_elim
     (λ h.
     ap (λ t. tokens_of (t ++ encoded_chars cs)) (cond-true _ _ _ (lt-ltb c 128 h))
-    ∙ tokens_cons c (encoded_chars cs) (ap (λ t. eqb c 37 && t) (begins_hex-encoded cs) ∙ e) ∙ ap (λ ts. Char c ∷ ts) ih
+    ∙ tokens_cons c (encoded_chars cs) (ap (λ t. eqb c 37 && t) (begins_hex-encoded cs) ∙ e)
+    ∙ ap (λ ts. Char c ∷ ts) ih
     ∙ sym (ap (flat_map encoded_token) (tokens_cons c cs e) ∙ ap (λ t. t ++ flat_map encoded_token (tokens_of cs)) (cond-true _ _ _ (lt-ltb c 128 h))))
     (λ h.
     ap (λ t. tokens_of (t ++ encoded_chars cs)) (cond-false _ _ _ (le-ltb c 128 h))
-    ∙ octets_first (encode_utf8 c) (encoded_chars cs) (are_bytes c p.0) ∙ ap (λ ts. map Octet (encode_utf8 c) ++ ts) ih
+    ∙ octets_first (encode_utf8 c) (encoded_chars cs) (are_bytes c p.0)
+    ∙ ap (λ ts. map Octet (encode_utf8 c) ++ ts) ih
     ∙ sym (ap (flat_map encoded_token) (tokens_cons c cs e) ∙ ap (λ t. t ++ flat_map encoded_token (tokens_of cs)) (cond-false _ _ _ (le-ltb c 128 h))))
     (cases_lt c 128)
 
-opened : (c h l : ℕ) → is_pct_encoded c h l ≡ true → (eqb c 37 && (is_ascii_hexdigit h && is_ascii_hexdigit l)) ≡ true
+opened : (c h l : ℕ) → is_pct_encoded c h l ≡ true
+    → (eqb c 37 && (is_ascii_hexdigit h && is_ascii_hexdigit l)) ≡ true
 unfolding is_pct_encoded
 opened c h l e = e
 
@@ -206,8 +229,10 @@ one_digit : (d : ℕ) → begins_hex (d ∷ []) ≡ false
 unfolding begins_hex
 one_digit d = and_right _ _ refl
 
-octet_token : (c h l : ℕ) (rest : List ℕ) → is_pct_encoded c h l ≡ true → tokens_of (encoded_chars rest) ≡ flat_map encoded_token (tokens_of rest)
-    → tokens_of (encoded_chars (c ∷ h ∷ l ∷ rest)) ≡ flat_map encoded_token (tokens_of (c ∷ h ∷ l ∷ rest))
+octet_token : (c h l : ℕ) (rest : List ℕ) → is_pct_encoded c h l ≡ true
+    → tokens_of (encoded_chars rest) ≡ flat_map encoded_token (tokens_of rest)
+    → tokens_of (encoded_chars (c ∷ h ∷ l ∷ rest))
+    ≡ flat_map encoded_token (tokens_of (c ∷ h ∷ l ∷ rest))
 unfolding encoded_chars tokens_of
 octet_token c h l rest e ih =
     let p = parts c h l e in
@@ -229,7 +254,8 @@ octet_token c h l rest e ih =
         let q = and_parts (is_ascii_hexdigit h) (is_ascii_hexdigit l) p.1 in
         (percent_low c p.0, hex_low h q.0, hex_low l q.1)
 
-tokens_encoded : (cs : List ℕ) → all_scalars cs ≡ true → tokens_of (encoded_chars cs) ≡ flat_map encoded_token (tokens_of cs)
+tokens_encoded : (cs : List ℕ) → all_scalars cs ≡ true
+    → tokens_of (encoded_chars cs) ≡ flat_map encoded_token (tokens_of cs)
 unfolding tokens_of encoded_chars
 tokens_encoded [] s = refl
 tokens_encoded (c ∷ []) s = char_token c [] s (and_right _ _ (no_digits [] refl)) refl
@@ -243,10 +269,12 @@ tokens_encoded (c ∷ h ∷ l ∷ rest) s =
     (λ e. char_token c (h ∷ l ∷ rest) s (not_escape c h l rest e) (tokens_encoded (h ∷ l ∷ rest) p.1))
     (cases_Bool (is_pct_encoded c h l))
 
-pub tokens-encoded : (text : List ℕ) → IsUtf8 text → tokens (encoded_text text) ≡ flat_map encoded_token (tokens text)
+pub tokens-encoded : (text : List ℕ) → IsUtf8 text
+    → tokens (encoded_text text) ≡ flat_map encoded_token (tokens text)
 tokens-encoded text u =
     let same : text ≡ encode_utf8_all u.0 = sym u.1.1 in
-    let spelt : encoded_text text ≡ encoded_chars u.0 = ap encoded_text same ∙ encoded_text-encodes u.0 in
+    let spelt : encoded_text text ≡ encoded_chars u.0 = ap encoded_text same
+    ∙ encoded_text-encodes u.0 in
     ap tokens_of (chars-IsAscii (encoded_text text) (ascii_from (encoded_text text) (encoded_low text u)) ∙ spelt)
     ∙ tokens_encoded u.0 u.1.0
     ∙ ap (λ cs. flat_map encoded_token (tokens_of cs)) (sym (ap chars same ∙ chars-encodes u.0 u.1.0))
@@ -262,7 +290,9 @@ bytes_encoded : (ts : List Token) → token_bytes (flat_map encoded_token ts) �
 bytes_encoded [] = refl
 bytes_encoded (t ∷ ts) =
     flat_map-append bytes_of_token (encoded_token t) (flat_map encoded_token ts)
-    ∙ ap (λ x. x ++ token_bytes (flat_map encoded_token ts)) (bytes_of_encoded t) ∙ ap (λ x. bytes_of_token t ++ x) (bytes_encoded ts)
+    ∙ ap (λ x. x ++ token_bytes (flat_map encoded_token ts)) (bytes_of_encoded t)
+    ∙ ap (λ x. bytes_of_token t ++ x) (bytes_encoded ts)
 
-pub token_bytes-encoded : (text : List ℕ) → IsUtf8 text → token_bytes (tokens (encoded_text text)) ≡ token_bytes (tokens text)
+pub token_bytes-encoded : (text : List ℕ) → IsUtf8 text
+    → token_bytes (tokens (encoded_text text)) ≡ token_bytes (tokens text)
 token_bytes-encoded text u = ap token_bytes (tokens-encoded text u) ∙ bytes_encoded (tokens text)

@@ -1,17 +1,20 @@
 -- The text of an authority that is built part by part is one: RFC 3986, section 3.2.
-use Rattle.std.proofs.Common.{◌≡◌, ℕ, true, List, [], ◌∷◌, ◌++◌, refl, sym, ap, subst, ◌∙◌, append_assoc, append-nil}
+use Rattle.std.proofs.Common.{◌≡◌, ℕ, true, List, [], ◌∷◌, ◌++◌, refl, sym, ap, subst, ◌∙◌}
+use Rattle.std.proofs.Common.{append_assoc, append-nil}
 use Rattle.std.specs.Prelude.{codes, Option, Some, None, is_none}
 use Rattle.std.specs.Str.{IsUtf8}
 use Rattle.std.proofs.lemmas.Str.{IsUtf8-append, IsUtf8-from_is_utf8, is_utf8-from_IsUtf8}
 use Rattle.std.proofs.lemmas.Bool.{and_parts, and_from, false≢true}
 use Rattle.uri_pct.specs.Sets.{TableSet, digit_set, reg_name_set}
 use Rattle.uri_pct.specs.Tokens.{IsValidFor, is_valid_for}
-use Rattle.uri_parts.specs.Authority.{AuthorityParts, IsAuthorityFor, authority_parts, is_authority_for}
+use Rattle.uri_parts.specs.Authority.{AuthorityParts, IsAuthorityFor, authority_parts}
+use Rattle.uri_parts.specs.Authority.{is_authority_for}
 use Rattle.uri_pct.proofs.ValidTexts.Cuts.{excludes}
 use Rattle.uri_parts.specs.Components.{Lacks, marked}
 use Rattle.uri_parts.specs.Grammar.{Kind, is_authority}
 use Rattle.uri_parts.specs.Hosts.{HostKind, IsHost, Ipv4, Ipv6, IpvFuture, RegName}
-use Rattle.uri_parts.proofs.Authorities.Authority.{authority_parts-only, is_authority_for-complete, is_authority_for-sound}
+use Rattle.uri_parts.proofs.Authorities.Authority.{authority_parts-only, is_authority_for-complete}
+use Rattle.uri_parts.proofs.Authorities.Authority.{is_authority_for-sound}
 use Rattle.uri_parts.proofs.Authorities.AuthorityPlaces.{empty_is}
 use Rattle.uri_parts.proofs.HostForms.Futures.{ipv4_lacks, ipv6_lacks, ipv_future_lacks}
 use Rattle.uri_parts.proofs.HostForms.Hosts.{utf8_bracketed}
@@ -27,20 +30,25 @@ use Rattle.uri_pct.proofs.Tests.{both_some}
 use Rattle.uri_ops.proofs.Meanings.PlainTexts.{utf8_ascii}
 use Rattle.uri_ops.proofs.Paths.DotRuns.{none_length}
 
-pub authority_utf8 : (kind : Kind) (text : List ℕ) → is_authority_text kind text ≡ true → IsUtf8 text
+pub authority_utf8 : (kind : Kind) (text : List ℕ) → is_authority_text kind text ≡ true
+    → IsUtf8 text
 unfolding is_authority_text
 authority_utf8 kind text e = IsUtf8-from_is_utf8 text (and_parts _ (is_authority kind text) e).0
 
-pub authority_meets : (kind : Kind) (text : List ℕ) → is_authority_text kind text ≡ true → is_authority kind text ≡ true
+pub authority_meets : (kind : Kind) (text : List ℕ) → is_authority_text kind text ≡ true
+    → is_authority kind text ≡ true
 unfolding is_authority_text
 authority_meets kind text e = (and_parts _ (is_authority kind text) e).1
 
-pub authority_from : (kind : Kind) (text : List ℕ) → IsUtf8 text → is_authority kind text ≡ true → is_authority_text kind text ≡ true
+pub authority_from : (kind : Kind) (text : List ℕ) → IsUtf8 text → is_authority kind text ≡ true
+    → is_authority_text kind text ≡ true
 unfolding is_authority_text
 authority_from kind text u e = and_from _ _ (is_utf8-from_IsUtf8 text u) e
 
 -- by the sets of the encoders, which are those of the kind
-pub authority_from_encoders : (kind : Kind) (users names : TableSet) → users ≡ kind.userinfo → names ≡ kind.reg_name → (text : List ℕ) → IsUtf8 text → is_authority_for users names text ≡ true → is_authority_text kind text ≡ true
+pub authority_from_encoders : (kind : Kind) (users names : TableSet) → users ≡ kind.userinfo
+    → names ≡ kind.reg_name → (text : List ℕ) → IsUtf8 text
+    → is_authority_for users names text ≡ true → is_authority_text kind text ≡ true
 authority_from_encoders kind users names u n text utf8 e = authority_from kind text utf8 (sym (λ i. is_authority_for (u i) (n i) text) ∙ e)
 
 empty_host : (names : TableSet) → (h : HostKind) × IsHost names [] h
@@ -59,13 +67,15 @@ pub record HasParts (kind : Kind) (text : List ℕ) (p : AuthorityParts) : Type 
   pub parts : authority_parts text ≡ p
 
 module _ (kind : Kind) (sets : HasComponentSets kind) where
-  has_parts : (text : List ℕ) (p : AuthorityParts) → IsUtf8 text → IsAuthorityFor kind.userinfo kind.reg_name text p → HasParts kind text p
+  has_parts : (text : List ℕ) (p : AuthorityParts) → IsUtf8 text
+      → IsAuthorityFor kind.userinfo kind.reg_name text p → HasParts kind text p
   has_parts text p u h = record {
     rule = authority_from kind text u (is_authority_for-complete kind.userinfo kind.reg_name (keeps_apart kind sets) text p u h);
     parts = authority_parts-only kind.userinfo kind.reg_name (keeps_apart kind sets) text p u h;
   }
 
-  pub user_parts : (user : List ℕ) → IsUtf8 user → is_valid_for kind.userinfo user ≡ true → HasParts kind (user ++ codes "@") (record { userinfo = Some user; host = []; port = None })
+  pub user_parts : (user : List ℕ) → IsUtf8 user → is_valid_for kind.userinfo user ≡ true
+      → HasParts kind (user ++ codes "@") (record { userinfo = Some user; host = []; port = None })
   user_parts user u valid =
       has_parts (user ++ codes "@") (record { userinfo = Some user; host = []; port = None }) (IsUtf8-append user (codes "@") u (utf8_ascii (codes "@") refl)) (record {
         whole = append-nil (user ++ codes "@");
@@ -74,34 +84,43 @@ module _ (kind : Kind) (sets : HasComponentSets kind) where
         port = tt;
       })
 
-  sound : (a : List ℕ) → is_authority_text kind a ≡ true → IsAuthorityFor kind.userinfo kind.reg_name a (authority_parts a)
+  sound : (a : List ℕ) → is_authority_text kind a ≡ true
+      → IsAuthorityFor kind.userinfo kind.reg_name a (authority_parts a)
   sound a e = is_authority_for-sound kind.userinfo kind.reg_name a (authority_meets kind a e)
 
-  pub host_parts : (a host : List ℕ) → is_authority_text kind a ≡ true → takes_host a ≡ true → IsHostText kind.reg_name host → HasParts kind (a ++ host) (record { userinfo = (authority_parts a).userinfo; host = host; port = None })
+  pub host_parts : (a host : List ℕ) → is_authority_text kind a ≡ true → takes_host a ≡ true
+      → IsHostText kind.reg_name host
+      → HasParts kind (a ++ host) (record { userinfo = (authority_parts a).userinfo; host = host; port = None })
   host_parts a host e t h =
       let p = authority_parts a in
       let both = and_parts (is_empty p.host) (takes_port a) t in
       let old = sound a e in
       let U : List ℕ = marked [] p.userinfo (codes "@") in
-      let bare : U ++ [] ≡ a = sym (λ i. U ++ (none_length p.host both.0 i ++ marked (codes ":") (no_port p both.1 i) [])) ∙ old.whole in
+      let bare : U ++ [] ≡ a = sym (λ i. U ++ (none_length p.host both.0 i ++ marked (codes ":") (no_port p both.1 i) []))
+      ∙ old.whole in
       has_parts (a ++ host) (record { userinfo = p.userinfo; host = host; port = None }) (IsUtf8-append a host (authority_utf8 kind a e) h.utf8) (record {
-        whole = ap (λ t. U ++ t) (append-nil host) ∙ ap (λ t. t ++ host) (sym (append-nil U) ∙ bare);
+        whole = ap (λ t. U ++ t) (append-nil host)
+            ∙ ap (λ t. t ++ host) (sym (append-nil U) ∙ bare);
         userinfo = old.userinfo;
         host = h.host;
         port = tt;
       })
 
-  pub port_parts : (a digits : List ℕ) → is_authority_text kind a ≡ true → takes_port a ≡ true → IsUtf8 digits → is_valid_for digit_set digits ≡ true
+  pub port_parts : (a digits : List ℕ) → is_authority_text kind a ≡ true → takes_port a ≡ true
+      → IsUtf8 digits → is_valid_for digit_set digits ≡ true
       → HasParts kind (a ++ (codes ":" ++ digits)) (record { userinfo = (authority_parts a).userinfo; host = (authority_parts a).host; port = Some digits })
   port_parts a digits e t u valid =
       let p = authority_parts a in
       let old = sound a e in
       let U : List ℕ = marked [] p.userinfo (codes "@") in
-      let bare : U ++ (p.host ++ []) ≡ a = sym (λ i. U ++ (p.host ++ marked (codes ":") (no_port p t i) [])) ∙ old.whole in
+      let bare : U ++ (p.host ++ []) ≡ a = sym (λ i. U ++ (p.host ++ marked (codes ":") (no_port p t i) []))
+      ∙ old.whole in
       let bare_host : U ++ p.host ≡ a = ap (λ t. U ++ t) (sym (append-nil p.host)) ∙ bare in
       has_parts (a ++ (codes ":" ++ digits)) (record { userinfo = p.userinfo; host = p.host; port = Some digits })
       (IsUtf8-append a (codes ":" ++ digits) (authority_utf8 kind a e) (IsUtf8-append (codes ":") digits (utf8_ascii (codes ":") refl) u)) (record {
-        whole = ap (λ t. U ++ (p.host ++ t)) (append-nil (codes ":" ++ digits)) ∙ sym (append_assoc U p.host (codes ":" ++ digits)) ∙ ap (λ t. t ++ (codes ":" ++ digits)) bare_host;
+        whole = ap (λ t. U ++ (p.host ++ t)) (append-nil (codes ":" ++ digits))
+            ∙ sym (append_assoc U p.host (codes ":" ++ digits))
+            ∙ ap (λ t. t ++ (codes ":" ++ digits)) bare_host;
         userinfo = old.userinfo;
         host = old.host;
         port = valid;
@@ -122,7 +141,8 @@ module _ (kind : Kind) (sets : HasComponentSets kind) where
   dotted_outside : excludes reg_name_set (codes "/?#") ≡ true
   dotted_outside = refl
 
-  host_lacks : (text : List ℕ) (host : HostKind) → IsUtf8 text → IsHost kind.reg_name text host → Lacks (codes "/?#") text
+  host_lacks : (text : List ℕ) (host : HostKind) → IsUtf8 text → IsHost kind.reg_name text host
+      → Lacks (codes "/?#") text
   host_lacks text (Ipv6 segments) u (address, e, groups) = subst (Lacks (codes "/?#")) (sym e) (lacks_bracketed address (ipv6_lacks (codes "/?#") slash_outside address segments groups))
   host_lacks text IpvFuture u (address, e, future) = subst (Lacks (codes "/?#")) (sym e) (lacks_bracketed address (ipv_future_lacks (codes "/?#") slash_outside address (utf8_bracketed address (subst IsUtf8 e u)) future))
   host_lacks text (Ipv4 octets) u dotted = ipv4_lacks (codes "/?#") dotted_outside text octets dotted

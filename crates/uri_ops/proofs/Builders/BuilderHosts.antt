@@ -1,5 +1,6 @@
 -- The hosts and ports that a builder takes are hosts, and digits.
-use Rattle.std.proofs.Common.{◌≡◌, ℕ, ◌<◌, ◌^◌, Bool, true, ltb, List, [], ◌∷◌, refl, arith, inl, inr}
+use Rattle.std.proofs.Common.{◌≡◌, ℕ, ◌<◌, ◌^◌, Bool, true, ltb, List, [], ◌∷◌, refl, arith, inl}
+use Rattle.std.proofs.Common.{inr}
 use Rattle.std.specs.Prelude.{codes}
 use Rattle.std.specs.Char.{digit_value, is_ascii_digit}
 use Rattle.std.specs.Fmt.{decimal}
@@ -36,21 +37,24 @@ unfolding any_ascii
 dotted_ascii c (inl range) = grind (arith, nat_tests)
 dotted_ascii c (inr dot) = grind (arith, nat_tests)
 
-pub ipv4_host : (names : TableSet) (text octets : List ℕ) → IsIpv4Text text octets → IsHostText names text
+pub ipv4_host : (names : TableSet) (text octets : List ℕ) → IsIpv4Text text octets
+    → IsHostText names text
 ipv4_host names text octets h = record {
   utf8 = utf8_plain any_ascii text
       (list_all-from_AllPass (is_plain_char any_ascii) text (All-weaker IsDigitOrDot (λ c. is_plain_char any_ascii c ≡ true) (λ c d. dotted_ascii c d) text (ipv4_digits text octets h)));
   host = (Ipv4 octets, h);
 }
 
-pub ipv6_host : (names : TableSet) (text segments : List ℕ) → IsIpv6Text text segments → IsHostText names (bracketed text)
+pub ipv6_host : (names : TableSet) (text segments : List ℕ) → IsIpv6Text text segments
+    → IsHostText names (bracketed text)
 ipv6_host names text segments h = record {
   utf8 = utf8_in_brackets text (utf8_address text (address_text-ipv6 text segments h));
   host = (Ipv6 segments, (text, refl, h));
 }
 
 -- a name, or the IPv4 address that it spells
-pub name_host : (names : TableSet) → LacksPercent names → excludes names (codes "[") ≡ true → (text : List ℕ) → IsUtf8 text → is_valid_for names text ≡ true → IsHostText names text
+pub name_host : (names : TableSet) → LacksPercent names → excludes names (codes "[") ≡ true
+    → (text : List ℕ) → IsUtf8 text → is_valid_for names text ≡ true → IsHostText names text
 name_host names percent outside text u valid =
     let lacks = valid_lacks names (codes "[") percent outside text u valid in
     record {
@@ -62,7 +66,8 @@ name_host names percent outside text u valid =
 digit_char : (d : ℕ) → digit_value d < 10 → is_plain_char is_ascii_digit d ≡ true
 digit_char d e = let range = digit_from_value d e in grind (arith, nat_tests)
 
-digits_plain : (digits : List ℕ) → AllDigits 10 digits → list_all (is_plain_char is_ascii_digit) digits ≡ true
+digits_plain : (digits : List ℕ) → AllDigits 10 digits
+    → list_all (is_plain_char is_ascii_digit) digits ≡ true
 digits_plain [] h = refl
 digits_plain (d ∷ digits) h = and_from _ _ (digit_char d h.0) (digits_plain digits h.1)
 

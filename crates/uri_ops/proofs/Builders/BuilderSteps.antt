@@ -1,13 +1,17 @@
 -- What each step of a builder makes of its text: the text of the parts so changed.
-use Rattle.std.proofs.Common.{◌≡◌, ℕ, ◌+◌, false, List, [], ◌++◌, length, refl, sym, ap, ◌∙◌, length-append, append-nil}
+use Rattle.std.proofs.Common.{◌≡◌, ℕ, ◌+◌, false, List, [], ◌++◌, length, refl, sym, ap, ◌∙◌}
+use Rattle.std.proofs.Common.{length-append, append-nil}
 use Rattle.std.specs.Prelude.{codes, Option, Some, None, option_map, unwrap_or}
 use Rattle.uri_parts.specs.Components.{recompose}
 use Rattle.uri_ops.specs.declared.build.draft.Lengths.{Lengths}
-use Rattle.uri_ops.specs.BuilderParts.{BuilderParts, with_authority, with_fragment, with_more_authority, with_path, with_query, with_scheme}
+use Rattle.uri_ops.specs.BuilderParts.{BuilderParts, with_authority, with_fragment}
+use Rattle.uri_ops.specs.BuilderParts.{with_more_authority, with_path, with_query, with_scheme}
 use Rattle.uri_ops.specs.Drafts.{IsDraft, behind_part, part_in, parts_in}
-use Rattle.uri_ops.proofs.Builders.Drafting.{IsStep, authority_text, fragment_text, more_text, path_text, query_text, stepped}
+use Rattle.uri_ops.proofs.Builders.Drafting.{IsStep, authority_text, fragment_text, more_text}
+use Rattle.uri_ops.proofs.Builders.Drafting.{path_text, query_text, stepped}
 
-abbrev whole : Option (List ℕ) → Option (List ℕ) → List ℕ → Option (List ℕ) → Option (List ℕ) → List ℕ
+abbrev whole : Option (List ℕ) → Option (List ℕ) → List ℕ → Option (List ℕ) → Option (List ℕ)
+    → List ℕ
 whole scheme authority path query fragment = recompose (record { scheme = scheme; authority = authority; path = path; query = query; fragment = fragment })
 
 module _ (lengths : Lengths) (text : List ℕ) (draft : IsDraft lengths text) where
@@ -47,11 +51,14 @@ module _ (lengths : Lengths) (text : List ℕ) (draft : IsDraft lengths text) wh
   no_fragment e = ap (λ n. part_in 1 n from_fragment) e
 
   -- what stood, and a new part behind it
-  longer : (more : List ℕ) → text ++ more ≡ whole old.scheme old.authority (unwrap_or old.path []) old.query old.fragment ++ more
+  longer : (more : List ℕ)
+      → text ++ more
+      ≡ whole old.scheme old.authority (unwrap_or old.path []) old.query old.fragment ++ more
   unfolding old
   longer more = ap (λ t. t ++ more) (sym draft.whole)
 
-  pub scheme_step : (x : List ℕ) → lengths.scheme ≡ None → lengths.authority ≡ None → lengths.path ≡ None → lengths.query ≡ None → lengths.fragment ≡ None
+  pub scheme_step : (x : List ℕ) → lengths.scheme ≡ None → lengths.authority ≡ None
+      → lengths.path ≡ None → lengths.query ≡ None → lengths.fragment ≡ None
       → IsStep (with_scheme x (parts_in lengths text false)) (record lengths { scheme = Some (length x) }) (text ++ (x ++ codes ":"))
   unfolding old
   scheme_step x s a p q f =
@@ -62,7 +69,8 @@ module _ (lengths : Lengths) (text : List ℕ) (draft : IsDraft lengths text) wh
       ∙ sym (append-nil (x ++ codes ":"))
       ∙ sym (λ i. whole (Some x) (no_authority a i) (unwrap_or (no_path p i) []) (no_query q i) (no_fragment f i)))
 
-  pub authority_step : (x : List ℕ) → lengths.authority ≡ None → lengths.path ≡ None → lengths.query ≡ None → lengths.fragment ≡ None
+  pub authority_step : (x : List ℕ) → lengths.authority ≡ None → lengths.path ≡ None
+      → lengths.query ≡ None → lengths.fragment ≡ None
       → IsStep (with_authority x (parts_in lengths text false)) (record lengths { authority = Some (length x) }) (text ++ (codes "//" ++ x))
   unfolding old
   authority_step x a p q f =
@@ -73,7 +81,8 @@ module _ (lengths : Lengths) (text : List ℕ) (draft : IsDraft lengths text) wh
       ∙ authority_text old.scheme x
       ∙ sym (λ i. whole old.scheme (Some x) (unwrap_or (no_path p i) []) (no_query q i) (no_fragment f i)))
 
-  pub path_step : (x : List ℕ) → lengths.path ≡ None → lengths.query ≡ None → lengths.fragment ≡ None
+  pub path_step : (x : List ℕ) → lengths.path ≡ None → lengths.query ≡ None
+      → lengths.fragment ≡ None
       → IsStep (with_path x (parts_in lengths text false)) (record lengths { path = Some (length x) }) (text ++ x)
   unfolding old
   path_step x p q f =
@@ -106,14 +115,18 @@ module _ (lengths : Lengths) (text : List ℕ) (draft : IsDraft lengths text) wh
       ∙ fragment_text old.scheme old.authority old.query (unwrap_or old.path []) x)
 
   -- the authority that stands last, and more of it
-  pub more_step : (n : ℕ) (a x : List ℕ) → lengths.authority ≡ Some n → (parts_in lengths text false).authority ≡ Some a → lengths.path ≡ None → lengths.query ≡ None → lengths.fragment ≡ None
+  pub more_step : (n : ℕ) (a x : List ℕ) → lengths.authority ≡ Some n
+      → (parts_in lengths text false).authority ≡ Some a → lengths.path ≡ None
+      → lengths.query ≡ None → lengths.fragment ≡ None
       → IsStep (with_more_authority x (parts_in lengths text false)) (record lengths { authority = Some (n + length x) }) (text ++ x)
   unfolding old
   more_step n a x e is p q f =
-      let same : option_map length old.authority ≡ Some n = ap (λ l. l.authority) draft.counted ∙ e in
+      let same : option_map length old.authority ≡ Some n = ap (λ l. l.authority) draft.counted
+      ∙ e in
       let len : n ≡ length a = sym (ap (λ o. unwrap_or o 0) (sym (ap (option_map length) is) ∙ same)) in
       let longer_by : Some (n + length x) ≡ option_map length (option_map (λ t. t ++ x) old.authority) =
-      ap (λ k. Some (k + length x)) len ∙ ap Some (sym (length-append a x)) ∙ sym (ap (λ o. option_map length (option_map (λ t. t ++ x) o)) is) in
+      ap (λ k. Some (k + length x)) len ∙ ap Some (sym (length-append a x))
+      ∙ sym (ap (λ o. option_map length (option_map (λ t. t ++ x) o)) is) in
       stepped (with_more_authority x old) (record lengths { authority = Some (n + length x) }) (text ++ x) refl
       (ap (λ (o : Option ℕ). record lengths { authority = o }) longer_by ∙ ap (λ (l : Lengths). record l { authority = option_map length (option_map (λ t. t ++ x) old.authority) }) (sym draft.counted))
       (longer x

@@ -1,5 +1,7 @@
 -- The numbers of an IPv6 address are eight of 16 bits, so its text by RFC 5952 is one of an address with these numbers.
-use Rattle.std.proofs.Common.{◌≡◌, ℕ, ◌+◌, ◌-◌, ◌*◌, ◌<◌, ◌≤◌, ◌^◌, Bool, true, false, List, [], ◌∷◌, ◌++◌, length, replicate, All, refl, sym, ap, subst, arith, ⊎_elim, inl, inr, lit<, length-append}
+use Rattle.std.proofs.Common.{◌≡◌, ℕ, ◌+◌, ◌-◌, ◌*◌, ◌<◌, ◌≤◌, ◌^◌, Bool, true, false, List, []}
+use Rattle.std.proofs.Common.{◌∷◌, ◌++◌, length, replicate, All, refl, sym, ap, subst, arith}
+use Rattle.std.proofs.Common.{⊎_elim, inl, inr, lit<, length-append}
 use Rattle.std.specs.Net.Addr.{segments_of}
 use Rattle.std.specs.Net.Grammar.{IsDotted, IsGroup, IsGroupsAfter, IsColonHex}
 use Rattle.std.specs.Net.Text.{ipv6_text}
@@ -8,7 +10,8 @@ use Rattle.std.proofs.NetLemmas.Texts.{IsColonHex-ipv6_text}
 use Rattle.std.proofs.lemmas.Bool.{cases_lt}
 use Rattle.std.proofs.lemmas.Int.Digits.{digits_value-lt}
 use Rattle.std.proofs.lemmas.List.{get_or_past, length-replicate}
-use Rattle.std.proofs.lemmas.List.Elements.{All-nil, All-cons, All-append, All-replicate, All-get_or}
+use Rattle.std.proofs.lemmas.List.Elements.{All-nil, All-cons, All-append, All-replicate}
+use Rattle.std.proofs.lemmas.List.Elements.{All-get_or}
 
 -- every number has 16 bits
 abbrev Fit : List ℕ → Type 0
@@ -30,7 +33,8 @@ dotted_fits text octets h =
     two : (a b : ℕ) → a < 256 → b < 256 → a * 256 + b < 2 ^ 16
     two a b p q = let same : 65536 ≡ 2 ^ 16 = refl in omega arith
 
-groups_fit : (ipv4 : Bool) (lead text segments : List ℕ) → IsGroupsAfter ipv4 lead text segments → Fit segments
+groups_fit : (ipv4 : Bool) (lead text segments : List ℕ) → IsGroupsAfter ipv4 lead text segments
+    → Fit segments
 groups_fit ipv4 lead text [] h = All-nil (λ n. n < 2 ^ 16)
 groups_fit ipv4 lead text (s ∷ segments) (inl (group, rest, e, is_group, more)) =
     All-cons (λ n. n < 2 ^ 16) s segments (group_fits group s is_group) (groups_fit ipv4 (58 ∷ []) rest segments more)
@@ -53,7 +57,8 @@ eight_segments text segments (inr h) =
     let zeros : List ℕ = replicate (8 - length h.head - length h.tail) 0 in
     omega (arith, ap length h.value, length-append (h.head ++ zeros) h.tail, length-append h.head zeros, length-replicate {A = ℕ} (8 - length h.head - length h.tail) 0, h.room)
 
-pub text_of_address : (text segments : List ℕ) → IsColonHex text segments → IsColonHex (ipv6_text segments) segments
+pub text_of_address : (text segments : List ℕ) → IsColonHex text segments
+    → IsColonHex (ipv6_text segments) segments
 text_of_address text segments h =
     IsColonHex-ipv6_text segments (eight_segments text segments h) (λ k. ⊎_elim
     (λ inside. All-get_or (λ n. n < 2 ^ 16) segments k 0 inside (segments_fit text segments h))

@@ -1,9 +1,11 @@
 -- Where components end: the marks that a set excludes, and the texts that begin with no scheme.
-use Rattle.std.proofs.Common.{◌≡◌, ℕ, Bool, true, false, eqb, not, nat_lt, List, [], ◌∷◌, ◌++◌, take, drop, refl, sym, ap, ◌∙◌, ◌&&◌, ⊎_elim, arith}
+use Rattle.std.proofs.Common.{◌≡◌, ℕ, Bool, true, false, eqb, not, nat_lt, List, [], ◌∷◌, ◌++◌}
+use Rattle.std.proofs.Common.{take, drop, refl, sym, ap, ◌∙◌, ◌&&◌, ⊎_elim, arith}
 use Rattle.std.specs.Prelude.{codes}
 use Rattle.std.specs.Char.{is_ascii_hexdigit}
 use Rattle.std.specs.List.{list_all, list_any}
-use Rattle.std.proofs.lemmas.Bool.{cases_Bool, and_parts, and_from, and_left, or_parts, or_left, both_ways, not_from_false}
+use Rattle.std.proofs.lemmas.Bool.{cases_Bool, and_parts, and_from, and_left, or_parts, or_left}
+use Rattle.std.proofs.lemmas.Bool.{both_ways, not_from_false}
 use Rattle.std.proofs.lemmas.Bool.Decides.{nat_tests}
 use Rattle.std.proofs.lemmas.List.Elements.{All-weaker}
 use Rattle.uri_pct.specs.Sets.{TableSet, is_one_of}
@@ -16,7 +18,8 @@ use Rattle.uri_parts.proofs.Splitting.Cuts.{Begins}
 abbrev pub is_plain_mark : ℕ → Bool
 is_plain_mark c = nat_lt c 128 && (not (is_ascii_hexdigit c) && not (eqb c 37))
 
-pub ends_outside : (marks : List ℕ) (set : TableSet) → list_all is_plain_mark marks ≡ true → list_any set.ascii marks ≡ false → excludes set marks ≡ true
+pub ends_outside : (marks : List ℕ) (set : TableSet) → list_all is_plain_mark marks ≡ true
+    → list_any set.ascii marks ≡ false → excludes set marks ≡ true
 ends_outside [] set e f = refl
 ends_outside (m ∷ marks) set e f =
     let p = and_parts (is_plain_mark m) (list_all is_plain_mark marks) e in
@@ -24,18 +27,23 @@ ends_outside (m ∷ marks) set e f =
     let r = or_parts (set.ascii m) (list_any set.ascii marks) f in
     and_from _ _ (and_from _ _ q.0 (and_from _ _ (not_from_false _ r.0) q.1)) (ends_outside marks set p.1 r.1)
 
-pub excludes_front : (some more : List ℕ) (set : TableSet) → excludes set (some ++ more) ≡ true → excludes set some ≡ true
+pub excludes_front : (some more : List ℕ) (set : TableSet) → excludes set (some ++ more) ≡ true
+    → excludes set some ≡ true
 excludes_front [] more set e = refl
 excludes_front (m ∷ some) more set e = let p = and_parts _ (excludes set (some ++ more)) e in and_from _ _ p.0 (excludes_front some more set p.1)
 
 -- a text that lacks some marks lacks fewer
-pub lacks_fewer : (all some text : List ℕ) → ((c : ℕ) → is_one_of all c ≡ false → is_one_of some c ≡ false) → Lacks all text → Lacks some text
+pub lacks_fewer : (all some text : List ℕ)
+    → ((c : ℕ) → is_one_of all c ≡ false → is_one_of some c ≡ false) → Lacks all text
+    → Lacks some text
 lacks_fewer all some text fewer lacks = All-weaker (λ c. is_one_of all c ≡ false) (λ c. is_one_of some c ≡ false) fewer text lacks
 
 -- a text whose first segment has no `:` begins with no scheme
-no_scheme_first : (path tail : List ℕ) → has_colon_first path ≡ false → Begins (codes "?#") tail → starts 58 (from_any (codes ":/?#") (path ++ tail)) ≡ false
+no_scheme_first : (path tail : List ℕ) → has_colon_first path ≡ false → Begins (codes "?#") tail
+    → starts 58 (from_any (codes ":/?#") (path ++ tail)) ≡ false
 no_scheme_first [] [] e begins = refl
-no_scheme_first [] (c ∷ tail) e begins = ap (λ n. starts 58 (drop n (c ∷ tail))) (mark_len (codes ":/?#") c tail (wider c begins)) ∙ other c begins
+no_scheme_first [] (c ∷ tail) e begins = ap (λ n. starts 58 (drop n (c ∷ tail))) (mark_len (codes ":/?#") c tail (wider c begins))
+    ∙ other c begins
   where
     wider : (c : ℕ) → is_one_of (codes "?#") c ≡ true → is_one_of (codes ":/?#") c ≡ true
     wider c e = grind (arith, nat_tests)
@@ -46,7 +54,8 @@ no_scheme_first (c ∷ path) tail e begins = ⊎_elim
     (λ m. ap (λ n. starts 58 (drop n (c ∷ (path ++ tail)))) (mark_len (codes ":/?#") c (path ++ tail) m) ∙ first c path e)
     (λ m.
     let past = ap (λ n. drop n (c ∷ (path ++ tail))) (other_len (codes ":/?#") c (path ++ tail) m) in
-    ap (starts 58) past ∙ no_scheme_first path tail (or_parts (eqb c 58) (has_colon_first path) (sym (ap (list_any (λ d. eqb d 58)) (before_other c path (no_slash c m))) ∙ e)).1 begins)
+    ap (starts 58) past
+    ∙ no_scheme_first path tail (or_parts (eqb c 58) (has_colon_first path) (sym (ap (list_any (λ d. eqb d 58)) (before_other c path (no_slash c m))) ∙ e)).1 begins)
     (cases_Bool (is_one_of (codes ":/?#") c))
   where
     no_slash : (c : ℕ) → is_one_of (codes ":/?#") c ≡ false → is_one_of (codes "/") c ≡ false
@@ -55,7 +64,8 @@ no_scheme_first (c ∷ path) tail e begins = ⊎_elim
     colon_no_slash : (c : ℕ) → eqb c 58 ≡ true → is_one_of (codes "/") c ≡ false
     colon_no_slash c e = grind (arith, nat_tests)
 
-    before_other : (c : ℕ) (path : List ℕ) → is_one_of (codes "/") c ≡ false → before_any (codes "/") (c ∷ path) ≡ c ∷ before_any (codes "/") path
+    before_other : (c : ℕ) (path : List ℕ) → is_one_of (codes "/") c ≡ false
+        → before_any (codes "/") (c ∷ path) ≡ c ∷ before_any (codes "/") path
     before_other c path m = ap (λ n. take n (c ∷ path)) (other_len (codes "/") c path m)
 
     first : (c : ℕ) (path : List ℕ) → has_colon_first (c ∷ path) ≡ false → eqb c 58 ≡ false
@@ -64,5 +74,6 @@ no_scheme_first (c ∷ path) tail e begins = ⊎_elim
         (λ h. h)
         (cases_Bool (eqb c 58))
 
-pub no_scheme : (path tail : List ℕ) → has_colon_first path ≡ false → Begins (codes "?#") tail → has_scheme (path ++ tail) ≡ false
+pub no_scheme : (path tail : List ℕ) → has_colon_first path ≡ false → Begins (codes "?#") tail
+    → has_scheme (path ++ tail) ≡ false
 no_scheme path tail e begins = and_left _ _ (no_scheme_first path tail e begins)

@@ -1,5 +1,6 @@
 -- Texts in which each `%` begins an octet.
-use Rattle.std.proofs.Common.{◌≡◌, ℕ, Bool, true, false, not, eqb, List, refl, subst, arith, inl, inr}
+use Rattle.std.proofs.Common.{◌≡◌, ℕ, Bool, true, false, not, eqb, List, refl, subst, arith, inl}
+use Rattle.std.proofs.Common.{inr}
 use Rattle.std.specs.Prelude.{Option, Some, None}
 use Rattle.std.specs.Net.Grammar.{IsDotted}
 use Rattle.std.proofs.lemmas.Bool.Decides.{nat_tests}
@@ -23,7 +24,8 @@ use Rattle.uri_ops.proofs.Meanings.AllowedParts.{part_valid}
 use Rattle.uri_ops.proofs.Meanings.PlainTexts.{is_plain_char, part_plain}
 
 -- what a table allows
-pub valid_decodes : (table : Table) (set : TableSet) (text : List ℕ) → set_of table ≡ set → IsValidFor set text → IsValidFor widest_set text
+pub valid_decodes : (table : Table) (set : TableSet) (text : List ℕ) → set_of table ≡ set
+    → IsValidFor set text → IsValidFor widest_set text
 valid_decodes table set text e valid = valid_in_more set widest_set text (in_widest set (subst LacksPercent e (lacks_percent table))) valid
 
 -- digits and dots
@@ -41,7 +43,8 @@ dotted_decodes text octets h =
     (list_all-from_AllPass (is_plain_char no_mark) text (All-weaker IsDigitOrDot (λ c. is_plain_char no_mark c ≡ true) (λ c d. unmarked c d) text (ipv4_digits text octets h))))
 
 -- a host that doesn't begin with `[`: an IPv4 address or a name
-pub named_decodes : (table : Table) (names : TableSet) (host : List ℕ) → set_of table ≡ names → is_host names host ≡ true → starts 91 host ≡ false → IsValidFor widest_set host
+pub named_decodes : (table : Table) (names : TableSet) (host : List ℕ) → set_of table ≡ names
+    → is_host names host ≡ true → starts 91 host ≡ false → IsValidFor widest_set host
 named_decodes table names host e h s = by_value (ipv4_value host) refl
   where
     by_value : (value : Option (List ℕ)) → ipv4_value host ≡ value → IsValidFor widest_set host

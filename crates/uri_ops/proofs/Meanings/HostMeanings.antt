@@ -1,5 +1,6 @@
 -- A host that is printed from its meaning is a host, and has that meaning.
-use Rattle.std.proofs.Common.{◌≡◌, ℕ, zero, suc, ◌<◌, ◌^◌, get_or, All, true, false, ltb, List, [], ◌∷◌, ◌++◌, map, refl, sym, ap, subst, ◌∙◌, arith, inl, inr}
+use Rattle.std.proofs.Common.{◌≡◌, ℕ, zero, suc, ◌<◌, ◌^◌, get_or, All, true, false, ltb, List, []}
+use Rattle.std.proofs.Common.{◌∷◌, ◌++◌, map, refl, sym, ap, subst, ◌∙◌, arith, inl, inr}
 use Rattle.std.specs.Prelude.{codes, Option, Some, None}
 use Rattle.std.specs.Char.{is_ascii_hexdigit, to_ascii_lowercase}
 use Rattle.std.specs.List.{list_all}
@@ -23,18 +24,24 @@ use Rattle.uri_pct.proofs.ValidTexts.Allowed.{printable-lower, allows-lower, low
 use Rattle.uri_pct.proofs.Readings.Reading.{allows-read}
 use Rattle.uri_pct.proofs.Readings.Rereading.{read-print_lower}
 use Rattle.uri_parts.specs.Components.{Lacks, starts}
-use Rattle.uri_parts.specs.Hosts.{HostKind, Ipv4, Ipv6, IpvFuture, RegName, IsHost, IsIpvFuture, bracketed, host_kind, is_host, ipv4_value, name_kind}
+use Rattle.uri_parts.specs.Hosts.{HostKind, Ipv4, Ipv6, IpvFuture, RegName, IsHost, IsIpvFuture}
+use Rattle.uri_parts.specs.Hosts.{bracketed, host_kind, is_host, ipv4_value, name_kind}
 use Rattle.uri_parts.proofs.TextKinds.SpeltTexts.{utf8_apart, valid_lacks}
 use Rattle.uri_parts.proofs.Parsing.ReadingStops.{utf8_tail}
-use Rattle.uri_parts.proofs.HostForms.Addresses.{is_address_char, is_address_text, address_text-ipv6}
-use Rattle.uri_parts.proofs.HostForms.Futures.{lacks_append, ipv6_lacks, ipv_future_lacks, hex_userinfo}
-use Rattle.uri_parts.proofs.HostForms.Hosts.{is_host-sound, is_host-complete, lacks_starts, utf8_bracketed}
+use Rattle.uri_parts.proofs.HostForms.Addresses.{is_address_char, is_address_text}
+use Rattle.uri_parts.proofs.HostForms.Addresses.{address_text-ipv6}
+use Rattle.uri_parts.proofs.HostForms.Futures.{lacks_append, ipv6_lacks, ipv_future_lacks}
+use Rattle.uri_parts.proofs.HostForms.Futures.{hex_userinfo}
+use Rattle.uri_parts.proofs.HostForms.Hosts.{is_host-sound, is_host-complete, lacks_starts}
+use Rattle.uri_parts.proofs.HostForms.Hosts.{utf8_bracketed}
 use Rattle.uri_ops.specs.ComponentSets.{IsComponentSet}
 use Rattle.uri_ops.specs.Meaning.{HostMeaning, FutureAddress, Name, host_meaning}
 use Rattle.uri_ops.specs.Normal.{host_text}
 use Rattle.uri_ops.proofs.Meanings.AddressNumbers.{text_of_address}
-use Rattle.uri_ops.proofs.Meanings.AllowedParts.{is_part, part_from, part_valid, printable_part, printable_read}
-use Rattle.uri_ops.proofs.Meanings.PlainTexts.{is_plain_char, valid_plain, utf8_plain, utf8_ascii, part_plain, plain_wider, plain_lower, lower_twice}
+use Rattle.uri_ops.proofs.Meanings.AllowedParts.{is_part, part_from, part_valid, printable_part}
+use Rattle.uri_ops.proofs.Meanings.AllowedParts.{printable_read}
+use Rattle.uri_ops.proofs.Meanings.PlainTexts.{is_plain_char, valid_plain, utf8_plain, utf8_ascii}
+use Rattle.uri_ops.proofs.Meanings.PlainTexts.{part_plain, plain_wider, plain_lower, lower_twice}
 use Rattle.uri_ops.proofs.Paths.PathCharacters.{test_lacks}
 use Rattle.uri_ops.proofs.Meanings.ComponentEnds.{ends_outside, excludes_front}
 use Rattle.uri_parts.proofs.HostForms.Futures.{ipv4_digits}
@@ -47,7 +54,8 @@ pub record IsHostOf (names : TableSet) (m : HostMeaning) (text : List ℕ) : Typ
   pub lacks : Lacks (codes "/?#") text
 
 -- in brackets
-pub lacks_bracketed : (address : List ℕ) → Lacks (codes "/?#") address → Lacks (codes "/?#") (bracketed address)
+pub lacks_bracketed : (address : List ℕ) → Lacks (codes "/?#") address
+    → Lacks (codes "/?#") (bracketed address)
 lacks_bracketed address h =
     lacks_append (codes "/?#") (codes "[") (address ++ codes "]") (test_lacks (codes "/?#") (codes "[") refl)
     (lacks_append (codes "/?#") address (codes "]") h (test_lacks (codes "/?#") (codes "]") refl))
@@ -60,7 +68,8 @@ address_plain : (c : ℕ) → is_address_char c ≡ true → ltb c 128 ≡ true
 unfolding is_address_char
 address_plain c e = grind (arith, nat_tests)
 
-pub plain_addresses : (text : List ℕ) → list_all is_address_char text ≡ true → list_all (is_plain_char is_address_char) text ≡ true
+pub plain_addresses : (text : List ℕ) → list_all is_address_char text ≡ true
+    → list_all (is_plain_char is_address_char) text ≡ true
 plain_addresses [] e = refl
 plain_addresses (c ∷ text) e =
     let p = and_parts (is_address_char c) (list_all is_address_char text) e in
@@ -74,13 +83,16 @@ utf8_address text e = utf8_plain is_address_char text (plain_addresses text e)
 hex_lower : (c : ℕ) → is_ascii_hexdigit c ≡ true → is_ascii_hexdigit (to_ascii_lowercase c) ≡ true
 hex_lower c e = grind (arith, nat_tests)
 
-userinfo_lower : (c : ℕ) → is_userinfo_char c ≡ true → is_userinfo_char (to_ascii_lowercase c) ≡ true
+userinfo_lower : (c : ℕ) → is_userinfo_char c ≡ true
+    → is_userinfo_char (to_ascii_lowercase c) ≡ true
 userinfo_lower c e = grind (arith, nat_tests)
 
-letter_lower : (c : ℕ) → is_one_of (codes "vV") c ≡ true → is_one_of (codes "vV") (to_ascii_lowercase c) ≡ true
+letter_lower : (c : ℕ) → is_one_of (codes "vV") c ≡ true
+    → is_one_of (codes "vV") (to_ascii_lowercase c) ≡ true
 letter_lower c e = grind (arith, nat_tests)
 
-letter_userinfo : (c : ℕ) → is_one_of (codes "vV") c ≡ true → is_plain_char is_userinfo_char c ≡ true
+letter_userinfo : (c : ℕ) → is_one_of (codes "vV") c ≡ true
+    → is_plain_char is_userinfo_char c ≡ true
 letter_userinfo c e = grind (arith, nat_tests)
 
 no_percent : is_userinfo_char 37 ≡ false
@@ -103,13 +115,15 @@ plain_future text u h =
       address = sym (valid_plain is_userinfo_char no_percent h.address apart.1) ∙ h.address_chars.1;
     }
 
-pub future_chars : (text : List ℕ) (h : IsIpvFuture text) → PlainParts text h → list_all (is_plain_char is_userinfo_char) text ≡ true
+pub future_chars : (text : List ℕ) (h : IsIpvFuture text) → PlainParts text h
+    → list_all (is_plain_char is_userinfo_char) text ≡ true
 future_chars text h w =
     ap (list_all (is_plain_char is_userinfo_char)) h.whole
     ∙ and_from _ _ (letter_userinfo h.letter h.is_v) (list_all-append (is_plain_char is_userinfo_char) h.version (46 ∷ h.address)
     ∙ and_from _ _ (plain_wider is_ascii_hexdigit is_userinfo_char hex_userinfo h.version w.version) (and_from _ _ dot_userinfo w.address))
 
-lower_plain_future : (text : List ℕ) (h : IsIpvFuture text) → PlainParts text h → IsIpvFuture (str_to_ascii_lowercase text)
+lower_plain_future : (text : List ℕ) (h : IsIpvFuture text) → PlainParts text h
+    → IsIpvFuture (str_to_ascii_lowercase text)
 lower_plain_future text h w =
     let version = plain_lower is_ascii_hexdigit hex_lower h.version w.version in
     let address = plain_lower is_userinfo_char userinfo_lower h.address w.address in
@@ -121,7 +135,8 @@ lower_plain_future text h w =
       letter = to_ascii_lowercase h.letter;
       version = str_to_ascii_lowercase h.version;
       address = str_to_ascii_lowercase h.address;
-      whole = ap str_to_ascii_lowercase h.whole ∙ ap (λ t. to_ascii_lowercase h.letter ∷ t) (map-append to_ascii_lowercase h.version (46 ∷ h.address));
+      whole = ap str_to_ascii_lowercase h.whole
+          ∙ ap (λ t. to_ascii_lowercase h.letter ∷ t) (map-append to_ascii_lowercase h.version (46 ∷ h.address));
       is_v = letter_lower h.letter h.is_v;
       version_digits = (omega arith, valid_plain is_ascii_hexdigit refl (str_to_ascii_lowercase h.version) (utf8_plain is_ascii_hexdigit (str_to_ascii_lowercase h.version) version) ∙ version);
       address_chars = (omega arith, valid_plain is_userinfo_char no_percent (str_to_ascii_lowercase h.address) (utf8_plain is_userinfo_char (str_to_ascii_lowercase h.address) address) ∙ address);
@@ -130,35 +145,43 @@ lower_plain_future text h w =
 pub slash_outside : excludes ipv_future_set (codes "/?#") ≡ true
 slash_outside = refl
 
-pub name_passes : (names : TableSet) (text : List ℕ) → starts 91 text ≡ false → is_valid_for names text ≡ true → is_host names text ≡ true
+pub name_passes : (names : TableSet) (text : List ℕ) → starts 91 text ≡ false
+    → is_valid_for names text ≡ true → is_host names text ≡ true
 unfolding is_host
 name_passes names text e valid = cond-false _ _ _ e ∙ or_right _ _ valid
 
-module _ (names : TableSet) (w : IsComponentSet (codes "/?#[]@:") names) (apart : excludes names (codes "@:[") ≡ true) where
+module _ (names : TableSet) (w : IsComponentSet (codes "/?#[]@:") names)
+    (apart : excludes names (codes "@:[") ≡ true) where
   outside : excludes names (codes "/?#") ≡ true
   outside = excludes_front (codes "/?#") (codes "[]@:") names (ends_outside (codes "/?#[]@:") names refl w.ends)
 
   -- a name, or an IPv4 address, which is one of its texts
-  pub name_meaning : (text : List ℕ) (value : Option (List ℕ)) → host_meaning names text (name_kind value) ≡ Name (map lower_token (read names text))
+  pub name_meaning : (text : List ℕ) (value : Option (List ℕ))
+      → host_meaning names text (name_kind value) ≡ Name (map lower_token (read names text))
   name_meaning text None = refl
   name_meaning text (Some octets) = refl
 
-  pub at_name : (text : List ℕ) → starts 91 text ≡ false → is_valid_for names text ≡ true → (host_kind text ≡ name_kind (ipv4_value text)) × (is_host names text ≡ true)
+  pub at_name : (text : List ℕ) → starts 91 text ≡ false → is_valid_for names text ≡ true
+      → (host_kind text ≡ name_kind (ipv4_value text)) × (is_host names text ≡ true)
   unfolding host_kind
   at_name text e valid = (cond-false _ _ _ e, name_passes names text e valid)
 
-  named : (text : List ℕ) → is_part names text ≡ true → IsHostOf names (Name (map lower_token (read names text))) (print (map lower_token (read names text)))
+  named : (text : List ℕ) → is_part names text ≡ true
+      → IsHostOf names (Name (map lower_token (read names text))) (print (map lower_token (read names text)))
   named text part =
       let ts = map lower_token (read names text) in
       let printable = printable-lower (read names text) (printable_read names w.percent text part) in
       let u = IsUtf8-print ts printable in
-      let valid = is_valid_for-print names ts printable ∙ allows-lower names (read names text) w.unreserved (allows-read names text w.unreserved (part_valid names text part)) in
+      let valid = is_valid_for-print names ts printable
+      ∙ allows-lower names (read names text) w.unreserved (allows-read names text w.unreserved (part_valid names text part)) in
       let at = at_name (print ts) (lacks_starts (codes "@:[") (print ts) 91 refl (valid_lacks names (codes "@:[") w.percent apart (print ts) u valid)) valid in
       record {
         utf8 = u;
         host = (host_kind (print ts), is_host-sound names (print ts) at.1);
-        meaning = ap (host_meaning names (print ts)) at.0 ∙ name_meaning (print ts) (ipv4_value (print ts))
-            ∙ ap (λ us. Name (map lower_token us)) (read-print_lower names text (printable_part names w.percent text part)) ∙ ap Name (lower-lower (read names text));
+        meaning = ap (host_meaning names (print ts)) at.0
+            ∙ name_meaning (print ts) (ipv4_value (print ts))
+            ∙ ap (λ us. Name (map lower_token us)) (read-print_lower names text (printable_part names w.percent text part))
+            ∙ ap Name (lower-lower (read names text));
         lacks = valid_lacks names (codes "/?#") w.percent outside (print ts) u valid;
       }
 
@@ -176,7 +199,8 @@ module _ (names : TableSet) (w : IsComponentSet (codes "/?#[]@:") names) (apart 
       (list_all-from_AllPass (is_plain_char is_unreserved) text (All-weaker IsDigitOrDot (λ c. is_plain_char is_unreserved c ≡ true) (λ c d. digit_unreserved c d) text chars))
 
   -- a host that is printed from its meaning
-  pub host_printed : (text : List ℕ) (kind : HostKind) → IsUtf8 text → IsHost names text kind → IsHostOf names (host_meaning names text kind) (host_text (host_meaning names text kind))
+  pub host_printed : (text : List ℕ) (kind : HostKind) → IsUtf8 text → IsHost names text kind
+      → IsHostOf names (host_meaning names text kind) (host_text (host_meaning names text kind))
   host_printed text (Ipv6 segments) u (address, e, groups) =
       let back = text_of_address address segments groups in
       let v = utf8_in_brackets (ipv6_text segments) (utf8_address (ipv6_text segments) (address_text-ipv6 (ipv6_text segments) segments back)) in
@@ -193,12 +217,14 @@ module _ (names : TableSet) (w : IsComponentSet (codes "/?#[]@:") names) (apart 
       let back = lower_plain_future address future plain_chars in
       let inner = utf8_plain is_userinfo_char low (plain_lower is_userinfo_char userinfo_lower address (future_chars address future plain_chars)) in
       let v = utf8_in_brackets low inner in
-      let same : str_to_ascii_lowercase text ≡ bracketed low = ap str_to_ascii_lowercase e ∙ ap (λ t. 91 ∷ t) (map-append to_ascii_lowercase address (codes "]")) in
+      let same : str_to_ascii_lowercase text ≡ bracketed low = ap str_to_ascii_lowercase e
+      ∙ ap (λ t. 91 ∷ t) (map-append to_ascii_lowercase address (codes "]")) in
       let found = is_host-complete names w.percent apart (bracketed low) IpvFuture v (low, refl, back) in
       record {
         utf8 = subst IsUtf8 (sym same) v;
         host = (IpvFuture, (low, same, back));
-        meaning = ap (host_meaning names (str_to_ascii_lowercase text)) (ap host_kind same ∙ found.kind) ∙ ap FutureAddress (lower_twice text);
+        meaning = ap (host_meaning names (str_to_ascii_lowercase text)) (ap host_kind same ∙ found.kind)
+            ∙ ap FutureAddress (lower_twice text);
         lacks = subst (Lacks (codes "/?#")) (sym same) (lacks_bracketed low (ipv_future_lacks (codes "/?#") slash_outside low inner back));
       }
   host_printed text (Ipv4 octets) u dotted = named text (dotted_part text octets dotted)

@@ -5,7 +5,8 @@ use Rattle.std.specs.Str.{chars, bytes_eq}
 use Rattle.std.specs.Char.{encode_utf8}
 use Rattle.std.specs.Fmt.{digits}
 use Rattle.std.specs.Net.Text.{hex, hex_groups_text, ipv6_text}
-use Rattle.std.specs.Net.Reader.{read_ipv6, read_ipv4, read_octet, read_number, read_segment, read_segments}
+use Rattle.std.specs.Net.Reader.{read_ipv6, read_ipv4, read_octet, read_number, read_segment}
+use Rattle.std.specs.Net.Reader.{read_segments}
 use Rattle.uri_pct.specs.Sets as Sets
 use Rattle.uri_pct.specs.Tokens as Tokens
 use Rattle.uri_pct.specs.Pieces as Pieces
@@ -89,7 +90,8 @@ ports_and_dots =
     (refl, refl, refl, refl, refl, refl, refl, refl, refl, refl, refl, refl, refl)
 
 -- the kind of a host that is an address once it is read
-address_once_read : (host_kind (codes "127.0.0.%31") ≡ RegName) × (host_kind (codes "127.0.0.1") ≡ Ipv4 (127 ∷ 0 ∷ 0 ∷ 1 ∷ []))
+address_once_read : (host_kind (codes "127.0.0.%31") ≡ RegName)
+    × (host_kind (codes "127.0.0.1") ≡ Ipv4 (127 ∷ 0 ∷ 0 ∷ 1 ∷ []))
 unfolding host_kind ipv4_value read_ipv4 read_octet read_number
 address_once_read = (refl, refl)
 

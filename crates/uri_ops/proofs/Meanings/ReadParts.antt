@@ -1,5 +1,6 @@
 -- What is read of the parts of a text is what is read of its tokens.
-use Rattle.std.proofs.Common.{◌≡◌, ℕ, true, List, [], ◌∷◌, ◌++◌, map, refl, sym, ap, ◌∙◌, append_assoc}
+use Rattle.std.proofs.Common.{◌≡◌, ℕ, true, List, [], ◌∷◌, ◌++◌, map, refl, sym, ap, ◌∙◌}
+use Rattle.std.proofs.Common.{append_assoc}
 use Rattle.std.specs.List.{list_all, flat_map}
 use Rattle.std.specs.Char.{encode_utf8, IsScalar}
 use Rattle.std.specs.Str.{chars, IsUtf8}
@@ -30,13 +31,17 @@ module _ (set : TableSet) where
   unfolding read_run pieces_from
   no_run = refl
 
-  of_text : (run text : List ℕ) (ps : List Chunk) → read_parts set (parts_from run (Text text ∷ ps)) ≡ read_run set run ++ (map Char (chars text) ++ read_parts set (parts_from [] ps))
+  of_text : (run text : List ℕ) (ps : List Chunk)
+      → read_parts set (parts_from run (Text text ∷ ps))
+      ≡ read_run set run ++ (map Char (chars text) ++ read_parts set (parts_from [] ps))
   unfolding parts_from
   of_text run text ps =
       flat_map-append (read_part set) (map Read (utf8_pieces run)) (Plain text ∷ parts_from [] ps)
       ∙ ap (λ x. x ++ (map Char (chars text) ++ read_parts set (parts_from [] ps))) (of_run run)
 
-  of_more : (run text : List ℕ) (ps : List Chunk) → IsUtf8 text → read_parts set (parts_from run (onto_chunks text ps)) ≡ read_run set run ++ (map Char (chars text) ++ read_parts set (parts_from [] ps))
+  of_more : (run text : List ℕ) (ps : List Chunk) → IsUtf8 text
+      → read_parts set (parts_from run (onto_chunks text ps))
+      ≡ read_run set run ++ (map Char (chars text) ++ read_parts set (parts_from [] ps))
   unfolding onto_chunks
   of_more run text [] u = of_text run text []
   of_more run text (Text more ∷ ps) u =
@@ -48,12 +53,14 @@ module _ (set : TableSet) where
   of_more run text (Byte value ∷ ps) u = of_text run text (Byte value ∷ ps)
 
   one_char : (c : ℕ) → IsScalar c → chars (encode_utf8 c) ≡ c ∷ []
-  one_char c scalar = ap chars (sym (append-nil (encode_utf8 c))) ∙ chars-encodes (c ∷ []) (and_from _ true scalar refl)
+  one_char c scalar = ap chars (sym (append-nil (encode_utf8 c)))
+      ∙ chars-encodes (c ∷ []) (and_from _ true scalar refl)
 
   scalar_first : (c : ℕ) → is_printable (Char c) ≡ true → IsScalar c
   scalar_first c e = (and_parts _ true (and_parts _ _ e).0).0
 
-  of_tokens : (run : List ℕ) (ts : List Token) → list_all is_printable ts ≡ true → read_parts set (parts_from run (chunks_of ts)) ≡ read_from set run ts
+  of_tokens : (run : List ℕ) (ts : List Token) → list_all is_printable ts ≡ true
+      → read_parts set (parts_from run (chunks_of ts)) ≡ read_from set run ts
   unfolding chunks_of parts_from read_from
   of_tokens run [] e = of_run run
   of_tokens run (Octet value ∷ ts) e = of_tokens (run ++ value ∷ []) ts (and_parts (is_printable (Octet value)) _ e).1
@@ -65,5 +72,6 @@ module _ (set : TableSet) where
       ∙ ap (λ us. read_run set run ++ Char c ∷ us) (of_tokens [] ts p.1)
 
   -- of a text that decodes
-  pub read_parts-tokens : (text : List ℕ) → IsValidFor widest_set text → read_parts set (parts text) ≡ read_tokens set (tokens text)
+  pub read_parts-tokens : (text : List ℕ) → IsValidFor widest_set text
+      → read_parts set (parts text) ≡ read_tokens set (tokens text)
   read_parts-tokens text v = of_tokens [] (tokens text) (printable_valid widest_set text refl v)

@@ -1,5 +1,6 @@
 -- What a reading takes.
-use Rattle.std.proofs.Common.{◌≡◌, ℕ, Bool, true, false, List, [], ◌∷◌, ◌++◌, map, sym, ap, ◌∙◌, string_bytes}
+use Rattle.std.proofs.Common.{◌≡◌, ℕ, Bool, true, false, List, [], ◌∷◌, ◌++◌, map, sym, ap, ◌∙◌}
+use Rattle.std.proofs.Common.{string_bytes}
 use Rattle.std.specs.Str.{IsUtf8, chars, str_to_ascii_lowercase}
 use Rattle.std.proofs.lemmas.List.{append-nil}
 use Rattle.uri_pct.specs.Chunks.{widest_set}
@@ -12,36 +13,54 @@ use Rattle.uri_pct.specs.Tables.{set_of}
 use Rattle.uri_pct.specs.Tokens.{Octet, Char, tokens, print, IsValidFor}
 use Rattle.uri_ops.specs.declared.reading.Reading.{Reading}
 use Rattle.uri_ops.specs.Models.Readings.{TookReading, read_parts, cased, cased_text}
-use Rattle.uri_ops.proofs.Meanings.Cased.{AllowsReadable, print_cased, cased_octets, text_read, text_read_lower}
+use Rattle.uri_ops.proofs.Meanings.Cased.{AllowsReadable, print_cased, cased_octets, text_read}
+use Rattle.uri_ops.proofs.Meanings.Cased.{text_read_lower}
 use Rattle.uri_ops.proofs.Meanings.ReadParts.{parts_of_run, read_parts-tokens}
 
 -- text that stands for itself
-pub plain_cased : (lowers : Bool) (set : TableSet) (text : List ℕ) → IsUtf8 text → print (cased lowers (read_parts set (Plain text ∷ []))) ≡ cased_text lowers text
-plain_cased lowers set text u = ap (λ ts. print (cased lowers ts)) (append-nil (map Char (chars text))) ∙ print_cased lowers text u
+pub plain_cased : (lowers : Bool) (set : TableSet) (text : List ℕ) → IsUtf8 text
+    → print (cased lowers (read_parts set (Plain text ∷ []))) ≡ cased_text lowers text
+plain_cased lowers set text u = ap (λ ts. print (cased lowers ts)) (append-nil (map Char (chars text)))
+    ∙ print_cased lowers text u
 
 -- characters that octets spell
-pub spelt_as_is : (readable set : TableSet) (text : List ℕ) → AllowsReadable readable set → IsUtf8 text → print (cased false (read_parts set (map Read (utf8_pieces text)))) ≡ print (encode_text readable text)
+pub spelt_as_is : (readable set : TableSet) (text : List ℕ) → AllowsReadable readable set
+    → IsUtf8 text
+    → print (cased false (read_parts set (map Read (utf8_pieces text))))
+    ≡ print (encode_text readable text)
 spelt_as_is readable set text same u = ap print (parts_of_run set (utf8_pieces text) ∙ text_read readable set same text u)
 
-pub spelt_lowered : (readable set : TableSet) (text : List ℕ) → AllowsReadable readable set → IsUtf8 text
-    → print (cased true (read_parts set (map Read (utf8_pieces text)))) ≡ print (encode_text readable (str_to_ascii_lowercase text))
-spelt_lowered readable set text same u = ap (λ ts. print (map lower_token ts)) (parts_of_run set (utf8_pieces text)) ∙ ap print (text_read_lower readable set same text u)
+pub spelt_lowered : (readable set : TableSet) (text : List ℕ) → AllowsReadable readable set
+    → IsUtf8 text
+    → print (cased true (read_parts set (map Read (utf8_pieces text))))
+    ≡ print (encode_text readable (str_to_ascii_lowercase text))
+spelt_lowered readable set text same u = ap (λ ts. print (map lower_token ts)) (parts_of_run set (utf8_pieces text))
+    ∙ ap print (text_read_lower readable set same text u)
 
 -- what is no character
-pub octets_cased : (lowers : Bool) (set : TableSet) (bytes : List ℕ) → print (cased lowers (read_parts set (Read (IllFormed bytes) ∷ []))) ≡ print (map Octet bytes)
-octets_cased lowers set bytes = ap (λ ts. print (cased lowers ts)) (append-nil (map Octet bytes)) ∙ ap print (cased_octets lowers bytes)
+pub octets_cased : (lowers : Bool) (set : TableSet) (bytes : List ℕ)
+    → print (cased lowers (read_parts set (Read (IllFormed bytes) ∷ []))) ≡ print (map Octet bytes)
+octets_cased lowers set bytes = ap (λ ts. print (cased lowers ts)) (append-nil (map Octet bytes))
+    ∙ ap print (cased_octets lowers bytes)
 
 -- a reading that grew by what was to be written
-pub grown : (s t : Reading) (ps : List Part) (lowers : Bool) (more : List ℕ) → set_of t.table ≡ set_of s.table → t.lowers ≡ s.lowers → s.lowers ≡ lowers
-    → string_bytes t.text ≡ string_bytes s.text ++ more → print (cased lowers (read_parts (set_of s.table) ps)) ≡ more → TookReading s ps t
+pub grown : (s t : Reading) (ps : List Part) (lowers : Bool) (more : List ℕ)
+    → set_of t.table ≡ set_of s.table → t.lowers ≡ s.lowers → s.lowers ≡ lowers
+    → string_bytes t.text ≡ string_bytes s.text ++ more
+    → print (cased lowers (read_parts (set_of s.table) ps)) ≡ more → TookReading s ps t
 grown s t ps lowers more set same is written meant = record {
   set = set;
   lowers = same;
-  text = written ∙ ap (λ x. string_bytes s.text ++ x) (sym (ap (λ b. print (cased b (read_parts (set_of s.table) ps))) is ∙ meant));
+  text = written
+      ∙ ap (λ x. string_bytes s.text ++ x) (sym (ap (λ b. print (cased b (read_parts (set_of s.table) ps))) is ∙ meant));
 }
 
 -- the whole text
-pub taken_whole : (text old : List ℕ) (s t : Reading) → IsValidFor widest_set text → string_bytes s.text ≡ old → TookReading s (parts text) t
-    → string_bytes t.text ≡ old ++ print (cased s.lowers (read_tokens (set_of s.table) (tokens text)))
+pub taken_whole : (text old : List ℕ) (s t : Reading) → IsValidFor widest_set text
+    → string_bytes s.text ≡ old → TookReading s (parts text) t
+    → string_bytes t.text
+    ≡ old ++ print (cased s.lowers (read_tokens (set_of s.table) (tokens text)))
 taken_whole text old s t valid begun took =
-    took.text ∙ ap (λ x. x ++ print (cased s.lowers (read_parts (set_of s.table) (parts text)))) begun ∙ ap (λ ts. old ++ print (cased s.lowers ts)) (read_parts-tokens (set_of s.table) text valid)
+    took.text
+    ∙ ap (λ x. x ++ print (cased s.lowers (read_parts (set_of s.table) (parts text)))) begun
+    ∙ ap (λ ts. old ++ print (cased s.lowers ts)) (read_parts-tokens (set_of s.table) text valid)

@@ -1,12 +1,16 @@
 -- The components of a text of a kind: each is in UTF-8 and meets its rule, and they are cut apart.
-use Rattle.std.proofs.Common.{◌≡◌, ℕ, ◌<◌, Bool, true, false, not, List, [], ◌∷◌, drop, refl, arith, ◌&&◌, ◌||◌, ⊎_elim}
+use Rattle.std.proofs.Common.{◌≡◌, ℕ, ◌<◌, Bool, true, false, not, List, [], ◌∷◌, drop, refl, arith}
+use Rattle.std.proofs.Common.{◌&&◌, ◌||◌, ⊎_elim}
 use Rattle.std.specs.Prelude.{codes, Option, Some, None, IfSome, is_some}
 use Rattle.std.specs.Str.{IsUtf8}
 use Rattle.std.proofs.lemmas.Bool.{cases_Bool, and_parts, and_from, eqb-true}
 use Rattle.uri_pct.specs.Tokens.{is_valid_for}
 use Rattle.uri_pct.proofs.ValidTexts.Cuts.{AreAscii, ascii_marks}
-use Rattle.uri_parts.specs.Components.{Components, starts, before_any, from_any, has_scheme, has_authority, after_scheme, after_authority, after_query, components, when}
-use Rattle.uri_parts.specs.Grammar.{Kind, if_some, is_scheme, has_colon_first, is_authority, are_components}
+use Rattle.uri_parts.specs.Components.{Components, starts, before_any, from_any, has_scheme}
+use Rattle.uri_parts.specs.Components.{has_authority, after_scheme, after_authority, after_query}
+use Rattle.uri_parts.specs.Components.{components, when}
+use Rattle.uri_parts.specs.Grammar.{Kind, if_some, is_scheme, has_colon_first, is_authority}
+use Rattle.uri_parts.specs.Grammar.{are_components}
 use Rattle.uri_parts.proofs.Parsing.ReadingStops.{utf8_from, utf8_tail, utf8_slashes}
 use Rattle.uri_ops.proofs.Meanings.AllowedParts.{is_part, part_from, part_valid}
 use Rattle.uri_pct.proofs.Tests.{both_some}
@@ -20,13 +24,16 @@ pub record AreParts (kind : Kind) (p : Components) : Type 0 where
   pub path : is_part kind.path p.path ≡ true
   pub query : IfSome p.query (λ q. is_part kind.query q ≡ true)
   pub fragment : IfSome p.fragment (λ f. is_part kind.fragment f ≡ true)
-  pub needs : (is_some p.scheme || (not kind.needs_scheme && (is_some p.authority || not (has_colon_first p.path)))) ≡ true
+  pub needs : (is_some p.scheme || (not kind.needs_scheme && (is_some p.authority || not (has_colon_first p.path))))
+      ≡ true
 
-pub some_if : (o : Option (List ℕ)) (test : List ℕ → Bool) → if_some o test ≡ true → IfSome o (λ x. test x ≡ true)
+pub some_if : (o : Option (List ℕ)) (test : List ℕ → Bool) → if_some o test ≡ true
+    → IfSome o (λ x. test x ≡ true)
 some_if None test e = tt
 some_if (Some x) test e = e
 
-pub if_from : (o : Option (List ℕ)) (P : List ℕ → Type 0) (test : List ℕ → Bool) → ((x : List ℕ) → P x → test x ≡ true) → IfSome o P → if_some o test ≡ true
+pub if_from : (o : Option (List ℕ)) (P : List ℕ → Type 0) (test : List ℕ → Bool)
+    → ((x : List ℕ) → P x → test x ≡ true) → IfSome o P → if_some o test ≡ true
 if_from None P test f h = refl
 if_from (Some x) P test f h = f x h
 
@@ -49,11 +56,13 @@ pub record AreUtf8 (p : Components) : Type 0 where
   pub query : IfSome p.query IsUtf8
   pub fragment : IfSome p.fragment IsUtf8
 
-utf8_past : (c : ℕ) (text : List ℕ) → c < 128 → starts c text ≡ true → IsUtf8 text → IsUtf8 (drop 1 text)
+utf8_past : (c : ℕ) (text : List ℕ) → c < 128 → starts c text ≡ true → IsUtf8 text
+    → IsUtf8 (drop 1 text)
 utf8_past c [] h e u = u
 utf8_past c (b ∷ rest) h e u = utf8_tail b rest (let d = eqb-true b c e in omega arith) u
 
-utf8_when : (test : Bool) (text : List ℕ) → (test ≡ true → IsUtf8 text) → IfSome (when test text) IsUtf8
+utf8_when : (test : Bool) (text : List ℕ) → (test ≡ true → IsUtf8 text)
+    → IfSome (when test text) IsUtf8
 utf8_when true text u = u refl
 utf8_when false text u = tt
 
@@ -89,7 +98,8 @@ components_utf8 text u =
     }
 
 -- the components of a text that meet the grammar
-pub meet_parts : (kind : Kind) (p : Components) → AreUtf8 p → are_components kind p ≡ true → AreParts kind p
+pub meet_parts : (kind : Kind) (p : Components) → AreUtf8 p → are_components kind p ≡ true
+    → AreParts kind p
 meet_parts kind p u e =
     let a = and_parts _ _ e in
     let b = and_parts _ _ a.0 in

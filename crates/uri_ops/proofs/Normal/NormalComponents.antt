@@ -1,5 +1,7 @@
 -- The components of a normal text: they meet the grammar, are cut apart where the text is, and have the meaning that the text was printed from.
-use Rattle.std.proofs.Common.{◌≡◌, ℕ, ◌<◌, Bool, true, false, cond, not, List, [], ◌∷◌, ◌++◌, length, refl, ap, ◌∙◌, ◌&&◌, ◌||◌, ⊎_elim, inl, inr, arith, option_map}
+use Rattle.std.proofs.Common.{◌≡◌, ℕ, ◌<◌, Bool, true, false, cond, not, List, [], ◌∷◌, ◌++◌}
+use Rattle.std.proofs.Common.{length, refl, ap, ◌∙◌, ◌&&◌, ◌||◌, ⊎_elim, inl, inr, arith}
+use Rattle.std.proofs.Common.{option_map}
 use Rattle.std.specs.Prelude.{codes, Option, Some, None, IfSome, IfNone, is_some, slice_index}
 use Rattle.std.specs.Option.{option_and_then}
 use Rattle.std.specs.Char.{is_ascii_alphabetic}
@@ -9,7 +11,8 @@ use Rattle.uri_pct.specs.Sets.{TableSet, scheme_set}
 use Rattle.uri_pct.specs.Tokens.{print, is_valid_for}
 use Rattle.uri_pct.specs.Reading.{read}
 use Rattle.uri_pct.proofs.ValidTexts.Cuts.{excludes}
-use Rattle.uri_parts.specs.Components.{Components, IsSplitOf, Lacks, IsRooted, marked, has_scheme, has_authority, recompose}
+use Rattle.uri_parts.specs.Components.{Components, IsSplitOf, Lacks, IsRooted, marked, has_scheme}
+use Rattle.uri_parts.specs.Components.{has_authority, recompose}
 use Rattle.uri_parts.specs.Grammar.{Kind, is_scheme, has_colon_first, is_authority}
 use Rattle.uri_parts.proofs.Splitting.Marks.{query_text, Begins-query_text}
 use Rattle.uri_parts.proofs.Splitting.Relative.{scheme_lacks, scheme_marks}
@@ -22,8 +25,10 @@ use Rattle.uri_ops.specs.Normal.{normal_authority, normal_components}
 use Rattle.uri_ops.proofs.Meanings.ComponentEnds.{ends_outside, excludes_front, no_scheme}
 use Rattle.uri_ops.proofs.Meanings.PortMeanings.{authority_meaning-same}
 use Rattle.uri_ops.proofs.Targeting.Targets.{guarded_plain, cleaned_rooted}
-use Rattle.uri_ops.proofs.Meanings.AllowedParts.{is_part, part_utf8, part_valid, reprinted, reprinted-nil, read-reprinted, part_reprinted}
-use Rattle.uri_ops.proofs.Paths.ReadStarts.{starts_reprinted, has_authority_reprinted, colon_reprinted}
+use Rattle.uri_ops.proofs.Meanings.AllowedParts.{is_part, part_utf8, part_valid, reprinted}
+use Rattle.uri_ops.proofs.Meanings.AllowedParts.{reprinted-nil, read-reprinted, part_reprinted}
+use Rattle.uri_ops.proofs.Paths.ReadStarts.{starts_reprinted, has_authority_reprinted}
+use Rattle.uri_ops.proofs.Paths.ReadStarts.{colon_reprinted}
 use Rattle.uri_ops.proofs.Paths.PathMeanings.{part_guarded, part_cleaned, read_guarded}
 use Rattle.uri_ops.proofs.Meanings.PlainTexts.{lower_twice, scheme_lower, utf8_scheme_lower}
 use Rattle.uri_ops.proofs.Meanings.TextParts.{AreParts}
@@ -32,16 +37,22 @@ use Rattle.uri_parts.proofs.Splitting.Recompose.{true_to}
 
 -- an authority that is printed from its meaning is one, lacks the marks that would end it, and has that meaning
 pub record KeepsAuthorities (kind : Kind) : Type 0 where
-  pub utf8 : (default : Option ℕ) (a : List ℕ) → IsUtf8 a → is_authority kind a ≡ true → IsUtf8 (normal_authority (authority_meaning kind default a))
-  pub meets : (default : Option ℕ) (a : List ℕ) → IsUtf8 a → is_authority kind a ≡ true → is_authority kind (normal_authority (authority_meaning kind default a)) ≡ true
-  pub lacks : (default : Option ℕ) (a : List ℕ) → IsUtf8 a → is_authority kind a ≡ true → Lacks (codes "/?#") (normal_authority (authority_meaning kind default a))
-  pub bare : (default : Option ℕ) (a : List ℕ) → IsUtf8 a → is_authority kind a ≡ true → authority_meaning kind None (normal_authority (authority_meaning kind default a)) ≡ authority_meaning kind default a
+  pub utf8 : (default : Option ℕ) (a : List ℕ) → IsUtf8 a → is_authority kind a ≡ true
+      → IsUtf8 (normal_authority (authority_meaning kind default a))
+  pub meets : (default : Option ℕ) (a : List ℕ) → IsUtf8 a → is_authority kind a ≡ true
+      → is_authority kind (normal_authority (authority_meaning kind default a)) ≡ true
+  pub lacks : (default : Option ℕ) (a : List ℕ) → IsUtf8 a → is_authority kind a ≡ true
+      → Lacks (codes "/?#") (normal_authority (authority_meaning kind default a))
+  pub bare : (default : Option ℕ) (a : List ℕ) → IsUtf8 a → is_authority kind a ≡ true
+      → authority_meaning kind None (normal_authority (authority_meaning kind default a))
+      ≡ authority_meaning kind default a
 
 -- the scheme
 abbrev IsSchemePart : List ℕ → Type 0
 IsSchemePart s = IsUtf8 s × (is_scheme s ≡ true)
 
-lowered_scheme : (scheme : Option (List ℕ)) → IfSome scheme IsSchemePart → IfSome (option_map str_to_ascii_lowercase scheme) IsSchemePart
+lowered_scheme : (scheme : Option (List ℕ)) → IfSome scheme IsSchemePart
+    → IfSome (option_map str_to_ascii_lowercase scheme) IsSchemePart
 lowered_scheme None h = tt
 lowered_scheme (Some s) h = (utf8_scheme_lower s h.0 h.1, scheme_lower s h.0 h.1)
 
@@ -49,29 +60,35 @@ pub some_first : (s : List ℕ) → is_ascii_alphabetic (slice_index s 0) ≡ tr
 some_first [] e = absurd (false≢true e)
 some_first (c ∷ s) e = omega arith
 
-scheme_cut : (scheme : Option (List ℕ)) → IfSome scheme IsSchemePart → IfSome scheme (λ s. (0 < length s) × Lacks (codes ":/?#") s)
+scheme_cut : (scheme : Option (List ℕ)) → IfSome scheme IsSchemePart
+    → IfSome scheme (λ s. (0 < length s) × Lacks (codes ":/?#") s)
 scheme_cut None h = tt
 scheme_cut (Some s) h =
     let q = and_parts (is_ascii_alphabetic (slice_index s 0)) (is_valid_for scheme_set s) h.1 in
     (some_first s q.0, valid_lacks scheme_set (codes ":/?#") scheme_lacks scheme_marks s h.0 q.1)
 
-pub lowered_twice : (scheme : Option (List ℕ)) → option_map str_to_ascii_lowercase (option_map str_to_ascii_lowercase scheme) ≡ option_map str_to_ascii_lowercase scheme
+pub lowered_twice : (scheme : Option (List ℕ))
+    → option_map str_to_ascii_lowercase (option_map str_to_ascii_lowercase scheme)
+    ≡ option_map str_to_ascii_lowercase scheme
 lowered_twice None = refl
 lowered_twice (Some s) = ap Some (lower_twice s)
 
 -- what is printed of the reading of a component that may be absent
 module _ (set : TableSet) (marks : List ℕ) (w : IsComponentSet marks set) where
-  pub printed_part : (o : Option (List ℕ)) → IfSome o (λ x. is_part set x ≡ true) → IfSome (option_map print (option_map (read set) o)) (λ x. is_part set x ≡ true)
+  pub printed_part : (o : Option (List ℕ)) → IfSome o (λ x. is_part set x ≡ true)
+      → IfSome (option_map print (option_map (read set) o)) (λ x. is_part set x ≡ true)
   unfolding reprinted
   printed_part None h = tt
   printed_part (Some x) h = part_reprinted set w.percent w.unreserved x h
 
-  pub printed_read : (o : Option (List ℕ)) → IfSome o (λ x. is_part set x ≡ true) → option_map (read set) (option_map print (option_map (read set) o)) ≡ option_map (read set) o
+  pub printed_read : (o : Option (List ℕ)) → IfSome o (λ x. is_part set x ≡ true)
+      → option_map (read set) (option_map print (option_map (read set) o)) ≡ option_map (read set) o
   unfolding reprinted
   printed_read None h = refl
   printed_read (Some x) h = ap Some (read-reprinted set w.percent x h)
 
-  pub part_cut_at : (some : List ℕ) → excludes set some ≡ true → (o : Option (List ℕ)) → IfSome o (λ x. is_part set x ≡ true) → IfSome o (λ x. Lacks some x)
+  pub part_cut_at : (some : List ℕ) → excludes set some ≡ true → (o : Option (List ℕ))
+      → IfSome o (λ x. is_part set x ≡ true) → IfSome o (λ x. Lacks some x)
   part_cut_at some outside None h = tt
   part_cut_at some outside (Some x) h = valid_lacks set some w.percent outside x (part_utf8 set x h) (part_valid set x h)
 
@@ -80,58 +97,72 @@ abbrev path_text : TableSet → Option (List ℕ) → Option (List ℕ) → List
 path_text set scheme authority path =
     cond (is_some (option_map str_to_ascii_lowercase scheme)) (guarded authority (print (read set (plain_path scheme path)))) (print (read set (plain_path scheme path)))
 
-module _ (set : TableSet) (w : IsComponentSet (codes "?#[]") set) (slash : set.ascii 47 ≡ true) where
-  path_part : (scheme authority : Option (List ℕ)) (path : List ℕ) → is_part set path ≡ true → is_part set (path_text set scheme authority path) ≡ true
+module _ (set : TableSet) (w : IsComponentSet (codes "?#[]") set)
+    (slash : set.ascii 47 ≡ true) where
+  path_part : (scheme authority : Option (List ℕ)) (path : List ℕ) → is_part set path ≡ true
+      → is_part set (path_text set scheme authority path) ≡ true
   unfolding reprinted
   path_part None authority path h = part_reprinted set w.percent w.unreserved path h
   path_part (Some s) authority path h =
       part_guarded set w slash authority (reprinted set (cleaned_path path)) (part_reprinted set w.percent w.unreserved (cleaned_path path) (part_cleaned set w slash path h))
 
   path_read : (scheme authority : Option (List ℕ)) (path : List ℕ) → is_part set path ≡ true
-      → read set (plain_path (option_map str_to_ascii_lowercase scheme) (path_text set scheme authority path)) ≡ read set (plain_path scheme path)
+      → read set (plain_path (option_map str_to_ascii_lowercase scheme) (path_text set scheme authority path))
+      ≡ read set (plain_path scheme path)
   unfolding reprinted
   path_read None authority path h = read-reprinted set w.percent path h
   path_read (Some s) authority path h = read_guarded set w slash authority path h
 
-  pub rooted_reprinted : (path : List ℕ) → is_part set path ≡ true → IsRooted path → IsRooted (reprinted set path)
+  pub rooted_reprinted : (path : List ℕ) → is_part set path ≡ true → IsRooted path
+      → IsRooted (reprinted set path)
   rooted_reprinted path h rooted = ⊎_elim
       (λ e. inl (ap (reprinted set) e ∙ reprinted-nil set))
       (λ e. inr (true_to _ (starts_reprinted set w.percent w.unreserved path h ∙ true_of _ e)))
       rooted
 
-  path_rooted : (scheme : Option (List ℕ)) (a path : List ℕ) → is_part set path ≡ true → IsRooted path → IsRooted (path_text set scheme (Some a) path)
+  path_rooted : (scheme : Option (List ℕ)) (a path : List ℕ) → is_part set path ≡ true
+      → IsRooted path → IsRooted (path_text set scheme (Some a) path)
   unfolding reprinted
   path_rooted None a path h rooted = rooted_reprinted path h rooted
   path_rooted (Some s) a path h rooted = rooted_reprinted (cleaned_path path) (part_cleaned set w slash path h) (cleaned_rooted path rooted)
 
-  path_no_authority : (scheme : Option (List ℕ)) (path : List ℕ) → is_part set path ≡ true → has_authority path ≡ false → has_authority (path_text set scheme None path) ≡ false
+  path_no_authority : (scheme : Option (List ℕ)) (path : List ℕ) → is_part set path ≡ true
+      → has_authority path ≡ false → has_authority (path_text set scheme None path) ≡ false
   unfolding reprinted
   path_no_authority None path h e = has_authority_reprinted set w.percent w.unreserved path h ∙ e
   path_no_authority (Some s) path h e = guarded_plain None (reprinted set (cleaned_path path))
 
-module _ (kind : Kind) (sets : HasComponentSets kind) (keeps : KeepsAuthorities kind) (ports : PortFunction) where
+module _ (kind : Kind) (sets : HasComponentSets kind) (keeps : KeepsAuthorities kind)
+    (ports : PortFunction) where
   abbrev IsAuthorityPart : List ℕ → Type 0
   IsAuthorityPart a = IsUtf8 a × (is_authority kind a ≡ true)
 
   abbrev printed : Option ℕ → Option (List ℕ) → Option (List ℕ)
   printed default o = option_map normal_authority (option_map (authority_meaning kind default) o)
 
-  authority_part : (default : Option ℕ) (o : Option (List ℕ)) → IfSome o IsAuthorityPart → IfSome (printed default o) IsAuthorityPart
+  authority_part : (default : Option ℕ) (o : Option (List ℕ)) → IfSome o IsAuthorityPart
+      → IfSome (printed default o) IsAuthorityPart
   authority_part default None h = tt
   authority_part default (Some a) h = (keeps.utf8 default a h.0 h.1, keeps.meets default a h.0 h.1)
 
-  authority_cut : (default : Option ℕ) (scheme o : Option (List ℕ)) (path : List ℕ) → is_part kind.path path ≡ true → IfSome o IsAuthorityPart → IfSome o (λ a. Lacks (codes "/?#") a × IsRooted path)
+  authority_cut : (default : Option ℕ) (scheme o : Option (List ℕ)) (path : List ℕ)
+      → is_part kind.path path ≡ true → IfSome o IsAuthorityPart
+      → IfSome o (λ a. Lacks (codes "/?#") a × IsRooted path)
       → IfSome (printed default o) (λ a. Lacks (codes "/?#") a × IsRooted (path_text kind.path scheme (printed default o) path))
   authority_cut default scheme None path part h cut = tt
   authority_cut default scheme (Some a) path part h cut =
       (keeps.lacks default a h.0 h.1, path_rooted kind.path sets.path sets.slash scheme (normal_authority (authority_meaning kind default a)) path part cut.1)
 
-  authority_none : (default : Option ℕ) (scheme o : Option (List ℕ)) (path : List ℕ) → is_part kind.path path ≡ true → IfNone o (has_authority path ≡ false)
+  authority_none : (default : Option ℕ) (scheme o : Option (List ℕ)) (path : List ℕ)
+      → is_part kind.path path ≡ true → IfNone o (has_authority path ≡ false)
       → IfNone (printed default o) (has_authority (path_text kind.path scheme (printed default o) path) ≡ false)
   authority_none default scheme None path part h = path_no_authority kind.path sets.path sets.slash scheme path part h
   authority_none default scheme (Some a) path part h = tt
 
-  authority_kept : (default other : Option ℕ) → other ≡ default → (o : Option (List ℕ)) → IfSome o IsAuthorityPart → option_map (authority_meaning kind other) (printed default o) ≡ option_map (authority_meaning kind default) o
+  authority_kept : (default other : Option ℕ) → other ≡ default → (o : Option (List ℕ))
+      → IfSome o IsAuthorityPart
+      → option_map (authority_meaning kind other) (printed default o)
+      ≡ option_map (authority_meaning kind default) o
   authority_kept default other e None h = refl
   authority_kept default other e (Some a) h =
       ap (λ d. Some (authority_meaning kind d (normal_authority (authority_meaning kind default a)))) e
@@ -141,19 +172,24 @@ module _ (kind : Kind) (sets : HasComponentSets kind) (keeps : KeepsAuthorities 
   abbrev meets_needs : Option (List ℕ) → Option (List ℕ) → List ℕ → Bool
   meets_needs scheme o path = is_some scheme || (not kind.needs_scheme && (is_some o || not (has_colon_first path)))
 
-  colon_kept : (path : List ℕ) → is_part kind.path path ≡ true → has_colon_first path ≡ false → has_colon_first (print (read kind.path path)) ≡ false
+  colon_kept : (path : List ℕ) → is_part kind.path path ≡ true → has_colon_first path ≡ false
+      → has_colon_first (print (read kind.path path)) ≡ false
   unfolding reprinted
   colon_kept path part e = colon_reprinted kind.path sets.path.percent sets.path.unreserved path part e
 
-  needs_kept : (default : Option ℕ) (scheme o : Option (List ℕ)) (path : List ℕ) → is_part kind.path path ≡ true → meets_needs scheme o path ≡ true
-      → meets_needs (option_map str_to_ascii_lowercase scheme) (printed default o) (path_text kind.path scheme (printed default o) path) ≡ true
+  needs_kept : (default : Option ℕ) (scheme o : Option (List ℕ)) (path : List ℕ)
+      → is_part kind.path path ≡ true → meets_needs scheme o path ≡ true
+      → meets_needs (option_map str_to_ascii_lowercase scheme) (printed default o) (path_text kind.path scheme (printed default o) path)
+      ≡ true
   needs_kept default (Some s) o path part h = refl
   needs_kept default None (Some a) path part h = h
   needs_kept default None None path part h =
       let q = and_parts (not kind.needs_scheme) (not (has_colon_first path)) h in
       and_from _ _ q.0 (not_from_false _ (colon_kept path part (not-true _ q.1)))
 
-  scheme_none : (default : Option ℕ) (scheme o : Option (List ℕ)) (path : List ℕ) (query fragment : Option (List ℕ)) → is_part kind.path path ≡ true → meets_needs scheme o path ≡ true
+  scheme_none : (default : Option ℕ) (scheme o : Option (List ℕ)) (path : List ℕ)
+      (query fragment : Option (List ℕ))
+      → is_part kind.path path ≡ true → meets_needs scheme o path ≡ true
       → IfNone (option_map str_to_ascii_lowercase scheme) (has_scheme (marked [] (option_map str_to_ascii_lowercase scheme) (codes ":") ++ (marked (codes "//") (printed default o) [] ++ (path_text kind.path scheme (printed default o) path ++ query_text query fragment))) ≡ false)
   scheme_none default (Some s) o path query fragment part h = tt
   scheme_none default None (Some a) path query fragment part h = refl
@@ -184,7 +220,8 @@ module _ (kind : Kind) (sets : HasComponentSets kind) (keeps : KeepsAuthorities 
   query_outside = excludes_front (codes "#") (codes "[]") kind.query (ends_outside (codes "#[]") kind.query refl sets.query.ends)
 
   -- they are the components of their text
-  pub normal_split : (text : List ℕ) (p : Components) → IsSplitOf text p → AreParts kind p → IsSplitOf (recompose (normal_of p)) (normal_of p)
+  pub normal_split : (text : List ℕ) (p : Components) → IsSplitOf text p → AreParts kind p
+      → IsSplitOf (recompose (normal_of p)) (normal_of p)
   normal_split text p split parts =
       let default = option_and_then ports (option_map str_to_ascii_lowercase p.scheme) in
       let done = normal_parts p parts in
@@ -199,7 +236,8 @@ module _ (kind : Kind) (sets : HasComponentSets kind) (keeps : KeepsAuthorities 
       }
 
   -- and mean what they were printed from
-  pub normal_meaning : (p : Components) → AreParts kind p → components_meaning kind ports (normal_of p) ≡ components_meaning kind ports p
+  pub normal_meaning : (p : Components) → AreParts kind p
+      → components_meaning kind ports (normal_of p) ≡ components_meaning kind ports p
   normal_meaning p parts =
       let scheme = option_map str_to_ascii_lowercase p.scheme in
       let twice = lowered_twice p.scheme in

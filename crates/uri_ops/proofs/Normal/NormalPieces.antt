@@ -1,5 +1,6 @@
 -- The pieces of a normal text, as they are appended one after the other.
-use Rattle.std.proofs.Common.{◌≡◌, ℕ, Bool, true, false, ◌&&◌, List, [], ◌∷◌, ◌++◌, refl, sym, ap, ◌∙◌, cond, option_map}
+use Rattle.std.proofs.Common.{◌≡◌, ℕ, Bool, true, false, ◌&&◌, List, [], ◌∷◌, ◌++◌, refl, sym, ap}
+use Rattle.std.proofs.Common.{◌∙◌, cond, option_map}
 use Rattle.std.specs.Prelude.{codes, Option, Some, None, is_some}
 use Rattle.std.specs.Option.{option_and_then}
 use Rattle.std.specs.Str.{IsUtf8, str_to_ascii_lowercase}
@@ -24,43 +25,57 @@ use Rattle.uri_ops.proofs.Paths.ReadStarts.{has_authority_reprinted, no_authorit
 use Rattle.uri_pct.proofs.Tests.{some_map}
 
 -- a path without its dot segments is made of the same characters
-pub removed_valid : (set : TableSet) → IsComponentSet (codes "?#[]") set → set.ascii 47 ≡ true → (path text : List ℕ) → IsAbsolute path → IsUtf8 path → IsValidFor set path → text ≡ remove_dot_segments path → IsValidFor set text
+pub removed_valid : (set : TableSet) → IsComponentSet (codes "?#[]") set → set.ascii 47 ≡ true
+    → (path text : List ℕ) → IsAbsolute path → IsUtf8 path → IsValidFor set path
+    → text ≡ remove_dot_segments path → IsValidFor set text
 removed_valid set w slash path text absolute utf8 valid e =
-    ap (λ t. is_valid_for set t) e ∙ part_valid set (remove_dot_segments path) (part_removed set w.percent w.unreserved slash path absolute (part_from set path utf8 valid))
+    ap (λ t. is_valid_for set t) e
+    ∙ part_valid set (remove_dot_segments path) (part_removed set w.percent w.unreserved slash path absolute (part_from set path utf8 valid))
 
 -- what is read of a path begins with `//` where the path does
-read_authority : (set : TableSet) → IsComponentSet (codes "?#[]") set → (path : List ℕ) → IsUtf8 path → IsValidFor set path → has_authority (print (read set path)) ≡ has_authority path
+read_authority : (set : TableSet) → IsComponentSet (codes "?#[]") set → (path : List ℕ)
+    → IsUtf8 path → IsValidFor set path → has_authority (print (read set path)) ≡ has_authority path
 unfolding reprinted
 read_authority set w path utf8 valid = has_authority_reprinted set w.percent w.unreserved path (part_from set path utf8 valid)
 
 -- the guard and what is read of the path
-pub guard_written : (set : TableSet) → IsComponentSet (codes "?#[]") set → (path : List ℕ) → IsUtf8 path → IsValidFor set path → (authority : Option (List ℕ)) (guard old mid new : List ℕ)
-    → mid ≡ old ++ guard → new ≡ mid ++ print (read set path) → ((text : List ℕ) → has_authority text ≡ has_authority path → guard ++ text ≡ guarded authority text)
+pub guard_written : (set : TableSet) → IsComponentSet (codes "?#[]") set → (path : List ℕ)
+    → IsUtf8 path → IsValidFor set path → (authority : Option (List ℕ)) (guard old mid new : List ℕ)
+    → mid ≡ old ++ guard → new ≡ mid ++ print (read set path)
+    → ((text : List ℕ) → has_authority text ≡ has_authority path → guard ++ text ≡ guarded authority text)
     → new ≡ old ++ guarded authority (print (read set path))
 guard_written set w path utf8 valid authority guard old mid new e f h =
     let text = print (read set path) in
-    f ∙ ap (λ t. t ++ text) e ∙ append_assoc old guard text ∙ ap (λ t. old ++ t) (h text (read_authority set w path utf8 valid))
+    f ∙ ap (λ t. t ++ text) e ∙ append_assoc old guard text
+    ∙ ap (λ t. old ++ t) (h text (read_authority set w path utf8 valid))
 
-unguarded : (authority : Option (List ℕ)) (text : List ℕ) → has_authority text ≡ false → guarded authority text ≡ text
+unguarded : (authority : Option (List ℕ)) (text : List ℕ) → has_authority text ≡ false
+    → guarded authority text ≡ text
 unguarded None text e = cond-false _ _ _ e
 unguarded (Some a) text e = refl
 
 -- a path that keeps its dot segments
-pub kept_path : (set : TableSet) → IsComponentSet (codes "?#[]") set → (scheme authority : Option (List ℕ)) (path : List ℕ) → IsUtf8 path → IsValidFor set path → (is_some scheme && starts 47 path) ≡ false
+pub kept_path : (set : TableSet) → IsComponentSet (codes "?#[]") set
+    → (scheme authority : Option (List ℕ)) (path : List ℕ) → IsUtf8 path → IsValidFor set path
+    → (is_some scheme && starts 47 path) ≡ false
     → path_text set scheme authority path ≡ print (read set path)
 kept_path set w None authority path utf8 valid e = refl
 kept_path set w (Some s) authority path utf8 valid e =
     ap (λ t. guarded authority (print (read set t))) (cond-false _ _ _ e)
     ∙ unguarded authority (print (read set path)) (read_authority set w path utf8 valid ∙ no_authority_first path e)
 
-pub marked_written : (before part old mid new : List ℕ) → mid ≡ old ++ before → new ≡ mid ++ part → new ≡ old ++ marked before (Some part) []
-marked_written before part old mid new e f = f ∙ ap (λ t. t ++ part) e ∙ append_assoc old before part ∙ ap (λ t. old ++ t) (sym (append-nil (before ++ part)))
+pub marked_written : (before part old mid new : List ℕ) → mid ≡ old ++ before → new ≡ mid ++ part
+    → new ≡ old ++ marked before (Some part) []
+marked_written before part old mid new e f = f ∙ ap (λ t. t ++ part) e
+    ∙ append_assoc old before part ∙ ap (λ t. old ++ t) (sym (append-nil (before ++ part)))
 
-pub some_twice : {A B C : Type 0} (f : A → B) (h : B → C) (o : Option A) → is_some (option_map h (option_map f o)) ≡ is_some o
+pub some_twice : {A B C : Type 0} (f : A → B) (h : B → C) (o : Option A)
+    → is_some (option_map h (option_map f o)) ≡ is_some o
 some_twice f h None = refl
 some_twice f h (Some x) = refl
 
-appended : (old s a p q f o1 o2 o3 o4 new : List ℕ) → o1 ≡ old ++ s → o2 ≡ o1 ++ a → o3 ≡ o2 ++ p → o4 ≡ o3 ++ q → new ≡ o4 ++ f → new ≡ old ++ (s ++ (a ++ (p ++ (q ++ f))))
+appended : (old s a p q f o1 o2 o3 o4 new : List ℕ) → o1 ≡ old ++ s → o2 ≡ o1 ++ a → o3 ≡ o2 ++ p
+    → o4 ≡ o3 ++ q → new ≡ o4 ++ f → new ≡ old ++ (s ++ (a ++ (p ++ (q ++ f))))
 appended old s a p q f o1 o2 o3 o4 new e1 e2 e3 e4 e5 =
     e5 ∙ ap (λ t. t ++ f) e4 ∙ append_assoc o3 q f
     ∙ ap (λ t. t ++ (q ++ f)) e3 ∙ append_assoc o2 p (q ++ f)
@@ -77,7 +92,8 @@ path_written kind ports text =
     ap (λ (b : Bool). cond b (guarded (option_map normal_authority m.authority) path) path) (sym (some_map str_to_ascii_lowercase p.scheme))
 
 -- the five components are the normal text
-pub normal_written : (kind : Kind) (ports : PortFunction) (text : List ℕ) (old o1 o2 o3 o4 new : List ℕ)
+pub normal_written : (kind : Kind) (ports : PortFunction) (text : List ℕ)
+    (old o1 o2 o3 o4 new : List ℕ)
     → (let p = components text in let scheme = option_map str_to_ascii_lowercase p.scheme in let authority = option_map normal_authority (option_map (authority_meaning kind (option_and_then ports scheme)) p.authority) in
     o1 ≡ old ++ marked [] scheme (codes ":")
     → o2 ≡ o1 ++ marked (codes "//") authority []

@@ -18,13 +18,17 @@ use Rattle.uri_ops.proofs.Normal.NormalTexts.{components-normal, parts_of}
 use Rattle.uri_ops.proofs.Normal.WrittenPlaces.{cut_placed, parts_cut}
 
 module _ (kind : Kind) (sets : HasComponentSets kind) (ports : PortFunction) where
-  authority_placed : (place : ℕ) (default : Option ℕ) (o : Option (List ℕ)) → IfSome o (λ a. IsUtf8 a × (is_authority kind a ≡ true))
-      → option_map (parts_at place) (option_map normal_parts (option_map (authority_meaning kind default) o)) ≡ option_map (authority_at place) (option_map normal_authority (option_map (authority_meaning kind default) o))
+  authority_placed : (place : ℕ) (default : Option ℕ) (o : Option (List ℕ))
+      → IfSome o (λ a. IsUtf8 a × (is_authority kind a ≡ true))
+      → option_map (parts_at place) (option_map normal_parts (option_map (authority_meaning kind default) o))
+      ≡ option_map (authority_at place) (option_map normal_authority (option_map (authority_meaning kind default) o))
   authority_placed place default None h = refl
   authority_placed place default (Some a) h = ap Some (parts_cut place (normal_parts (authority_meaning kind default a)) (printed_parts kind sets default a h.0 h.1))
 
-  pub normal_at : (text normal : List ℕ) (positions : Positions) → IsTextOf kind text → normal ≡ normal_text (meaning_of kind ports text)
-      → positions ≡ written_at (normal_components (meaning_of kind ports text)) (option_map normal_parts (meaning_of kind ports text).authority) → AreAt normal positions
+  pub normal_at : (text normal : List ℕ) (positions : Positions) → IsTextOf kind text
+      → normal ≡ normal_text (meaning_of kind ports text)
+      → positions ≡ written_at (normal_components (meaning_of kind ports text)) (option_map normal_parts (meaning_of kind ports text).authority)
+      → AreAt normal positions
   normal_at text normal positions w e places =
       let m = meaning_of kind ports text in
       let p = components text in

@@ -15,12 +15,14 @@ use Rattle.uri_ops.specs.Normal.{normal_text}
 use Rattle.uri_ops.proofs.Meanings.AllowedParts.{is_part, part_utf8}
 use Rattle.uri_ops.proofs.Meanings.PlainTexts.{utf8_ascii}
 use Rattle.uri_ops.proofs.Meanings.TextParts.{AreParts, components_utf8, meet_parts, parts_meet}
-use Rattle.uri_ops.proofs.Normal.NormalComponents.{normal_of, normal_parts, normal_split, normal_meaning}
+use Rattle.uri_ops.proofs.Normal.NormalComponents.{normal_of, normal_parts, normal_split}
+use Rattle.uri_ops.proofs.Normal.NormalComponents.{normal_meaning}
 use Rattle.uri_ops.proofs.Meanings.AuthorityMeanings.{keeps_authorities}
 use Rattle.uri_pct.proofs.Tests.{each_some}
 
 -- components in UTF-8 recompose to UTF-8
-utf8_marked : (before behind : List ℕ) (o : Option (List ℕ)) → IsUtf8 before → IsUtf8 behind → IfSome o IsUtf8 → IsUtf8 (marked before o behind)
+utf8_marked : (before behind : List ℕ) (o : Option (List ℕ)) → IsUtf8 before → IsUtf8 behind
+    → IfSome o IsUtf8 → IsUtf8 (marked before o behind)
 utf8_marked before behind None u v h = IsUtf8-nil
 utf8_marked before behind (Some x) u v h = IsUtf8-append (before ++ x) behind (IsUtf8-append before x u h) v
 
@@ -41,11 +43,14 @@ parts_of kind text w = meet_parts kind (components text) (components_utf8 text w
 
 module _ (kind : Kind) (ports : PortFunction) (sets : HasComponentSets kind) where
   -- the components of the normal text of a text
-  pub components-normal : (text : List ℕ) → IsTextOf kind text → components (normal_text (meaning_of kind ports text)) ≡ normal_of kind sets (keeps_authorities kind sets) ports (components text)
+  pub components-normal : (text : List ℕ) → IsTextOf kind text
+      → components (normal_text (meaning_of kind ports text))
+      ≡ normal_of kind sets (keeps_authorities kind sets) ports (components text)
   components-normal text w =
       components-recompose _ _ (normal_split kind sets (keeps_authorities kind sets) ports text (components text) (IsSplitOf-components text) (parts_of kind text w))
 
-  pub normal_is_text : (text : List ℕ) → IsTextOf kind text → IsTextOf kind (normal_text (meaning_of kind ports text))
+  pub normal_is_text : (text : List ℕ) → IsTextOf kind text
+      → IsTextOf kind (normal_text (meaning_of kind ports text))
   normal_is_text text w =
       let parts = normal_parts kind sets (keeps_authorities kind sets) ports (components text) (parts_of kind text w) in
       record {
@@ -53,14 +58,19 @@ module _ (kind : Kind) (ports : PortFunction) (sets : HasComponentSets kind) whe
         grammar = ap (are_components kind) (components-normal text w) ∙ parts_meet kind _ parts;
       }
 
-  pub meaning_of-normal_text : (text : List ℕ) → IsTextOf kind text → meaning_of kind ports (normal_text (meaning_of kind ports text)) ≡ meaning_of kind ports text
+  pub meaning_of-normal_text : (text : List ℕ) → IsTextOf kind text
+      → meaning_of kind ports (normal_text (meaning_of kind ports text))
+      ≡ meaning_of kind ports text
   meaning_of-normal_text text w =
       ap (components_meaning kind ports) (components-normal text w)
       ∙ normal_meaning kind sets (keeps_authorities kind sets) ports (components text) (parts_of kind text w)
 
-  pub normal_text-normal_text : (text : List ℕ) → IsTextOf kind text → normal_text (meaning_of kind ports (normal_text (meaning_of kind ports text))) ≡ normal_text (meaning_of kind ports text)
+  pub normal_text-normal_text : (text : List ℕ) → IsTextOf kind text
+      → normal_text (meaning_of kind ports (normal_text (meaning_of kind ports text)))
+      ≡ normal_text (meaning_of kind ports text)
   normal_text-normal_text text w = ap normal_text (meaning_of-normal_text text w)
 
-  pub same_normal_text : (t u : List ℕ) → IsTextOf kind t → IsTextOf kind u → (normal_text (meaning_of kind ports t) ≡ normal_text (meaning_of kind ports u)) ↔ (meaning_of kind ports t ≡ meaning_of kind ports u)
+  pub same_normal_text : (t u : List ℕ) → IsTextOf kind t → IsTextOf kind u
+      → (normal_text (meaning_of kind ports t) ≡ normal_text (meaning_of kind ports u)) ↔ (meaning_of kind ports t ≡ meaning_of kind ports u)
   same_normal_text t u v w =
       (λ e. sym (meaning_of-normal_text t v) ∙ ap (meaning_of kind ports) e ∙ meaning_of-normal_text u w, λ e. ap normal_text e)

@@ -1,5 +1,6 @@
 -- A text that is put together of components has the positions that their lengths give.
-use Rattle.std.proofs.Common.{◌≡◌, ℕ, ◌+◌, List, [], ◌∷◌, ◌++◌, length, refl, sym, ap, ◌∙◌, arith, length-append, option_map}
+use Rattle.std.proofs.Common.{◌≡◌, ℕ, ◌+◌, List, [], ◌∷◌, ◌++◌, length, refl, sym, ap, ◌∙◌, arith}
+use Rattle.std.proofs.Common.{length-append, option_map}
 use Rattle.std.specs.Prelude.{codes, Option, Some, None}
 use Rattle.uri_parts.specs.declared.positions.AuthorityPositions.{AuthorityPositions}
 use Rattle.uri_parts.specs.declared.positions.Positions.{Positions}
@@ -19,17 +20,22 @@ use Rattle.uri_ops.specs.Ports.{PortFunction}
 use Rattle.uri_ops.proofs.Normal.NormalPieces.{path_written}
 use Rattle.uri_ops.specs.Models.Written.{parts_at, written_at}
 
-pub length-behind : (part : Option (List ℕ)) (mark : ℕ) → length (marked [] part (mark ∷ [])) ≡ marked_length 1 part
+pub length-behind : (part : Option (List ℕ)) (mark : ℕ)
+    → length (marked [] part (mark ∷ [])) ≡ marked_length 1 part
 length-behind None mark = refl
 length-behind (Some s) mark = omega (arith, length-append s (mark ∷ []))
 
-pub length-before : (mark : List ℕ) (part : Option (List ℕ)) → length (marked mark part []) ≡ marked_length (length mark) part
+pub length-before : (mark : List ℕ) (part : Option (List ℕ))
+    → length (marked mark part []) ≡ marked_length (length mark) part
 length-before mark None = refl
 length-before mark (Some s) = omega (arith, length-append (mark ++ s) [], length-append mark s)
 
 -- an authority by its parts
-pub parts_placed : (p : AuthorityParts) (o0 o1 o2 o3 : List ℕ) → o1 ≡ o0 ++ marked [] p.userinfo (codes "@") → o2 ≡ o1 ++ p.host → o3 ≡ o2 ++ marked (codes ":") p.port []
-    → (let x : AuthorityPositions = record { start = length o0; host_start = length o1; host_end = length o2; end = length o3 } in x) ≡ parts_at (length o0) p
+pub parts_placed : (p : AuthorityParts) (o0 o1 o2 o3 : List ℕ)
+    → o1 ≡ o0 ++ marked [] p.userinfo (codes "@") → o2 ≡ o1 ++ p.host
+    → o3 ≡ o2 ++ marked (codes ":") p.port []
+    → (let x : AuthorityPositions = record { start = length o0; host_start = length o1; host_end = length o2; end = length o3 } in x)
+    ≡ parts_at (length o0) p
 parts_placed p o0 o1 o2 o3 e1 e2 e3 =
     let user = marked [] p.userinfo (codes "@") in
     let port = marked (codes ":") p.port [] in
@@ -40,14 +46,19 @@ parts_placed p o0 o1 o2 o3 e1 e2 e3 =
     λ i. record { start = length o0; host_start = n1 i; host_end = n2 i; end = n3 i }
 
 -- by its text, where that is cut into these parts
-pub parts_cut : (place : ℕ) (p : AuthorityParts) → authority_parts (recompose_authority p) ≡ p → parts_at place p ≡ authority_at place (recompose_authority p)
+pub parts_cut : (place : ℕ) (p : AuthorityParts) → authority_parts (recompose_authority p) ≡ p
+    → parts_at place p ≡ authority_at place (recompose_authority p)
 parts_cut place p cut = ap (λ (q : AuthorityParts). let host = marked_length 1 q.userinfo in let x : AuthorityPositions = record { start = place; host_start = place + host; host_end = place + (host + length q.host); end = place + length (recompose_authority p) } in x) (sym cut)
 
 -- and components of which the authority is cut into these parts
-pub cut_placed : (c : Components) (parts : Option AuthorityParts) → option_map (parts_at (marked_length 1 c.scheme + 2)) parts ≡ option_map (authority_at (marked_length 1 c.scheme + 2)) c.authority → written_at c parts ≡ positions_of c
+pub cut_placed : (c : Components) (parts : Option AuthorityParts)
+    → option_map (parts_at (marked_length 1 c.scheme + 2)) parts
+    ≡ option_map (authority_at (marked_length 1 c.scheme + 2)) c.authority
+    → written_at c parts ≡ positions_of c
 cut_placed c parts e = ap (λ a. let x : Positions = record (positions_of c) { authority = a } in x) e
 
-pub from_zero : (part : Option (List ℕ)) → option_map (λ s. 0 + length s) part ≡ option_map length part
+pub from_zero : (part : Option (List ℕ))
+    → option_map (λ s. 0 + length s) part ≡ option_map length part
 from_zero None = refl
 from_zero (Some s) = ap Some (omega arith)
 
@@ -64,17 +75,25 @@ record EndsAt (p : Components) (start stop : ℕ) (query : Option ℕ) : Type 0 
   pub stops : stop ≡ (positions_of p).path_end
   pub queries : query ≡ (positions_of p).query_end
 
-ends_at : (p : Components) (o2 o3 : List ℕ) (start stop : ℕ) (query : Option ℕ) → length o2 ≡ (positions_of p).path_start → o3 ≡ o2 ++ p.path → start ≡ length o2 → stop ≡ length o3
+ends_at : (p : Components) (o2 o3 : List ℕ) (start stop : ℕ) (query : Option ℕ)
+    → length o2 ≡ (positions_of p).path_start → o3 ≡ o2 ++ p.path → start ≡ length o2
+    → stop ≡ length o3
     → query ≡ option_map (λ s. length o3 + 1 + length s) p.query → EndsAt p start stop query
 ends_at p o2 o3 start stop query n2 e3 starts stops queries =
     let m3 : length o3 ≡ (positions_of p).path_end = omega (arith, n2, ap length e3, length-append o2 p.path) in
     record { starts = starts ∙ n2; stops = stops ∙ m3; queries = queries ∙ ap (λ n. option_map (λ s. n + 1 + length s) p.query) m3 }
 
 -- components that are written one after the other, whose authority has these parts
-pub written_placed : (p : Components) (parts : Option AuthorityParts) (o0 o1 o2 o3 : List ℕ) (start stop : ℕ) (end query : Option ℕ) (authority : Option AuthorityPositions) → o0 ≡ []
-    → o1 ≡ o0 ++ marked [] p.scheme (codes ":") → o2 ≡ o1 ++ marked (codes "//") p.authority [] → o3 ≡ o2 ++ p.path → start ≡ length o2 → stop ≡ length o3
-    → end ≡ option_map (λ s. length o0 + length s) p.scheme → authority ≡ option_map (parts_at (length o1 + 2)) parts → query ≡ option_map (λ s. length o3 + 1 + length s) p.query
-    → (let x : Positions = record { scheme_end = end; authority = authority; path_start = start; path_end = stop; query_end = query } in x) ≡ written_at p parts
+pub written_placed : (p : Components) (parts : Option AuthorityParts) (o0 o1 o2 o3 : List ℕ)
+    (start stop : ℕ) (end query : Option ℕ) (authority : Option AuthorityPositions)
+    → o0 ≡ []
+    → o1 ≡ o0 ++ marked [] p.scheme (codes ":") → o2 ≡ o1 ++ marked (codes "//") p.authority []
+    → o3 ≡ o2 ++ p.path → start ≡ length o2 → stop ≡ length o3
+    → end ≡ option_map (λ s. length o0 + length s) p.scheme
+    → authority ≡ option_map (parts_at (length o1 + 2)) parts
+    → query ≡ option_map (λ s. length o3 + 1 + length s) p.query
+    → (let x : Positions = record { scheme_end = end; authority = authority; path_start = start; path_end = stop; query_end = query } in x)
+    ≡ written_at p parts
 written_placed p parts o0 o1 o2 o3 start stop end query authority e0 e1 e2 e3 starts stops ends lies queries =
     let n0 : length o0 ≡ 0 = ap length e0 in
     let n1 : length o1 ≡ marked_length 1 p.scheme = omega (arith, n0, ap length e1, length-append o0 (marked [] p.scheme (codes ":")), length-behind p.scheme 58) in
@@ -85,20 +104,27 @@ written_placed p parts o0 o1 o2 o3 start stop end query authority e0 e1 e2 e3 st
     λ i. record { scheme_end = f i; authority = g i; path_start = w.starts i; path_end = w.stops i; query_end = w.queries i }
 
 -- and whose scheme and authority are written where they lie
-pub pieces_placed : (p : Components) (o0 o2 o3 : List ℕ) (start stop : ℕ) (end query : Option ℕ) (authority : Option AuthorityPositions) → o0 ≡ []
+pub pieces_placed : (p : Components) (o0 o2 o3 : List ℕ) (start stop : ℕ) (end query : Option ℕ)
+    (authority : Option AuthorityPositions)
+    → o0 ≡ []
     → o2 ≡ o0 ++ front_text p → o3 ≡ o2 ++ p.path → start ≡ length o2 → stop ≡ length o3
-    → end ≡ (positions_of p).scheme_end → authority ≡ (positions_of p).authority → query ≡ option_map (λ s. length o3 + 1 + length s) p.query
-    → (let x : Positions = record { scheme_end = end; authority = authority; path_start = start; path_end = stop; query_end = query } in x) ≡ positions_of p
+    → end ≡ (positions_of p).scheme_end → authority ≡ (positions_of p).authority
+    → query ≡ option_map (λ s. length o3 + 1 + length s) p.query
+    → (let x : Positions = record { scheme_end = end; authority = authority; path_start = start; path_end = stop; query_end = query } in x)
+    ≡ positions_of p
 pieces_placed p o0 o2 o3 start stop end query authority e0 e2 e3 starts stops ends lies queries =
     let w = ends_at p o2 o3 start stop query (ap length (e2 ∙ ap (λ o. o ++ front_text p) e0) ∙ length-front p) e3 starts stops queries in
     λ i. record { scheme_end = ends i; authority = lies i; path_start = w.starts i; path_end = w.stops i; query_end = w.queries i }
 
-of_parts : {A B C D : Type 0} (f : C → D) (h : B → C) (k : A → B) (o : Option A) → option_map (λ a. f (h (k a))) o ≡ option_map f (option_map h (option_map k o))
+of_parts : {A B C D : Type 0} (f : C → D) (h : B → C) (k : A → B) (o : Option A)
+    → option_map (λ a. f (h (k a))) o ≡ option_map f (option_map h (option_map k o))
 of_parts f h k None = refl
 of_parts f h k (Some a) = refl
 
 -- the components of a normal text
-pub normal_placed : (kind : Kind) (ports : PortFunction) (text : List ℕ) (old o1 o2 o3 : List ℕ) (start stop : ℕ) (end query : Option ℕ) (places : Option AuthorityPositions) → old ≡ []
+pub normal_placed : (kind : Kind) (ports : PortFunction) (text : List ℕ) (old o1 o2 o3 : List ℕ)
+    (start stop : ℕ) (end query : Option ℕ) (places : Option AuthorityPositions)
+    → old ≡ []
     → (let p = components text in let scheme = option_map str_to_ascii_lowercase p.scheme in let default = option_and_then ports scheme in
     let authority = option_map normal_authority (option_map (authority_meaning kind default) p.authority) in
     o1 ≡ old ++ marked [] scheme (codes ":")

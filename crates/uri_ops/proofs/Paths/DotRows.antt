@@ -74,13 +74,15 @@ ends : Removes (codes "/a/b/..") (codes "/a/")
 unfolding Removes Underflows remove_dot_segments underflows run
 ends = ((refl, refl), (refl, refl), (refl, refl), (refl, refl), (refl, refl), (refl, refl), (refl, refl), (refl, refl), (refl, refl), (refl, refl), (refl, refl), (refl, refl))
 
-directories : (directory [] ≡ codes "/") × (directory (codes "/") ≡ codes "/") × (directory (codes "/b/c/d;p") ≡ codes "/b/c/")
+directories : (directory [] ≡ codes "/") × (directory (codes "/") ≡ codes "/")
+    × (directory (codes "/b/c/d;p") ≡ codes "/b/c/")
     × (directory (codes "/bar/..") ≡ codes "/bar/../") × (directory (codes "/bar/%2E.") ≡ codes "/bar/%2E./")
     × (directory (codes "/bar/.") ≡ codes "/bar/") × (directory (codes "/bar/../") ≡ codes "/bar/../") × (directory (codes "//") ≡ codes "//")
 unfolding directory
 directories = (refl, refl, refl, refl, refl, refl, refl, refl)
 
-dot_segments : (lacks_dot_segments (codes "/a/...//b.%2e") ≡ true) × (lacks_dot_segments (codes "/a/./b") ≡ false)
+dot_segments : (lacks_dot_segments (codes "/a/...//b.%2e") ≡ true)
+    × (lacks_dot_segments (codes "/a/./b") ≡ false)
     × (lacks_dot_segments (codes "/a/b/%2e.") ≡ false) × (lacks_dot_segments (codes "/..") ≡ false)
 dot_segments = (refl, refl, refl, refl)
 

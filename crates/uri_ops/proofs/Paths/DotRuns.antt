@@ -1,12 +1,14 @@
 -- Removing dot segments ends with nothing left to read: each step reads some of its input.
-use Rattle.std.proofs.Common.{◌≡◌, ℕ, zero, suc, ◌+◌, ◌<◌, ◌≤◌, true, false, not, List, [], ◌∷◌, length, take, drop, refl, ap, ◌∙◌, arith, ⊎_elim}
+use Rattle.std.proofs.Common.{◌≡◌, ℕ, zero, suc, ◌+◌, ◌<◌, ◌≤◌, true, false, not, List, [], ◌∷◌}
+use Rattle.std.proofs.Common.{length, take, drop, refl, ap, ◌∙◌, arith, ⊎_elim}
 use Rattle.std.specs.Prelude.{codes}
 use Rattle.std.specs.List.{prefix_len}
 use Rattle.std.proofs.lemmas.Bool.{cases_Bool, cond-true, cond-false, cond_both, false≢true}
 use Rattle.std.proofs.lemmas.List.{length-drop, length-take, nil_from_length}
 use Rattle.uri_pct.specs.Sets.{is_one_of}
 use Rattle.uri_parts.specs.Components.{before_any, from_any}
-use Rattle.uri_ops.specs.Dots.{Buffers, is_empty, is_single_dot, is_double_dot, or_slash, step, run, run_whole}
+use Rattle.uri_ops.specs.Dots.{Buffers, is_empty, is_single_dot, is_double_dot, or_slash, step, run}
+use Rattle.uri_ops.specs.Dots.{run_whole}
 
 -- a dot segment is not empty
 some_single : (segment : List ℕ) → is_single_dot segment ≡ true → 0 < length segment
@@ -29,7 +31,8 @@ pub none_length : (text : List ℕ) → is_empty text ≡ true → text ≡ []
 none_length [] e = refl
 none_length (c ∷ rest) e = absurd (false≢true e)
 
-cut_shorter : (n : ℕ) (input : List ℕ) → 0 < length input → length (drop n (drop 1 input)) < length input
+cut_shorter : (n : ℕ) (input : List ℕ) → 0 < length input
+    → length (drop n (drop 1 input)) < length input
 cut_shorter n input some = omega (arith, length-drop n (drop 1 input), length-drop 1 input)
 
 cut_long : (n : ℕ) (input : List ℕ) → 0 < length (take n (drop 1 input)) → 1 < length input

@@ -1,5 +1,7 @@
 -- A path in which neither `.` nor `%` stands first or behind a `/` has no dot segment.
-use Rattle.std.proofs.Common.{◌≤◌, ◌-◌, inl, inr, subst, drop, ⊎_elim, ◌≡◌, ℕ, zero, suc, ◌+◌, ◌<◌, Bool, true, false, not, List, [], ◌∷◌, ◌++◌, length, take, get_or, refl, sym, ap, ◌∙◌, ◌&&◌, ◌||◌, arith}
+use Rattle.std.proofs.Common.{◌≤◌, ◌-◌, inl, inr, subst, drop, ⊎_elim, ◌≡◌, ℕ, zero, suc, ◌+◌, ◌<◌}
+use Rattle.std.proofs.Common.{Bool, true, false, not, List, [], ◌∷◌, ◌++◌, length, take, get_or}
+use Rattle.std.proofs.Common.{refl, sym, ap, ◌∙◌, ◌&&◌, ◌||◌, arith}
 use Rattle.std.specs.Prelude.{◌==◌}
 use Rattle.std.proofs.Math.Seq.{take-suc}
 use Rattle.std.proofs.lemmas.List.{drop_all}
@@ -39,7 +41,8 @@ unfolding dots_begin
 plain_first [] rest e = refl
 plain_first (c ∷ s) rest e = ap not (plain_start c s (or_parts (is_dot_start c) (dots_begin (c == 47) (s ++ rest)) e).0)
 
-plain_all : (b : Bool) (segs : List (List ℕ)) → dots_begin b (slashed segs) ≡ false → Passes is_plain segs
+plain_all : (b : Bool) (segs : List (List ℕ)) → dots_begin b (slashed segs) ≡ false
+    → Passes is_plain segs
 unfolding dots_begin slashed
 plain_all b [] e = refl
 plain_all b (s ∷ rest) e =
@@ -57,7 +60,8 @@ ends_behind behind [] = behind
 ends_behind behind (c ∷ rest) = ends_behind (c == 47) rest
 
 -- one more byte
-begin_more : (b : Bool) (t : List ℕ) (c : ℕ) → dots_begin b t ≡ false → (ends_behind b t && is_dot_start c) ≡ false → dots_begin b (t ++ c ∷ []) ≡ false
+begin_more : (b : Bool) (t : List ℕ) (c : ℕ) → dots_begin b t ≡ false
+    → (ends_behind b t && is_dot_start c) ≡ false → dots_begin b (t ++ c ∷ []) ≡ false
 unfolding dots_begin ends_behind
 begin_more b [] c e f = or_from (b && is_dot_start c) false f refl
 begin_more b (d ∷ t) c e f =
@@ -69,35 +73,50 @@ unfolding ends_behind
 ends_more b [] c = refl
 ends_more b (d ∷ t) c = ends_more (d == 47) t c
 
-pub one_more : (bytes : List ℕ) (i : ℕ) → i < length bytes → take (i + 1) bytes ≡ take i bytes ++ get_or bytes i 0 ∷ []
-one_more bytes i within = let next : i + 1 ≡ suc i = omega arith in ap (λ n. take n bytes) next ∙ take-suc bytes i 0 within
+pub one_more : (bytes : List ℕ) (i : ℕ) → i < length bytes
+    → take (i + 1) bytes ≡ take i bytes ++ get_or bytes i 0 ∷ []
+one_more bytes i within = let next : i + 1 ≡ suc i = omega arith in ap (λ n. take n bytes) next
+    ∙ take-suc bytes i 0 within
 
 -- as a text is read byte by byte
 module _ (bytes : List ℕ) (i : ℕ) (within : i < length bytes) where
-  pub next_plain : dots_begin true (take i bytes) ≡ false → (ends_behind true (take i bytes) && is_dot_start (get_or bytes i 0)) ≡ false → dots_begin true (take (i + 1) bytes) ≡ false
-  next_plain e f = ap (dots_begin true) (one_more bytes i within) ∙ begin_more true (take i bytes) (get_or bytes i 0) e f
+  pub next_plain : dots_begin true (take i bytes) ≡ false
+      → (ends_behind true (take i bytes) && is_dot_start (get_or bytes i 0)) ≡ false
+      → dots_begin true (take (i + 1) bytes) ≡ false
+  next_plain e f = ap (dots_begin true) (one_more bytes i within)
+      ∙ begin_more true (take i bytes) (get_or bytes i 0) e f
 
   pub next_ends : (get_or bytes i 0 == 47) ≡ ends_behind true (take (i + 1) bytes)
   next_ends = sym (ap (ends_behind true) (one_more bytes i within) ∙ ends_more true (take i bytes) (get_or bytes i 0))
 
-pub one_further : (bytes : List ℕ) (i : ℕ) → i + 1 < length bytes → dots_begin true (take (i + 1) bytes) ≡ false → begins_at bytes i ≡ false → dots_begin true (take (i + 1 + 1) bytes) ≡ false
+pub one_further : (bytes : List ℕ) (i : ℕ) → i + 1 < length bytes
+    → dots_begin true (take (i + 1) bytes) ≡ false → begins_at bytes i ≡ false
+    → dots_begin true (take (i + 1 + 1) bytes) ≡ false
 one_further bytes i within plain e =
     next_plain bytes (i + 1) within plain (ap (λ b. b && is_dot_start (get_or bytes (i + 1) 0)) (sym (next_ends bytes i (omega (arith, within)))) ∙ e)
 
-pub some_further : (bytes : List ℕ) (i n : ℕ) → i + n < length bytes → dots_begin true (take (i + 1) bytes) ≡ false → ((k : ℕ) → k < n → begins_at bytes (i + k) ≡ false) → dots_begin true (take (i + n + 1) bytes) ≡ false
-some_further bytes i zero within plain none = ap (λ m. dots_begin true (take m bytes)) (omega arith) ∙ plain
+pub some_further : (bytes : List ℕ) (i n : ℕ) → i + n < length bytes
+    → dots_begin true (take (i + 1) bytes) ≡ false
+    → ((k : ℕ) → k < n → begins_at bytes (i + k) ≡ false)
+    → dots_begin true (take (i + n + 1) bytes) ≡ false
+some_further bytes i zero within plain none = ap (λ m. dots_begin true (take m bytes)) (omega arith)
+    ∙ plain
 some_further bytes i (suc n) within plain none =
     let next : i + suc n + 1 ≡ i + n + 1 + 1 = omega arith in
     ap (λ m. dots_begin true (take m bytes)) next
     ∙ one_further bytes (i + n) (omega (arith, within)) (some_further bytes i n (omega (arith, within)) plain (λ k h. none k (omega (arith, h)))) (none n (omega arith))
 
-pub first_plain : (bytes : List ℕ) → begins_with_dot bytes ≡ false → dots_begin true (take 1 bytes) ≡ false
+pub first_plain : (bytes : List ℕ) → begins_with_dot bytes ≡ false
+    → dots_begin true (take 1 bytes) ≡ false
 unfolding dots_begin
 first_plain [] e = refl
 first_plain (c ∷ rest) e = or_from (is_dot_start c) false e refl
 
 -- a window that begins no later than what was passed over ends
-pub in_window : (bytes : List ℕ) (i at n : ℕ) → at ≤ i → ((k : ℕ) → k < i → begins_at bytes k ≡ false) → ((k : ℕ) → k < n → begins_at bytes (at + k) ≡ false) → (k : ℕ) → k < at + n → begins_at bytes k ≡ false
+pub in_window : (bytes : List ℕ) (i at n : ℕ) → at ≤ i
+    → ((k : ℕ) → k < i → begins_at bytes k ≡ false)
+    → ((k : ℕ) → k < n → begins_at bytes (at + k) ≡ false) → (k : ℕ) → k < at + n
+    → begins_at bytes k ≡ false
 in_window bytes i at n from passed window k to = ⊎_elim
     (λ (h : k < at). passed k (omega (arith, h, from)))
     (λ (h : at ≤ k).
@@ -106,7 +125,8 @@ in_window bytes i at n from passed window k to = ⊎_elim
     (cases_lt k at)
 
 -- what is known of the text up to such a place
-module _ (bytes : List ℕ) (n : ℕ) (starts : begins_with_dot bytes ≡ false) (h : IsBeforeDots bytes n) where
+module _ (bytes : List ℕ) (n : ℕ) (starts : begins_with_dot bytes ≡ false)
+    (h : IsBeforeDots bytes n) where
   pub lacks_before : lacks_dot_segments (take n bytes) ≡ true
   lacks_before =
       let some = h.some in

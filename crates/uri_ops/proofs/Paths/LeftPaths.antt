@@ -1,19 +1,31 @@
 -- What is left of a path while its segments are taken one after the other: what stands behind a
 -- directory without dot segments, which is all that was kept so far.
-use Rattle.std.proofs.Common.{◌≡◌, ℕ, ◌-◌, ◌<◌, ◌≤◌, Bool, true, false, List, [], ◌∷◌, ◌++◌, length, take, drop, refl, sym, ap, subst, ◌∙◌, ◌||◌, append_assoc, arith, inl, inr, ⊎_elim, rules, tests}
+use Rattle.std.proofs.Common.{◌≡◌, ℕ, ◌-◌, ◌<◌, ◌≤◌, Bool, true, false, List, [], ◌∷◌, ◌++◌, length}
+use Rattle.std.proofs.Common.{take, drop, refl, sym, ap, subst, ◌∙◌, ◌||◌, append_assoc, arith, inl}
+use Rattle.std.proofs.Common.{inr, ⊎_elim, rules, tests}
 use Rattle.std.specs.Prelude.{codes, ◌==◌}
 use Rattle.std.specs.List.{list_all, slice_range}
 use Rattle.std.proofs.Math.Bool.{or-false, or_assoc}
-use Rattle.std.proofs.lemmas.List.{append-nil, take-append-drop, drop_at, take_at, drop-append-le, take-append-le, length-drop, length-take-le}
+use Rattle.std.proofs.lemmas.List.{append-nil, take-append-drop, drop_at, take_at, drop-append-le}
+use Rattle.std.proofs.lemmas.List.{take-append-le, length-drop, length-take-le}
 use Rattle.std.proofs.lemmas.List.Folds.{list_all-append}
-use Rattle.std.proofs.lemmas.Bool.{and_parts, and_from, cases_Bool, false≢true, not_from_false, or_right}
+use Rattle.std.proofs.lemmas.Bool.{and_parts, and_from, cases_Bool, false≢true, not_from_false}
+use Rattle.std.proofs.lemmas.Bool.{or_right}
 use Rattle.uri_parts.specs.Components.{IsRooted}
-use Rattle.uri_ops.specs.Dots.{is_single_dot, is_double_dot, is_dot_segment, is_empty, before_last_slash, has_slash, lacks_dot_segments, segments, remove_dot_segments, underflows, IsAbsolute}
+use Rattle.uri_ops.specs.Dots.{is_single_dot, is_double_dot, is_dot_segment, is_empty}
+use Rattle.uri_ops.specs.Dots.{before_last_slash, has_slash, lacks_dot_segments, segments}
+use Rattle.uri_ops.specs.Dots.{remove_dot_segments, underflows, IsAbsolute}
 use Rattle.uri_ops.specs.Models.Directories.{IsPlainDirectory, IsClosed, parent_directory}
-use Rattle.uri_ops.proofs.Paths.Segments.{pop, is_none, turn, step_of, sunk, Passes, is_plain, pop_push, pop_passes, append_passes, none_push, single_only}
-use Rattle.uri_ops.proofs.Paths.SlashedSegments.{slashed, lacks_slash, NoSlashes, slashed_push, before_slashed, empty_slashed, segments_slashed}
-use Rattle.uri_ops.proofs.Paths.DotLaws.{by_closed, rooted, behind, behind_lacks, closed_lacks, plain_segments, absolute_slashed, removed_of_plain, underflows_of_plain}
-use Rattle.uri_ops.proofs.Paths.TakenSegments.{absolute_is, removed_dot, underflows_dot, segments_last, segments_next}
+use Rattle.uri_ops.proofs.Paths.Segments.{pop, is_none, turn, step_of, sunk, Passes, is_plain}
+use Rattle.uri_ops.proofs.Paths.Segments.{pop_push, pop_passes, append_passes, none_push}
+use Rattle.uri_ops.proofs.Paths.Segments.{single_only}
+use Rattle.uri_ops.proofs.Paths.SlashedSegments.{slashed, lacks_slash, NoSlashes, slashed_push}
+use Rattle.uri_ops.proofs.Paths.SlashedSegments.{before_slashed, empty_slashed, segments_slashed}
+use Rattle.uri_ops.proofs.Paths.DotLaws.{by_closed, rooted, behind, behind_lacks, closed_lacks}
+use Rattle.uri_ops.proofs.Paths.DotLaws.{plain_segments, absolute_slashed, removed_of_plain}
+use Rattle.uri_ops.proofs.Paths.DotLaws.{underflows_of_plain}
+use Rattle.uri_ops.proofs.Paths.TakenSegments.{absolute_is, removed_dot, underflows_dot}
+use Rattle.uri_ops.proofs.Paths.TakenSegments.{segments_last, segments_next}
 use Rattle.uri_ops.proofs.Targeting.Targets.{absolute_append}
 use Rattle.uri_pct.proofs.Tests.{true_of}
 
@@ -25,27 +37,34 @@ pub record IsLeft (path kept rest : List ℕ) (underflowed : Bool) : Type 0 wher
   pub plain : lacks_dot_segments kept ≡ true
   pub closed : IsClosed kept rest
 
-pub left_first : (kept rest : List ℕ) → IsPlainDirectory kept → IsLeft (kept ++ rest) kept rest false
+pub left_first : (kept rest : List ℕ) → IsPlainDirectory kept
+    → IsLeft (kept ++ rest) kept rest false
 left_first kept rest d = record { removed = refl; underflow = refl; absolute = d.absolute; plain = d.plain; closed = inr d.closed }
 
-pub left_last : (path kept : List ℕ) (underflowed : Bool) → IsLeft path kept [] underflowed → (kept ≡ remove_dot_segments path) × (underflowed ≡ underflows path)
+pub left_last : (path kept : List ℕ) (underflowed : Bool) → IsLeft path kept [] underflowed
+    → (kept ≡ remove_dot_segments path) × (underflowed ≡ underflows path)
 left_last path kept underflowed h =
     let none = append-nil kept in (
-      sym (removed_of_plain kept h.absolute h.plain) ∙ ap remove_dot_segments (sym none) ∙ h.removed,
-      sym (ap (λ t. underflowed || underflows t) none ∙ ap (λ b. underflowed || b) (underflows_of_plain kept h.absolute h.plain) ∙ or-false underflowed) ∙ h.underflow,
+      sym (removed_of_plain kept h.absolute h.plain) ∙ ap remove_dot_segments (sym none)
+          ∙ h.removed,
+      sym (ap (λ t. underflowed || underflows t) none ∙ ap (λ b. underflowed || b) (underflows_of_plain kept h.absolute h.plain) ∙ or-false underflowed)
+          ∙ h.underflow,
     )
 
 none_left : (rest : List ℕ) → 0 < length rest → rest ≡ [] → ⊥
 none_left rest some e = omega (arith, some, ap length e)
 
-pub directory_of_left : (path kept rest : List ℕ) (underflowed : Bool) → IsLeft path kept rest underflowed → 0 < length rest → IsPlainDirectory kept
+pub directory_of_left : (path kept rest : List ℕ) (underflowed : Bool)
+    → IsLeft path kept rest underflowed → 0 < length rest → IsPlainDirectory kept
 directory_of_left path kept rest underflowed h some = record {
   absolute = h.absolute;
   closed = ⊎_elim (λ e. absurd (none_left rest some e)) (λ e. e) h.closed;
   plain = h.plain;
 }
 
-pub left_done : (path kept rest : List ℕ) (underflowed : Bool) → IsLeft path kept rest underflowed → (length rest == 0) ≡ true → (kept ≡ remove_dot_segments path) × (underflowed ≡ underflows path)
+pub left_done : (path kept rest : List ℕ) (underflowed : Bool) → IsLeft path kept rest underflowed
+    → (length rest == 0) ≡ true
+    → (kept ≡ remove_dot_segments path) × (underflowed ≡ underflows path)
 left_done path kept [] underflowed h e = left_last path kept underflowed h
 left_done path kept (c ∷ rest) underflowed h e = absurd (false≢true (search (rules, tests)))
 
@@ -53,22 +72,28 @@ pub some_left : (rest : List ℕ) → (length rest == 0) ≡ false → 0 < lengt
 some_left [] e = absurd (false≢true (sym e))
 some_left (c ∷ rest) e = omega arith
 
-pub left_as : (path kept kept' rest rest' : List ℕ) (u u' : Bool) → kept' ≡ kept → rest' ≡ rest → u' ≡ u → IsLeft path kept rest u → IsLeft path kept' rest' u'
+pub left_as : (path kept kept' rest rest' : List ℕ) (u u' : Bool) → kept' ≡ kept → rest' ≡ rest
+    → u' ≡ u → IsLeft path kept rest u → IsLeft path kept' rest' u'
 left_as path kept kept' rest rest' u u' e f g h =
     subst (IsLeft path kept' rest') (sym g) (subst (λ r. IsLeft path kept' r u) (sym f) (subst (λ k. IsLeft path k rest u) (sym e) h))
 
 -- a directory without dot segments as its segments
-plain_front : (xs ys : List (List ℕ)) → NoSlashes (xs ++ ys) → lacks_dot_segments (slashed (xs ++ ys)) ≡ true → Passes is_plain xs
+plain_front : (xs ys : List (List ℕ)) → NoSlashes (xs ++ ys)
+    → lacks_dot_segments (slashed (xs ++ ys)) ≡ true → Passes is_plain xs
 plain_front xs ys e f = (and_parts _ _ (sym (list_all-append is_plain xs ys) ∙ plain_segments (xs ++ ys) e f)).0
 
-pub by_directory : (P : List ℕ → Type 0) → ((xs : List (List ℕ)) → NoSlashes xs → Passes is_plain xs → P (slashed (xs ++ [] ∷ []))) → (path : List ℕ) → IsPlainDirectory path → P path
+pub by_directory : (P : List ℕ → Type 0)
+    → ((xs : List (List ℕ)) → NoSlashes xs → Passes is_plain xs → P (slashed (xs ++ [] ∷ [])))
+    → (path : List ℕ) → IsPlainDirectory path → P path
 by_directory P each path d = by_closed (λ path. lacks_dot_segments path ≡ true → P path)
     (λ xs e f. each xs e (plain_front xs ([] ∷ []) (closed_lacks xs e) f)) path d.absolute d.closed d.plain
 
-plain_slashed : (xs : List (List ℕ)) → NoSlashes xs → Passes is_plain xs → lacks_dot_segments (slashed xs) ≡ true
+plain_slashed : (xs : List (List ℕ)) → NoSlashes xs → Passes is_plain xs
+    → lacks_dot_segments (slashed xs) ≡ true
 plain_slashed xs e f = ap (list_all is_plain) (segments_slashed xs e) ∙ and_from _ _ refl f
 
-directory_slashed : (xs : List (List ℕ)) → NoSlashes xs → Passes is_plain xs → IsPlainDirectory (slashed (xs ++ [] ∷ []))
+directory_slashed : (xs : List (List ℕ)) → NoSlashes xs → Passes is_plain xs
+    → IsPlainDirectory (slashed (xs ++ [] ∷ []))
 directory_slashed xs e f = record {
   absolute = absolute_slashed (xs ++ [] ∷ []) (none_push xs []);
   closed = (slashed xs, slashed_push xs []);
@@ -84,21 +109,25 @@ record Dropped (kept s rest left : List ℕ) (meets_none : Bool) : Type 0 where
 Drops : (List ℕ → Bool) → (List ℕ → List ℕ) → (List ℕ → Bool) → List ℕ → Type 0
 Drops test left meets_none kept = (s rest : List ℕ) → has_slash s ≡ false → IsRooted rest → test s ≡ true → Dropped kept s rest (left kept) (meets_none kept)
 
-drops_single : (kept : List ℕ) → IsPlainDirectory kept → Drops is_single_dot (λ k. k) (λ k. false) kept
+drops_single : (kept : List ℕ) → IsPlainDirectory kept
+    → Drops is_single_dot (λ k. k) (λ k. false) kept
 unfolding Drops step_of turn sunk
 drops_single = by_directory (Drops is_single_dot (λ k. k) (λ k. false)) each
   where
     same : (xs : List (List ℕ)) (s : List ℕ) → is_single_dot s ≡ true → step_of xs s ≡ xs
     same xs s e = ap (λ b. turn b (is_double_dot s) xs s) e
 
-    met : (xs : List (List ℕ)) (s : List ℕ) → is_single_dot s ≡ true → sunk (is_single_dot s) (is_double_dot s) false xs ≡ false
+    met : (xs : List (List ℕ)) (s : List ℕ) → is_single_dot s ≡ true
+        → sunk (is_single_dot s) (is_double_dot s) false xs ≡ false
     met xs s e = ap (λ b. sunk b (is_double_dot s) false xs) e
 
-    each : (xs : List (List ℕ)) → NoSlashes xs → Passes is_plain xs → Drops is_single_dot (λ k. k) (λ k. false) (slashed (xs ++ [] ∷ []))
+    each : (xs : List (List ℕ)) → NoSlashes xs → Passes is_plain xs
+        → Drops is_single_dot (λ k. k) (λ k. false) (slashed (xs ++ [] ∷ []))
     each xs e f s rest free rooted single =
         let dot = ap (λ b. b || is_double_dot s) single in
         record {
-          removed = removed_dot xs f e s free dot rest rooted ∙ ap (λ o. remove_dot_segments (slashed (o ++ [] ∷ []) ++ drop 1 rest)) (same xs s single);
+          removed = removed_dot xs f e s free dot rest rooted
+              ∙ ap (λ o. remove_dot_segments (slashed (o ++ [] ∷ []) ++ drop 1 rest)) (same xs s single);
           underflow =
               underflows_dot xs f e s free dot rest rooted
               ∙ ap (λ b. b || underflows (slashed (step_of xs s ++ [] ∷ []) ++ drop 1 rest)) (met xs s single)
@@ -110,29 +139,38 @@ drops_single = by_directory (Drops is_single_dot (λ k. k) (λ k. false)) each
 double_only : (s : List ℕ) → is_double_dot s ≡ true → is_single_dot s ≡ false
 double_only s e = ⊎_elim (λ f. absurd (false≢true (sym (single_only s f) ∙ e))) (λ f. f) (cases_Bool (is_single_dot s))
 
-drops_double : (kept : List ℕ) → IsPlainDirectory kept → Drops is_double_dot parent_directory (λ k. is_empty (before_last_slash k)) kept
+drops_double : (kept : List ℕ) → IsPlainDirectory kept
+    → Drops is_double_dot parent_directory (λ k. is_empty (before_last_slash k)) kept
 unfolding Drops step_of turn sunk
 drops_double = by_directory (Drops is_double_dot parent_directory (λ k. is_empty (before_last_slash k))) each
   where
     fewer : (xs : List (List ℕ)) (s : List ℕ) → is_double_dot s ≡ true → step_of xs s ≡ pop xs
-    fewer xs s e = ap (λ b. turn b (is_double_dot s) xs s) (double_only s e) ∙ ap (λ b. turn false b xs s) e
+    fewer xs s e = ap (λ b. turn b (is_double_dot s) xs s) (double_only s e)
+        ∙ ap (λ b. turn false b xs s) e
 
-    met : (xs : List (List ℕ)) (s : List ℕ) → is_double_dot s ≡ true → sunk (is_single_dot s) (is_double_dot s) false xs ≡ is_none xs
-    met xs s e = ap (λ b. sunk b (is_double_dot s) false xs) (double_only s e) ∙ ap (λ b. sunk false b false xs) e
+    met : (xs : List (List ℕ)) (s : List ℕ) → is_double_dot s ≡ true
+        → sunk (is_single_dot s) (is_double_dot s) false xs ≡ is_none xs
+    met xs s e = ap (λ b. sunk b (is_double_dot s) false xs) (double_only s e)
+        ∙ ap (λ b. sunk false b false xs) e
 
-    front : (xs : List (List ℕ)) → NoSlashes xs → before_last_slash (slashed (xs ++ [] ∷ [])) ≡ slashed xs
+    front : (xs : List (List ℕ)) → NoSlashes xs
+        → before_last_slash (slashed (xs ++ [] ∷ [])) ≡ slashed xs
     front xs e = before_slashed (xs ++ [] ∷ []) (closed_lacks xs e) ∙ ap slashed (pop_push xs [])
 
-    parent_slashed : (xs : List (List ℕ)) → NoSlashes xs → slashed (pop xs ++ [] ∷ []) ≡ parent_directory (slashed (xs ++ [] ∷ []))
+    parent_slashed : (xs : List (List ℕ)) → NoSlashes xs
+        → slashed (pop xs ++ [] ∷ []) ≡ parent_directory (slashed (xs ++ [] ∷ []))
     parent_slashed xs e =
-        slashed_push (pop xs) [] ∙ ap (λ t. t ++ codes "/") (sym (ap before_last_slash (front xs e) ∙ before_slashed xs e))
+        slashed_push (pop xs) []
+        ∙ ap (λ t. t ++ codes "/") (sym (ap before_last_slash (front xs e) ∙ before_slashed xs e))
 
-    each : (xs : List (List ℕ)) → NoSlashes xs → Passes is_plain xs → Drops is_double_dot parent_directory (λ k. is_empty (before_last_slash k)) (slashed (xs ++ [] ∷ []))
+    each : (xs : List (List ℕ)) → NoSlashes xs → Passes is_plain xs
+        → Drops is_double_dot parent_directory (λ k. is_empty (before_last_slash k)) (slashed (xs ++ [] ∷ []))
     each xs e f s rest free rooted double =
         let dot = or_right (is_single_dot s) _ double in
         let parent = ap (λ o. slashed (o ++ [] ∷ [])) (fewer xs s double) ∙ parent_slashed xs e in
         record {
-          removed = removed_dot xs f e s free dot rest rooted ∙ ap (λ t. remove_dot_segments (t ++ drop 1 rest)) parent;
+          removed = removed_dot xs f e s free dot rest rooted
+              ∙ ap (λ t. remove_dot_segments (t ++ drop 1 rest)) parent;
           underflow =
               underflows_dot xs f e s free dot rest rooted
               ∙ ap (λ b. b || underflows (slashed (step_of xs s ++ [] ∷ []) ++ drop 1 rest)) (met xs s double ∙ sym (ap is_empty (front xs e) ∙ empty_slashed xs))
@@ -141,24 +179,29 @@ drops_double = by_directory (Drops is_double_dot parent_directory (λ k. is_empt
         }
 
 -- what is kept of a segment that is none of dots, with the `/` behind it
-pub lone_plain : (s rest : List ℕ) → has_slash s ≡ false → is_dot_segment s ≡ false → IsRooted rest → lacks_dot_segments (s ++ take 1 rest) ≡ true
+pub lone_plain : (s rest : List ℕ) → has_slash s ≡ false → is_dot_segment s ≡ false → IsRooted rest
+    → lacks_dot_segments (s ++ take 1 rest) ≡ true
 lone_plain s rest free other = rooted (λ rest. lacks_dot_segments (s ++ take 1 rest) ≡ true)
     (ap (list_all is_plain) (segments_last s free) ∙ and_from (is_plain s) true (not_from_false _ other) refl)
     (λ rest h. ap (λ t. lacks_dot_segments (s ++ take 1 t)) (absolute_is rest h) ∙ ap (list_all is_plain) (segments_next s [] free) ∙ and_from (is_plain s) true (not_from_false _ other) refl)
     rest
 
-pub lone_closed : (path : List ℕ) (end next : ℕ) → IsRooted (drop end path) → take next path ≡ take end path ++ take 1 (drop end path) → drop next path ≡ drop 1 (drop end path) → IsClosed (take next path) (drop next path)
+pub lone_closed : (path : List ℕ) (end next : ℕ) → IsRooted (drop end path)
+    → take next path ≡ take end path ++ take 1 (drop end path)
+    → drop next path ≡ drop 1 (drop end path) → IsClosed (take next path) (drop next path)
 lone_closed path end next h front rest = ⊎_elim
     (λ e. inl (rest ∙ ap (drop 1) e))
     (λ e. inr (take end path, front ∙ ap (λ t. take end path ++ take 1 t) (absolute_is (drop end path) e)))
     h
 
 -- one step further
-module _ (path kept rest : List ℕ) (underflowed : Bool) (h : IsLeft path kept rest underflowed) (some : 0 < length rest) (n : ℕ) where
+module _ (path kept rest : List ℕ) (underflowed : Bool) (h : IsLeft path kept rest underflowed)
+    (some : 0 < length rest) (n : ℕ) where
   cut : kept ++ rest ≡ kept ++ (take n rest ++ drop n rest)
   cut = ap (λ t. kept ++ t) (sym (take-append-drop n rest))
 
-  left_dropped : (left : List ℕ) (met : Bool) → Dropped kept (take n rest) (drop n rest) left met → IsLeft path left (drop 1 (drop n rest)) (underflowed || met)
+  left_dropped : (left : List ℕ) (met : Bool) → Dropped kept (take n rest) (drop n rest) left met
+      → IsLeft path left (drop 1 (drop n rest)) (underflowed || met)
   left_dropped left met d = record {
     removed = sym (ap remove_dot_segments cut ∙ d.removed) ∙ h.removed;
     underflow =
@@ -169,18 +212,22 @@ module _ (path kept rest : List ℕ) (underflowed : Bool) (h : IsLeft path kept 
     closed = inr d.directory.closed;
   }
 
-  pub left_single : has_slash (take n rest) ≡ false → IsRooted (drop n rest) → is_single_dot (take n rest) ≡ true → IsLeft path kept (drop 1 (drop n rest)) underflowed
+  pub left_single : has_slash (take n rest) ≡ false → IsRooted (drop n rest)
+      → is_single_dot (take n rest) ≡ true → IsLeft path kept (drop 1 (drop n rest)) underflowed
   unfolding Drops
   left_single free rooted single = subst (IsLeft path kept (drop 1 (drop n rest))) (or-false underflowed)
       (left_dropped kept false (drops_single kept (directory_of_left path kept rest underflowed h some) (take n rest) (drop n rest) free rooted single))
 
-  pub left_double : has_slash (take n rest) ≡ false → IsRooted (drop n rest) → is_double_dot (take n rest) ≡ true → IsLeft path (parent_directory kept) (drop 1 (drop n rest)) (underflowed || is_empty (before_last_slash kept))
+  pub left_double : has_slash (take n rest) ≡ false → IsRooted (drop n rest)
+      → is_double_dot (take n rest) ≡ true
+      → IsLeft path (parent_directory kept) (drop 1 (drop n rest)) (underflowed || is_empty (before_last_slash kept))
   unfolding Drops
   left_double free rooted double =
       left_dropped (parent_directory kept) (is_empty (before_last_slash kept))
       (drops_double kept (directory_of_left path kept rest underflowed h some) (take n rest) (drop n rest) free rooted double)
 
-  pub left_kept : lacks_dot_segments (take n rest) ≡ true → IsClosed (take n rest) (drop n rest) → IsLeft path (kept ++ take n rest) (drop n rest) underflowed
+  pub left_kept : lacks_dot_segments (take n rest) ≡ true → IsClosed (take n rest) (drop n rest)
+      → IsLeft path (kept ++ take n rest) (drop n rest) underflowed
   left_kept plain closed =
       let whole = append_assoc kept (take n rest) (drop n rest) ∙ sym cut in
       record {
@@ -209,10 +256,12 @@ module _ (text : List ℕ) (start : ℕ) (absolute : IsAbsolute (drop start text
   before_more t new e = ap (take start) e ∙ take-append-le start text t starts_within
 
   pub kept_cut : (t new : List ℕ) → new ≡ take start text ++ t → drop start new ≡ t
-  kept_cut t new e = ap (drop start) e ∙ drop_at (take start text) t start (length-take-le start text starts_within)
+  kept_cut t new e = ap (drop start) e
+      ∙ drop_at (take start text) t start (length-take-le start text starts_within)
 
   pub before_cut : (t new : List ℕ) → new ≡ take start text ++ t → take start new ≡ take start text
-  before_cut t new e = ap (take start) e ∙ take_at (take start text) t start (length-take-le start text starts_within)
+  before_cut t new e = ap (take start) e
+      ∙ take_at (take start text) t start (length-take-le start text starts_within)
 
 pub front_of : (text front : List ℕ) (n : ℕ) → front ≡ slice_range text 0 n → front ≡ take n text
 front_of text front n e = let same : n - 0 ≡ n = omega arith in e ∙ ap (λ m. take m text) same

@@ -1,11 +1,13 @@
 -- The path of a meaning: without its dot segments, behind a guard and read again it is itself.
-use Rattle.std.proofs.Common.{◌≡◌, ℕ, true, eqb, List, [], ◌∷◌, ◌++◌, refl, sym, ap, subst, ◌∙◌, ◌&&◌, ⊎_elim, arith, lit<}
+use Rattle.std.proofs.Common.{◌≡◌, ℕ, true, eqb, List, [], ◌∷◌, ◌++◌, refl, sym, ap, subst, ◌∙◌}
+use Rattle.std.proofs.Common.{◌&&◌, ⊎_elim, arith, lit<}
 use Rattle.std.specs.Prelude.{codes, Option}
 use Rattle.std.specs.Prelude.{is_none as is_absent}
 use Rattle.std.specs.Str.{IsUtf8, chars}
 use Rattle.std.proofs.Math.Utf8.{low_scalar}
 use Rattle.std.proofs.lemmas.Str.{IsUtf8-encode, encode_ascii}
-use Rattle.std.proofs.lemmas.Bool.{cases_Bool, cond-true, cond-false, cond_both, and_from, and_parts, eqb-true}
+use Rattle.std.proofs.lemmas.Bool.{cases_Bool, cond-true, cond-false, cond_both, and_from}
+use Rattle.std.proofs.lemmas.Bool.{and_parts, eqb-true}
 use Rattle.uri_pct.specs.Sets.{TableSet}
 use Rattle.uri_pct.specs.Tokens.{tokens_of, is_valid_for}
 use Rattle.uri_pct.specs.Reading.{read}
@@ -17,7 +19,8 @@ use Rattle.uri_ops.specs.ComponentSets.{IsComponentSet}
 use Rattle.uri_ops.proofs.Paths.Segments.{is_none, turn, step_of, steps, cleaned, cleaned_front}
 use Rattle.uri_ops.proofs.Paths.SlashedSegments.{slashed, remove_slashed}
 use Rattle.uri_ops.proofs.Paths.DotLaws.{by_segments, removed_absolute, removed_twice}
-use Rattle.uri_ops.proofs.Meanings.AllowedParts.{is_part, part_from, part_nil, reprinted, read-reprinted}
+use Rattle.uri_ops.proofs.Meanings.AllowedParts.{is_part, part_from, part_nil, reprinted}
+use Rattle.uri_ops.proofs.Meanings.AllowedParts.{read-reprinted}
 use Rattle.uri_ops.proofs.Paths.ReadPaths.{part_join, part_cut, removed_reprinted, part_removed}
 use Rattle.uri_ops.proofs.Paths.ReadStarts.{starts_reprinted}
 use Rattle.uri_pct.proofs.Tests.{true_of}
@@ -35,11 +38,13 @@ cleaned_twice path = ⊎_elim
     (cases_Bool (starts 47 path))
 
 -- a guard before it makes no difference
-dot_first : (s : List ℕ) (rest : List (List ℕ)) → cleaned (codes "." ∷ s ∷ rest) ≡ cleaned (s ∷ rest)
+dot_first : (s : List ℕ) (rest : List (List ℕ))
+    → cleaned (codes "." ∷ s ∷ rest) ≡ cleaned (s ∷ rest)
 unfolding is_none steps step_of turn
 dot_first s rest = cleaned_front (codes "." ∷ []) (s ∷ rest) refl
 
-pub removed_guard : (path : List ℕ) → IsAbsolute path → remove_dot_segments (codes "/." ++ path) ≡ remove_dot_segments path
+pub removed_guard : (path : List ℕ) → IsAbsolute path
+    → remove_dot_segments (codes "/." ++ path) ≡ remove_dot_segments path
 unfolding slashed
 removed_guard = by_segments (λ path. remove_dot_segments (codes "/." ++ path) ≡ remove_dot_segments path)
     (λ s rest e. remove_slashed (codes "." ∷ s ∷ rest) e ∙ ap slashed (dot_first s rest) ∙ sym (remove_slashed (s ∷ rest) e))
@@ -48,7 +53,8 @@ pub authority_first : (path : List ℕ) → has_authority path ≡ true → star
 authority_first [] e = e
 authority_first (c ∷ path) e = (and_parts (eqb c 47) _ e).0
 
-pub cleaned_guarded : (authority : Option (List ℕ)) (path : List ℕ) → cleaned_path (guarded authority path) ≡ cleaned_path path
+pub cleaned_guarded : (authority : Option (List ℕ)) (path : List ℕ)
+    → cleaned_path (guarded authority path) ≡ cleaned_path path
 cleaned_guarded authority path =
     cond_both (is_absent authority && has_authority path) (codes "/." ++ path) path (λ t. cleaned_path t ≡ cleaned_path path)
     (λ e.
@@ -56,7 +62,8 @@ cleaned_guarded authority path =
     removed_guard path (true_to _ first) ∙ sym (cond-true _ _ _ first))
     (λ e. refl)
 
-module _ (set : TableSet) (w : IsComponentSet (codes "?#[]") set) (slash : set.ascii 47 ≡ true) where
+module _ (set : TableSet) (w : IsComponentSet (codes "?#[]") set)
+    (slash : set.ascii 47 ≡ true) where
   allows_dot : is_valid_for set (codes ".") ≡ true
   unfolding is_valid_for chars tokens_of
   allows_dot = and_from _ true (allows-ascii set 46 (lit< tt) ∙ w.unreserved.ascii 46 refl) refl
@@ -64,7 +71,8 @@ module _ (set : TableSet) (w : IsComponentSet (codes "?#[]") set) (slash : set.a
   part_dot : is_part set (codes ".") ≡ true
   part_dot = part_from set (codes ".") (subst IsUtf8 (encode_ascii 46 (lit< tt)) (IsUtf8-encode 46 (low_scalar 46 (omega arith)))) allows_dot
 
-  part_guard : (path : List ℕ) → starts 47 path ≡ true → is_part set path ≡ true → is_part set (codes "/." ++ path) ≡ true
+  part_guard : (path : List ℕ) → starts 47 path ≡ true → is_part set path ≡ true
+      → is_part set (codes "/." ++ path) ≡ true
   part_guard [] e f = part_join set slash [] (codes ".") (part_nil set) part_dot
   part_guard (c ∷ path) e f =
       let slashed_path : c ∷ path ≡ 47 ∷ path = ap (λ d. d ∷ path) (eqb-true c 47 e) in
@@ -72,18 +80,21 @@ module _ (set : TableSet) (w : IsComponentSet (codes "?#[]") set) (slash : set.a
       ap (λ t. is_part set (codes "/." ++ t)) slashed_path
       ∙ part_join set slash (codes "/.") path (part_join set slash [] (codes ".") (part_nil set) part_dot) rest
 
-  pub part_guarded : (authority : Option (List ℕ)) (path : List ℕ) → is_part set path ≡ true → is_part set (guarded authority path) ≡ true
+  pub part_guarded : (authority : Option (List ℕ)) (path : List ℕ) → is_part set path ≡ true
+      → is_part set (guarded authority path) ≡ true
   part_guarded authority path f =
       cond_both (is_absent authority && has_authority path) (codes "/." ++ path) path (λ t. is_part set t ≡ true)
       (λ e. part_guard path (authority_first path (and_parts (is_absent authority) (has_authority path) e).1) f)
       (λ e. f)
 
-  pub part_cleaned : (path : List ℕ) → is_part set path ≡ true → is_part set (cleaned_path path) ≡ true
+  pub part_cleaned : (path : List ℕ) → is_part set path ≡ true
+      → is_part set (cleaned_path path) ≡ true
   part_cleaned path f =
       cond_both (starts 47 path) (remove_dot_segments path) path (λ t. is_part set t ≡ true)
       (λ e. part_removed set w.percent w.unreserved slash path (true_to _ e) f) (λ e. f)
 
-  pub cleaned_reprinted : (path : List ℕ) → is_part set path ≡ true → cleaned_path (reprinted set path) ≡ reprinted set (cleaned_path path)
+  pub cleaned_reprinted : (path : List ℕ) → is_part set path ≡ true
+      → cleaned_path (reprinted set path) ≡ reprinted set (cleaned_path path)
   cleaned_reprinted path f =
       let first = starts_reprinted set w.percent w.unreserved path f in
       ⊎_elim
@@ -92,7 +103,9 @@ module _ (set : TableSet) (w : IsComponentSet (codes "?#[]") set) (slash : set.a
       (cases_Bool (starts 47 path))
 
   -- the path of a normal text is read as the path
-  pub read_guarded : (authority : Option (List ℕ)) (path : List ℕ) → is_part set path ≡ true → read set (cleaned_path (guarded authority (reprinted set (cleaned_path path)))) ≡ read set (cleaned_path path)
+  pub read_guarded : (authority : Option (List ℕ)) (path : List ℕ) → is_part set path ≡ true
+      → read set (cleaned_path (guarded authority (reprinted set (cleaned_path path))))
+      ≡ read set (cleaned_path path)
   read_guarded authority path f =
       let clean = part_cleaned path f in
       ap (read set) (

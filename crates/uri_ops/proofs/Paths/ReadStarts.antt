@@ -1,5 +1,6 @@
 -- What is printed of the reading of a path begins as the path does.
-use Rattle.std.proofs.Common.{◌≡◌, ℕ, true, false, eqb, List, [], ◌∷◌, ◌++◌, refl, sym, ap, ◌∙◌, ◌⊎◌, ⊎_elim, inl, inr}
+use Rattle.std.proofs.Common.{◌≡◌, ℕ, true, false, eqb, List, [], ◌∷◌, ◌++◌, refl, sym, ap, ◌∙◌}
+use Rattle.std.proofs.Common.{◌⊎◌, ⊎_elim, inl, inr}
 use Rattle.std.specs.Prelude.{codes}
 use Rattle.std.specs.List.{list_any}
 use Rattle.std.specs.Str.{chars}
@@ -12,7 +13,8 @@ use Rattle.uri_parts.specs.Grammar.{has_colon_first}
 use Rattle.uri_parts.proofs.Splitting.Cuts.{cut-append}
 use Rattle.uri_ops.specs.Dots.{is_empty, has_slash}
 use Rattle.uri_ops.proofs.Paths.PathCharacters.{test_lacks}
-use Rattle.uri_ops.proofs.Meanings.AllowedParts.{is_part, part_utf8, reprinted, reprinted-nil, token_bytes-reprinted, reprinted-cut}
+use Rattle.uri_ops.proofs.Meanings.AllowedParts.{is_part, part_utf8, reprinted, reprinted-nil}
+use Rattle.uri_ops.proofs.Meanings.AllowedParts.{token_bytes-reprinted, reprinted-cut}
 use Rattle.uri_ops.proofs.Paths.DotBytes.{empty_from_bytes}
 use Rattle.uri_ops.proofs.Meanings.Lacking.{lacks_has, reprinted_lacks}
 use Rattle.uri_ops.proofs.Paths.ReadPaths.{part_cut, reprinted_first}
@@ -67,11 +69,13 @@ before_slash : (s y : List ℕ) → has_slash s ≡ false → before_any (codes 
 before_slash s y e = (cut-append (codes "/") s (47 ∷ y) (no_slash_lacks s e) refl).0
 
 before_none : (s : List ℕ) → has_slash s ≡ false → before_any (codes "/") s ≡ s
-before_none s e = ap (before_any (codes "/")) (sym (append-nil s)) ∙ (cut-append (codes "/") s [] (no_slash_lacks s e) tt).0
+before_none s e = ap (before_any (codes "/")) (sym (append-nil s))
+    ∙ (cut-append (codes "/") s [] (no_slash_lacks s e) tt).0
 
 module _ (set : TableSet) (lacks : LacksPercent set) (wide : IsSubset unreserved_set set) where
   -- nothing is printed of the empty text alone
-  pub empty_reprinted : (s : List ℕ) → is_part set s ≡ true → is_empty (reprinted set s) ≡ is_empty s
+  pub empty_reprinted : (s : List ℕ) → is_part set s ≡ true
+      → is_empty (reprinted set s) ≡ is_empty s
   empty_reprinted [] e = ap is_empty (reprinted-nil set)
   empty_reprinted (c ∷ s) e = some (reprinted set (c ∷ s)) refl
     where
@@ -79,13 +83,16 @@ module _ (set : TableSet) (lacks : LacksPercent set) (wide : IsSubset unreserved
       some [] f = absurd (nil_cons c s (empty_from_bytes (c ∷ s) (part_utf8 set (c ∷ s) e) (sym (token_bytes-reprinted set lacks (c ∷ s) e) ∙ ap (λ t. token_bytes (tokens t)) (sym f) ∙ no_bytes)))
       some (d ∷ t) f = refl
 
-  no_slash : (s : List ℕ) → is_part set s ≡ true → has_slash s ≡ false → has_slash (reprinted set s) ≡ false
+  no_slash : (s : List ℕ) → is_part set s ≡ true → has_slash s ≡ false
+      → has_slash (reprinted set s) ≡ false
   no_slash s e f = reprinted_lacks 47 set lacks wide refl refl s e f
 
-  no_colon : (s : List ℕ) → is_part set s ≡ true → list_any (λ c. eqb c 58) s ≡ false → list_any (λ c. eqb c 58) (reprinted set s) ≡ false
+  no_colon : (s : List ℕ) → is_part set s ≡ true → list_any (λ c. eqb c 58) s ≡ false
+      → list_any (λ c. eqb c 58) (reprinted set s) ≡ false
   no_colon s e f = reprinted_lacks 58 set lacks wide refl refl s e f
 
-  pub starts_reprinted : (x : List ℕ) → is_part set x ≡ true → starts 47 (reprinted set x) ≡ starts 47 x
+  pub starts_reprinted : (x : List ℕ) → is_part set x ≡ true
+      → starts 47 (reprinted set x) ≡ starts 47 x
   starts_reprinted x e = ⊎_elim
       (λ h. starts_lacks (reprinted set x) (no_slash x e h) ∙ sym (starts_lacks x h))
       (λ (w : FirstSegment x).
@@ -97,18 +104,21 @@ module _ (set : TableSet) (lacks : LacksPercent set) (wide : IsSubset unreserved
       ∙ sym (ap (starts 47) w.whole ∙ starts_behind w.segment w.rest w.lacks))
       (first_segment x)
 
-  pub has_authority_reprinted : (x : List ℕ) → is_part set x ≡ true → has_authority (reprinted set x) ≡ has_authority x
+  pub has_authority_reprinted : (x : List ℕ) → is_part set x ≡ true
+      → has_authority (reprinted set x) ≡ has_authority x
   has_authority_reprinted x e = ⊎_elim
       (λ h.
       let w = slash_first x h in
       let p = part_cut set [] w.0 (ap (is_part set) (sym w.1) ∙ e) in
-      ap (λ t. has_authority (reprinted set t)) w.1 ∙ ap has_authority (reprinted_first set w.0) ∙ authority_slash (reprinted set w.0)
+      ap (λ t. has_authority (reprinted set t)) w.1 ∙ ap has_authority (reprinted_first set w.0)
+      ∙ authority_slash (reprinted set w.0)
       ∙ starts_reprinted w.0 p.1 ∙ sym (ap has_authority w.1 ∙ authority_slash w.0))
       (λ h. no_authority_first (reprinted set x) (starts_reprinted x e ∙ h) ∙ sym (no_authority_first x h))
       (cases_Bool (starts 47 x))
 
   -- and no `:` comes into its first segment
-  pub colon_reprinted : (x : List ℕ) → is_part set x ≡ true → has_colon_first x ≡ false → has_colon_first (reprinted set x) ≡ false
+  pub colon_reprinted : (x : List ℕ) → is_part set x ≡ true → has_colon_first x ≡ false
+      → has_colon_first (reprinted set x) ≡ false
   colon_reprinted x e c = ⊎_elim
       (λ h.
       ap (list_any (λ c. eqb c 58)) (before_none (reprinted set x) (no_slash x e h))

@@ -1,5 +1,6 @@
 -- What a target has of a base and a reference (section 5.2.2), by what the reference has.
-use Rattle.std.proofs.Common.{◌≡◌, ℕ, ◌+◌, true, false, cond, List, [], ◌∷◌, ◌++◌, length, refl, sym, ap, ◌∙◌, arith, ◌&&◌, append_assoc, length-append, option_map}
+use Rattle.std.proofs.Common.{◌≡◌, ℕ, ◌+◌, true, false, cond, List, [], ◌∷◌, ◌++◌, length, refl}
+use Rattle.std.proofs.Common.{sym, ap, ◌∙◌, arith, ◌&&◌, append_assoc, length-append, option_map}
 use Rattle.std.specs.Prelude.{codes, Option, Some, None, is_none, is_some, ◌==◌}
 use Rattle.std.proofs.lemmas.Bool.{cond-true, cond-false, cond_both, false≢true, ne_eqb}
 use Rattle.uri_parts.specs.declared.positions.AuthorityPositions.{AuthorityPositions}
@@ -7,7 +8,8 @@ use Rattle.uri_parts.specs.Components.{Components, IsRooted, components, marked,
 use Rattle.uri_parts.specs.Positions.{authority_at, positions_of}
 use Rattle.uri_parts.proofs.Splitting.Recompose.{IsSplitOf-components}
 use Rattle.uri_ops.specs.Dots.{directory, is_empty, remove_dot_segments, underflows}
-use Rattle.uri_ops.specs.Target.{cleaned_path, cleaning_underflows, guarded, is_fragment_only, is_refused_as_opaque, joined, merged}
+use Rattle.uri_ops.specs.Target.{cleaned_path, cleaning_underflows, guarded, is_fragment_only}
+use Rattle.uri_ops.specs.Target.{is_refused_as_opaque, joined, merged}
 use Rattle.uri_ops.proofs.Normal.WrittenPlaces.{length-behind}
 use Rattle.uri_ops.proofs.Paths.DotLaws.{directory_absolute}
 use Rattle.uri_ops.proofs.Targeting.Swaps.{not_opaque, rooted_base}
@@ -19,18 +21,24 @@ none_where None e = refl
 none_where (Some x) e = absurd (false≢true (sym e))
 
 -- a reference with an authority stands behind the base's scheme
-pub joined_beside : (b r : Components) → is_some r.scheme ≡ false → is_some r.authority ≡ true → joined b r ≡ record r { scheme = b.scheme }
-joined_beside b r s a = cond-false (is_some r.scheme) r _ s ∙ cond-true (is_some r.authority) (record r { scheme = b.scheme }) _ a
+pub joined_beside : (b r : Components) → is_some r.scheme ≡ false → is_some r.authority ≡ true
+    → joined b r ≡ record r { scheme = b.scheme }
+joined_beside b r s a = cond-false (is_some r.scheme) r _ s
+    ∙ cond-true (is_some r.authority) (record r { scheme = b.scheme }) _ a
 
-pub authority_beside : (b r : Components) (scheme : List ℕ) (places : Option AuthorityPositions) → is_some r.scheme ≡ false → is_some r.authority ≡ true → scheme ≡ marked [] b.scheme (codes ":")
-    → places ≡ option_map (authority_at (length scheme + 2)) r.authority → places ≡ (positions_of (joined b r)).authority
+pub authority_beside : (b r : Components) (scheme : List ℕ) (places : Option AuthorityPositions)
+    → is_some r.scheme ≡ false → is_some r.authority ≡ true
+    → scheme ≡ marked [] b.scheme (codes ":")
+    → places ≡ option_map (authority_at (length scheme + 2)) r.authority
+    → places ≡ (positions_of (joined b r)).authority
 authority_beside b r scheme places s a e h =
     h
     ∙ ap (λ n. option_map (authority_at (n + 2)) r.authority) (ap length e ∙ length-behind b.scheme 58)
     ∙ sym (ap (λ (t : Components). (positions_of t).authority) (joined_beside b r s a))
 
 -- a reference's path behind the base's directory
-module _ (b r : Components) (s : is_some r.scheme ≡ false) (a : is_some r.authority ≡ false) (e : is_empty r.path ≡ false) (n : starts 47 r.path ≡ false) where
+module _ (b r : Components) (s : is_some r.scheme ≡ false) (a : is_some r.authority ≡ false)
+    (e : is_empty r.path ≡ false) (n : starts 47 r.path ≡ false) where
   pub joined_merged : (joined b r).path ≡ merged b.path r.path
   joined_merged =
       ap (λ (t : Components). t.path) (cond-false (is_some r.scheme) r _ s ∙ cond-false (is_some r.authority) (record r { scheme = b.scheme }) _ a
@@ -39,23 +47,29 @@ module _ (b r : Components) (s : is_some r.scheme ≡ false) (a : is_some r.auth
   merged_starts : IsRooted b.path → starts 47 (merged b.path r.path) ≡ true
   merged_starts rooted = true_of _ (absolute_append (directory b.path) r.path (directory_absolute b.path rooted))
 
-  pub merged_cleaned : IsRooted b.path → remove_dot_segments (merged b.path r.path) ≡ cleaned_path (joined b r).path
+  pub merged_cleaned : IsRooted b.path
+      → remove_dot_segments (merged b.path r.path) ≡ cleaned_path (joined b r).path
   merged_cleaned rooted = sym (ap cleaned_path joined_merged ∙ cond-true (starts 47 (merged b.path r.path)) _ _ (merged_starts rooted))
 
-  pub merged_underflows : IsRooted b.path → underflows (merged b.path r.path) ≡ cleaning_underflows (joined b r).path
+  pub merged_underflows : IsRooted b.path
+      → underflows (merged b.path r.path) ≡ cleaning_underflows (joined b r).path
   merged_underflows rooted = sym (ap cleaning_underflows joined_merged ∙ ap (λ x. x && underflows (merged b.path r.path)) (merged_starts rooted))
 
-pub rooted_where_merged : (base : List ℕ) (r : Components) → is_refused_as_opaque (components base) r ≡ false → is_some r.scheme ≡ false → is_empty r.path ≡ false → IsRooted (components base).path
+pub rooted_where_merged : (base : List ℕ) (r : Components)
+    → is_refused_as_opaque (components base) r ≡ false → is_some r.scheme ≡ false
+    → is_empty r.path ≡ false → IsRooted (components base).path
 rooted_where_merged base r refused s e =
     rooted_base (components base).authority (components base).path (not_opaque (components base) r refused (none_where r.scheme s) e) (IsSplitOf-components base).authority
 
 -- behind an authority no path is guarded
-pub guarded_behind : (authority : Option (List ℕ)) (path : List ℕ) → is_some authority ≡ true → path ≡ guarded authority path
+pub guarded_behind : (authority : Option (List ℕ)) (path : List ℕ) → is_some authority ≡ true
+    → path ≡ guarded authority path
 guarded_behind None path e = absurd (false≢true e)
 guarded_behind (Some a) path e = refl
 
 -- the base's query is taken by a reference of a fragment alone
-query_by_parts : (b : Components) (scheme authority : Option (List ℕ)) (path : List ℕ) (query fragment : Option (List ℕ))
+query_by_parts : (b : Components) (scheme authority : Option (List ℕ)) (path : List ℕ)
+    (query fragment : Option (List ℕ))
     → (let r : Components = record { scheme = scheme; authority = authority; path = path; query = query; fragment = fragment } in (joined b r).query ≡ cond (is_fragment_only r) b.query query)
 query_by_parts b (Some s) authority path query fragment = refl
 query_by_parts b None (Some a) path query fragment = refl
@@ -63,7 +77,8 @@ query_by_parts b None None [] None fragment = refl
 query_by_parts b None None [] (Some q) fragment = refl
 query_by_parts b None None (c ∷ path) query fragment = cond_both (starts 47 (c ∷ path)) _ _ (λ (t : Components). t.query ≡ query) (λ _. refl) (λ _. refl)
 
-pub joined_query : (b r : Components) → (joined b r).query ≡ cond (is_fragment_only r) b.query r.query
+pub joined_query : (b r : Components)
+    → (joined b r).query ≡ cond (is_fragment_only r) b.query r.query
 joined_query b r = query_by_parts b r.scheme r.authority r.path r.query r.fragment
 
 pub joined_fragment : (b r : Components) → (joined b r).fragment ≡ r.fragment
@@ -74,7 +89,9 @@ joined_fragment b r =
     (λ _. cond_both (starts 47 r.path) _ _ (λ (t : Components). t.fragment ≡ r.fragment) (λ _. refl) (λ _. refl))))
 
 -- pieces that are written one after the other
-pub written_pieces : (t : Components) (o0 o1 o2 o3 o4 : List ℕ) → o1 ≡ o0 ++ (marked [] t.scheme (codes ":") ++ marked (codes "//") t.authority []) → o2 ≡ o1 ++ t.path → o3 ≡ o2 ++ marked (codes "?") t.query []
+pub written_pieces : (t : Components) (o0 o1 o2 o3 o4 : List ℕ)
+    → o1 ≡ o0 ++ (marked [] t.scheme (codes ":") ++ marked (codes "//") t.authority [])
+    → o2 ≡ o1 ++ t.path → o3 ≡ o2 ++ marked (codes "?") t.query []
     → o4 ≡ o3 ++ marked (codes "#") t.fragment [] → o4 ≡ o0 ++ recompose t
 written_pieces t o0 o1 o2 o3 o4 e1 e2 e3 e4 =
     let front = marked [] t.scheme (codes ":") in
@@ -82,11 +99,15 @@ written_pieces t o0 o1 o2 o3 o4 e1 e2 e3 e4 =
     let query = marked (codes "?") t.query [] in
     let fragment = marked (codes "#") t.fragment [] in
     e4 ∙ ap (λ x. x ++ fragment) (e3 ∙ ap (λ x. x ++ query) (e2 ∙ ap (λ x. x ++ t.path) e1))
-    ∙ append_assoc ((o0 ++ (front ++ authority)) ++ t.path) query fragment ∙ append_assoc (o0 ++ (front ++ authority)) t.path (query ++ fragment)
-    ∙ append_assoc o0 (front ++ authority) (t.path ++ (query ++ fragment)) ∙ ap (λ x. o0 ++ x) (append_assoc front authority (t.path ++ (query ++ fragment)))
+    ∙ append_assoc ((o0 ++ (front ++ authority)) ++ t.path) query fragment
+    ∙ append_assoc (o0 ++ (front ++ authority)) t.path (query ++ fragment)
+    ∙ append_assoc o0 (front ++ authority) (t.path ++ (query ++ fragment))
+    ∙ ap (λ x. o0 ++ x) (append_assoc front authority (t.path ++ (query ++ fragment)))
 
 -- a query that is written behind its mark ends the text
-pub query_ends : (query : Option (List ℕ)) (o3 o4 : List ℕ) (end : ℕ) → is_some query ≡ true → o4 ≡ o3 ++ marked (codes "?") query [] → end ≡ length o4 → Some end ≡ option_map (λ q. length o3 + 1 + length q) query
+pub query_ends : (query : Option (List ℕ)) (o3 o4 : List ℕ) (end : ℕ) → is_some query ≡ true
+    → o4 ≡ o3 ++ marked (codes "?") query [] → end ≡ length o4
+    → Some end ≡ option_map (λ q. length o3 + 1 + length q) query
 query_ends None o3 o4 end some e n = absurd (false≢true some)
 query_ends (Some q) o3 o4 end some e n =
     ap Some (omega (arith, n, ap length e, length-append o3 (codes "?" ++ q ++ []), length-append (codes "?" ++ q) [], length-append (codes "?") q))

@@ -1,5 +1,6 @@
 -- The pieces of a text between the places of its components.
-use Rattle.std.proofs.Common.{◌≡◌, ℕ, ◌+◌, ◌≤◌, true, List, [], ◌∷◌, ◌++◌, length, take, drop, refl, sym, ap, subst, ◌∙◌, arith, append_assoc, length-append, option_map}
+use Rattle.std.proofs.Common.{◌≡◌, ℕ, ◌+◌, ◌≤◌, true, List, [], ◌∷◌, ◌++◌, length, take, drop, refl}
+use Rattle.std.proofs.Common.{sym, ap, subst, ◌∙◌, arith, append_assoc, length-append, option_map}
 use Rattle.std.specs.Prelude.{codes, Option, Some, None, IfSome, slice_range}
 use Rattle.std.specs.Str.{IsUtf8, IsCharBoundary}
 use Rattle.std.proofs.Math.Seq.{drop-append_seam, take-append_seam}
@@ -8,18 +9,22 @@ use Rattle.uri_parts.specs.declared.positions.AuthorityPositions.{AuthorityPosit
 use Rattle.uri_parts.specs.declared.positions.Positions.{Positions}
 use Rattle.uri_parts.specs.Components.{components, marked}
 use Rattle.uri_parts.specs.Grammar.{Kind, is_authority}
-use Rattle.uri_parts.specs.Positions.{AreAt, authority_at, before_fragment, host_end_of, host_start_of, marked_length}
+use Rattle.uri_parts.specs.Positions.{AreAt, authority_at, before_fragment, host_end_of}
+use Rattle.uri_parts.specs.Positions.{host_start_of, marked_length}
 use Rattle.uri_parts.proofs.Authorities.AuthorityPlaces.{host_place}
 use Rattle.uri_parts.proofs.Splitting.Fragments.{from_start, mark_boundary}
 use Rattle.uri_parts.proofs.Splitting.Marks.{fragment_text}
-use Rattle.uri_parts.proofs.Splitting.Places.{after_mark, before_hash, before_hash-append, length-before_hash, path_place, range-between}
+use Rattle.uri_parts.proofs.Splitting.Places.{after_mark, before_hash, before_hash-append}
+use Rattle.uri_parts.proofs.Splitting.Places.{length-before_hash, path_place, range-between}
 use Rattle.uri_parts.proofs.Splitting.Recompose.{IsSplitOf-components, recompose-components}
 use Rattle.uri_ops.specs.Texts.{IsTextOf}
 use Rattle.uri_ops.proofs.Normal.NormalTexts.{parts_of}
-use Rattle.uri_ops.proofs.Normal.WrittenPlaces.{front_text, length-before, length-behind, length-front}
+use Rattle.uri_ops.proofs.Normal.WrittenPlaces.{front_text, length-before, length-behind}
+use Rattle.uri_ops.proofs.Normal.WrittenPlaces.{length-front}
 
 -- a host ends in its authority
-pub host_within : (kind : Kind) (text : List ℕ) → IsTextOf kind text → (a : List ℕ) → (components text).authority ≡ Some a → host_end_of a ≤ length a
+pub host_within : (kind : Kind) (text : List ℕ) → IsTextOf kind text → (a : List ℕ)
+    → (components text).authority ≡ Some a → host_end_of a ≤ length a
 host_within kind text w a e =
     let h = subst (λ o. IfSome o (λ a. IsUtf8 a × (is_authority kind a ≡ true))) e (parts_of kind text w).authority in
     (host_place kind.userinfo kind.reg_name a h.1 h.0).ends.0
@@ -31,8 +36,10 @@ pub record Within (text : List ℕ) (places : AuthorityPositions) : Type 0 where
   pub host_end : places.host_end ≤ places.end
   pub end : places.end ≡ length text
 
-within_at : (scheme authority : Option (List ℕ)) (places : AuthorityPositions) → ((a : List ℕ) → authority ≡ Some a → host_end_of a ≤ length a)
-    → Some places ≡ option_map (authority_at (marked_length 1 scheme + 2)) authority → Within (marked [] scheme (codes ":") ++ marked (codes "//") authority []) places
+within_at : (scheme authority : Option (List ℕ)) (places : AuthorityPositions)
+    → ((a : List ℕ) → authority ≡ Some a → host_end_of a ≤ length a)
+    → Some places ≡ option_map (authority_at (marked_length 1 scheme + 2)) authority
+    → Within (marked [] scheme (codes ":") ++ marked (codes "//") authority []) places
 within_at scheme None places host e = absurd (none-some places (sym e))
 within_at scheme (Some a) places host e =
     let h : host_end_of a ≤ length a = host a refl in
@@ -40,14 +47,17 @@ within_at scheme (Some a) places host e =
     let n : length front ≡ marked_length 1 scheme + marked_length 2 (Some a) = omega (arith, length-append (marked [] scheme (codes ":")) (marked (codes "//") (Some a) []), length-behind scheme 58, length-before (codes "//") (Some a)) in
     subst (Within front) (sym (same_Some _ _ e)) (record { start = omega arith; host_start = omega (arith, h); host_end = omega (arith, h); end = omega (arith, n) })
 
-pub within : (text : List ℕ) (p : Positions) (places : AuthorityPositions) → AreAt text p → ((a : List ℕ) → (components text).authority ≡ Some a → host_end_of a ≤ length a)
+pub within : (text : List ℕ) (p : Positions) (places : AuthorityPositions) → AreAt text p
+    → ((a : List ℕ) → (components text).authority ≡ Some a → host_end_of a ≤ length a)
     → p.authority ≡ Some places → Within (front_text (components text)) places
 within text p places at host e =
     within_at (components text).scheme (components text).authority places host (sym e ∙ ap (λ (q : Positions). q.authority) at)
 
 -- the same places behind a scheme
-moved_at : (n : ℕ) (authority : Option (List ℕ)) (places moved : AuthorityPositions) → Some places ≡ option_map (authority_at 2) authority
-    → moved.start ≡ n + places.start → moved.host_start ≡ n + places.host_start → moved.host_end ≡ n + places.host_end → moved.end ≡ n + places.end
+moved_at : (n : ℕ) (authority : Option (List ℕ)) (places moved : AuthorityPositions)
+    → Some places ≡ option_map (authority_at 2) authority
+    → moved.start ≡ n + places.start → moved.host_start ≡ n + places.host_start
+    → moved.host_end ≡ n + places.host_end → moved.end ≡ n + places.end
     → Some moved ≡ option_map (authority_at (n + 2)) authority
 moved_at n None places moved e start host_start host_end end = absurd (none-some places (sym e))
 moved_at n (Some a) places moved e start host_start host_end end =
@@ -58,8 +68,10 @@ moved_at n (Some a) places moved e start host_start host_end end =
     let a3 : moved.end ≡ n + 2 + length a = omega (arith, end, ap (λ (q : AuthorityPositions). q.end) f) in
     λ i. Some (record { start = a0 i; host_start = a1 i; host_end = a2 i; end = a3 i })
 
-pub moved_behind : (text : List ℕ) (p : Positions) (n : ℕ) (places moved : AuthorityPositions) → AreAt text p → (components text).scheme ≡ None → p.authority ≡ Some places
-    → moved.start ≡ n + places.start → moved.host_start ≡ n + places.host_start → moved.host_end ≡ n + places.host_end → moved.end ≡ n + places.end
+pub moved_behind : (text : List ℕ) (p : Positions) (n : ℕ) (places moved : AuthorityPositions)
+    → AreAt text p → (components text).scheme ≡ None → p.authority ≡ Some places
+    → moved.start ≡ n + places.start → moved.host_start ≡ n + places.host_start
+    → moved.host_end ≡ n + places.host_end → moved.end ≡ n + places.end
     → Some moved ≡ option_map (authority_at (n + 2)) (components text).authority
 moved_behind text p n places moved at none e start host_start host_end end =
     moved_at n (components text).authority places moved
@@ -70,7 +82,9 @@ pub record HasScheme (text : List ℕ) (scheme : Option (List ℕ)) (end : ℕ) 
   pub cut : IsCharBoundary text (end + 1)
   pub holds : take (end + 1) text ≡ marked [] scheme (codes ":")
 
-scheme_at : (text : List ℕ) (scheme : Option (List ℕ)) (rest : List ℕ) → marked [] scheme (codes ":") ++ rest ≡ text → IsUtf8 text → (end : ℕ) → Some end ≡ option_map length scheme → HasScheme text scheme end
+scheme_at : (text : List ℕ) (scheme : Option (List ℕ)) (rest : List ℕ)
+    → marked [] scheme (codes ":") ++ rest ≡ text → IsUtf8 text → (end : ℕ)
+    → Some end ≡ option_map length scheme → HasScheme text scheme end
 scheme_at text None rest whole utf8 end e = absurd (none-some end (sym e))
 scheme_at text (Some s) rest whole utf8 end e =
     let n : end ≡ length s = same_Some _ _ e in
@@ -78,11 +92,13 @@ scheme_at text (Some s) rest whole utf8 end e =
     let joined : s ++ (58 ∷ rest) ≡ text = sym (append_assoc s (codes ":") rest) ∙ whole in
     record {
       cut = subst (λ k. IsCharBoundary text (k + 1)) (sym n) (subst (λ t. IsCharBoundary t (length s + 1)) joined (after_mark s rest 58 (omega arith) (subst IsUtf8 (sym joined) utf8)));
-      holds = ap (λ k. take k text) m ∙ ap (take (length (s ++ codes ":"))) (sym whole) ∙ take-append_seam (s ++ codes ":") rest;
+      holds = ap (λ k. take k text) m ∙ ap (take (length (s ++ codes ":"))) (sym whole)
+          ∙ take-append_seam (s ++ codes ":") rest;
     }
 
 module _ (text : List ℕ) (p : Positions) (utf8 : IsUtf8 text) (at : AreAt text p) where
-  pub scheme_piece : (end : ℕ) → p.scheme_end ≡ Some end → HasScheme text (components text).scheme end
+  pub scheme_piece : (end : ℕ) → p.scheme_end ≡ Some end
+      → HasScheme text (components text).scheme end
   scheme_piece end e =
       scheme_at text (components text).scheme _ (recompose-components text) utf8 end (sym e ∙ ap (λ (q : Positions). q.scheme_end) at)
 
@@ -98,7 +114,8 @@ module _ (text : List ℕ) (p : Positions) (utf8 : IsUtf8 text) (at : AreAt text
       ∙ ap (take (length (front_text c))) (sym (append_assoc (marked [] c.scheme (codes ":")) (marked (codes "//") c.authority []) behind ∙ recompose-components text))
       ∙ take-append_seam (front_text c) behind
 
-  length-query : before_fragment p ≡ p.path_end + length (marked (codes "?") (components text).query [])
+  length-query : before_fragment p
+      ≡ p.path_end + length (marked (codes "?") (components text).query [])
   length-query =
       let c = components text in
       ap before_fragment at ∙ sym (length-before_hash c)
@@ -113,19 +130,24 @@ module _ (text : List ℕ) (p : Positions) (utf8 : IsUtf8 text) (at : AreAt text
   pub query_ordered : p.path_end ≤ before_fragment p
   query_ordered = omega (arith, length-query)
 
-  pub query_piece : slice_range text p.path_end (before_fragment p) ≡ marked (codes "?") (components text).query []
+  pub query_piece : slice_range text p.path_end (before_fragment p)
+      ≡ marked (codes "?") (components text).query []
   query_piece =
       let c = components text in
       let front = front_text c ++ c.path in
       let query = marked (codes "?") c.query [] in
       let n : p.path_end ≡ length front = omega (arith, length-append (front_text c) c.path, length-front c, ap (λ (q : Positions). q.path_end) at) in
       let m : before_fragment p ≡ length front + length query = omega (arith, n, length-query) in
-      let whole : text ≡ front ++ (query ++ fragment_text c.fragment) = before_hash-append text c (IsSplitOf-components text) ∙ append_assoc front query (fragment_text c.fragment) in
+      let whole : text ≡ front ++ (query ++ fragment_text c.fragment) = before_hash-append text c (IsSplitOf-components text)
+      ∙ append_assoc front query (fragment_text c.fragment) in
       ap (λ k. slice_range text k (before_fragment p)) n ∙ ap (slice_range text (length front)) m
-      ∙ ap (λ t. slice_range t (length front) (length front + length query)) whole ∙ range-between front query (fragment_text c.fragment)
+      ∙ ap (λ t. slice_range t (length front) (length front + length query)) whole
+      ∙ range-between front query (fragment_text c.fragment)
 
-  pub fragment_piece : drop (before_fragment p) text ≡ marked (codes "#") (components text).fragment []
+  pub fragment_piece : drop (before_fragment p) text
+      ≡ marked (codes "#") (components text).fragment []
   fragment_piece =
       let c = components text in
       ap (λ k. drop k text) (ap before_fragment at ∙ sym (length-before_hash c))
-      ∙ ap (drop (length (before_hash c))) (before_hash-append text c (IsSplitOf-components text)) ∙ drop-append_seam (before_hash c) (fragment_text c.fragment)
+      ∙ ap (drop (length (before_hash c))) (before_hash-append text c (IsSplitOf-components text))
+      ∙ drop-append_seam (before_hash c) (fragment_text c.fragment)

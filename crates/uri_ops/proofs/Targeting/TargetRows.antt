@@ -3,7 +3,8 @@ use Rattle.std.proofs.Common.{◌≡◌, ℕ, true, false, List, [], refl, Ok, E
 use Rattle.std.specs.Prelude.{codes}
 use Rattle.uri_parts.specs.Components.{components}
 use Rattle.uri_ops.specs.Dots.{remove_dot_segments, underflows, directory, run}
-use Rattle.uri_ops.specs.Target.{Refusal, BaseWithFragment, InvalidReferenceAgainstOpaqueBase, resolution_of, target_underflows}
+use Rattle.uri_ops.specs.Target.{Refusal, BaseWithFragment, InvalidReferenceAgainstOpaqueBase}
+use Rattle.uri_ops.specs.Target.{resolution_of, target_underflows}
 
 -- the target, where its path does not underflow and where it does; and a refusal
 Resolves : List ℕ → List ℕ → List ℕ → Type 0

@@ -7,7 +7,8 @@ use Rattle.uri_parts.specs.Components.{Components, starts, IsRooted, components,
 use Rattle.uri_parts.specs.Grammar.{Kind, is_scheme, is_authority, are_components}
 use Rattle.uri_parts.proofs.Splitting.Recompose.{IsSplitOf-components}
 use Rattle.uri_ops.specs.Dots.{is_empty}
-use Rattle.uri_ops.specs.Target.{is_refused_as_opaque, merged, joined, cleaned_path, guarded, target_of, resolution_of}
+use Rattle.uri_ops.specs.Target.{is_refused_as_opaque, merged, joined, cleaned_path, guarded}
+use Rattle.uri_ops.specs.Target.{target_of, resolution_of}
 use Rattle.uri_ops.specs.ComponentSets.{HasComponentSets}
 use Rattle.uri_ops.specs.Texts.{IsTextOf}
 use Rattle.uri_ops.specs.References.{reference_kind}
@@ -34,8 +35,10 @@ module _ (kind : Kind) (sets : HasComponentSets kind) where
     query : IfSome t.query (λ q. is_part kind.query q ≡ true)
     fragment : IfSome t.fragment (λ f. is_part kind.fragment f ≡ true)
 
-  joined_parts : (base r : Components) → is_some base.scheme ≡ true → AreParts kind base → AreParts (reference_kind kind) r
-      → (is_none r.scheme ≡ true → is_empty r.path ≡ false → IsRooted base.path) → ArePartsWithScheme (joined base r)
+  joined_parts : (base r : Components) → is_some base.scheme ≡ true → AreParts kind base
+      → AreParts (reference_kind kind) r
+      → (is_none r.scheme ≡ true → is_empty r.path ≡ false → IsRooted base.path)
+      → ArePartsWithScheme (joined base r)
   joined_parts base r some b p rooted =
       cond_both (is_some r.scheme) r _ ArePartsWithScheme
       (λ h. record { some = h; scheme = p.scheme; authority = p.authority; path = p.path; query = p.query; fragment = p.fragment })
@@ -61,7 +64,8 @@ module _ (kind : Kind) (sets : HasComponentSets kind) where
         fragment = p.fragment;
       }))))
 
-  target_parts : (t : Components) → ArePartsWithScheme t → AreParts kind (record t { path = guarded t.authority (cleaned_path t.path) })
+  target_parts : (t : Components) → ArePartsWithScheme t
+      → AreParts kind (record t { path = guarded t.authority (cleaned_path t.path) })
   target_parts t p = record {
     scheme = p.scheme;
     authority = p.authority;
@@ -71,7 +75,9 @@ module _ (kind : Kind) (sets : HasComponentSets kind) where
     needs = or_left _ _ p.some;
   }
 
-  pub target_is_text : (b t target : List ℕ) → kind.needs_scheme ≡ true → IsTextOf kind b → IsTextOf (reference_kind kind) t → resolution_of (components b) (components t) ≡ Ok target → IsTextOf kind target
+  pub target_is_text : (b t target : List ℕ) → kind.needs_scheme ≡ true → IsTextOf kind b
+      → IsTextOf (reference_kind kind) t → resolution_of (components b) (components t) ≡ Ok target
+      → IsTextOf kind target
   unfolding outcome
   target_is_text b t target needs v w e =
       let base = components b in
@@ -82,5 +88,6 @@ module _ (kind : Kind) (sets : HasComponentSets kind) where
       (λ s p. rooted_base base.authority base.path (not_opaque base r a.0 s p) (IsSplitOf-components b).authority)) in
       subst (IsTextOf kind) a.1 (record {
         utf8 = utf8_recompose kind (target_of base r) parts;
-        grammar = ap (are_components kind) (target_components b t some) ∙ parts_meet kind (target_of base r) parts;
+        grammar = ap (are_components kind) (target_components b t some)
+            ∙ parts_meet kind (target_of base r) parts;
       })

@@ -3,7 +3,8 @@ use Rattle.std.proofs.Common.{◌≡◌, ℕ, Bool, true, false, List, refl}
 use Rattle.std.specs.Prelude.{codes}
 use Rattle.std.specs.List.{list_any}
 use Rattle.std.proofs.lemmas.Bool.{or_left, false≢true}
-use Rattle.uri_pct.specs.Sets.{TableSet, is_unreserved, is_reg_name_char, is_userinfo_char, is_pchar, is_path_char, is_query_char}
+use Rattle.uri_pct.specs.Sets.{TableSet, is_unreserved, is_reg_name_char, is_userinfo_char}
+use Rattle.uri_pct.specs.Sets.{is_pchar, is_path_char, is_query_char}
 use Rattle.uri_parts.specs.Grammar.{Kind, uri, uri_ref, iri, iri_ref}
 use Rattle.uri_ops.specs.ComponentSets.{IsComponentSet, HasComponentSets}
 
@@ -26,7 +27,9 @@ in_query c e = or_left _ _ (in_pchar c e)
 component : (test : ℕ → Bool) (past private : Bool) → TableSet
 component test past private = record { ascii = test; pct_encoded = true; ucschar = past; iprivate = private }
 
-component_set : (marks : List ℕ) (test : ℕ → Bool) (past private : Bool) → ((c : ℕ) → is_unreserved c ≡ true → test c ≡ true) → test 37 ≡ false → list_any test marks ≡ false
+component_set : (marks : List ℕ) (test : ℕ → Bool) (past private : Bool)
+    → ((c : ℕ) → is_unreserved c ≡ true → test c ≡ true) → test 37 ≡ false
+    → list_any test marks ≡ false
     → IsComponentSet marks (component test past private)
 unfolding component
 component_set marks test past private within percent ends = record {

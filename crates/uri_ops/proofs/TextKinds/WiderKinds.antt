@@ -1,17 +1,21 @@
 -- A text of a kind is of each kind with wider sets.
-use Rattle.std.proofs.Common.{◌≡◌, ℕ, Bool, true, false, not, List, [], ◌∷◌, refl, sym, ◌∙◌, ◌&&◌, ◌||◌, ⊎_elim}
+use Rattle.std.proofs.Common.{◌≡◌, ℕ, Bool, true, false, not, List, [], ◌∷◌, refl, sym, ◌∙◌, ◌&&◌}
+use Rattle.std.proofs.Common.{◌||◌, ⊎_elim}
 use Rattle.std.specs.Prelude.{is_some}
 use Rattle.std.specs.List.{list_all}
 use Rattle.std.specs.Str.{IsUtf8}
-use Rattle.std.proofs.lemmas.Bool.{cases_lt, and_parts, and_from, or_cases, or_left, or_right, false≢true}
-use Rattle.uri_pct.specs.Sets.{TableSet, IsSubset, allows, allows_past_ascii, is_ucschar, is_iprivate}
+use Rattle.std.proofs.lemmas.Bool.{cases_lt, and_parts, and_from, or_cases, or_left, or_right}
+use Rattle.std.proofs.lemmas.Bool.{false≢true}
+use Rattle.uri_pct.specs.Sets.{TableSet, IsSubset, allows, allows_past_ascii, is_ucschar}
+use Rattle.uri_pct.specs.Sets.{is_iprivate}
 use Rattle.uri_pct.specs.Tokens.{Token, Char, Octet, tokens, allows_token, is_valid_for, IsValidFor}
 use Rattle.uri_pct.proofs.ValidTexts.Validity.{allows-ascii, allows-past}
 use Rattle.uri_parts.specs.Components.{components}
 use Rattle.uri_parts.specs.Grammar.{Kind, is_authority, has_colon_first}
 use Rattle.uri_parts.specs.Hosts.{HostKind, Ipv4, Ipv6, IpvFuture, RegName, IsHost}
 use Rattle.uri_parts.specs.Authority.{authority_parts}
-use Rattle.uri_parts.proofs.Authorities.Authority.{is_authority_for-sound, is_authority_for-complete}
+use Rattle.uri_parts.proofs.Authorities.Authority.{is_authority_for-sound}
+use Rattle.uri_parts.proofs.Authorities.Authority.{is_authority_for-complete}
 use Rattle.uri_ops.specs.ComponentSets.{HasComponentSets, IsWithin}
 use Rattle.uri_ops.specs.Encoded.{ascii_set, ascii_kind}
 use Rattle.uri_ops.specs.Texts.{IsTextOf}
@@ -34,7 +38,8 @@ module _ (s t : TableSet) (w : IsSubset s t) where
       (λ h. allows-past t c h ∙ past_wider c (sym (allows-past s c h) ∙ e))
       (cases_lt c 128)
 
-  tokens_wider : (ts : List Token) → list_all (allows_token s) ts ≡ true → list_all (allows_token t) ts ≡ true
+  tokens_wider : (ts : List Token) → list_all (allows_token s) ts ≡ true
+      → list_all (allows_token t) ts ≡ true
   tokens_wider [] e = refl
   tokens_wider (Char c ∷ ts) e = let p = and_parts (allows s c) (list_all (allows_token s) ts) e in and_from _ _ (allows_wider c p.0) (tokens_wider ts p.1)
   tokens_wider (Octet value ∷ ts) e = let p = and_parts s.pct_encoded (list_all (allows_token s) ts) e in and_from _ _ (w.pct_encoded p.0) (tokens_wider ts p.1)
@@ -46,14 +51,16 @@ module _ (s t : TableSet) (w : IsSubset s t) where
   part_wider : (text : List ℕ) → is_part s text ≡ true → is_part t text ≡ true
   part_wider text e = part_from t text (part_utf8 s text e) (valid_wider text (part_valid s text e))
 
-host_wider : (s t : TableSet) → IsSubset s t → (text : List ℕ) (host : HostKind) → IsHost s text host → IsHost t text host
+host_wider : (s t : TableSet) → IsSubset s t → (text : List ℕ) (host : HostKind)
+    → IsHost s text host → IsHost t text host
 host_wider s t w text (Ipv6 segments) h = h
 host_wider s t w text IpvFuture h = h
 host_wider s t w text (Ipv4 octets) h = h
 host_wider s t w text RegName h = (valid_wider s t w text h.0, h.1)
 
 module _ (kind wide : Kind) (sets : HasComponentSets wide) (w : IsWithin kind wide) where
-  authority_wider : (a : List ℕ) → IsUtf8 a → is_authority kind a ≡ true → is_authority wide a ≡ true
+  authority_wider : (a : List ℕ) → IsUtf8 a → is_authority kind a ≡ true
+      → is_authority wide a ≡ true
   authority_wider a u e =
       let h = is_authority_for-sound kind.userinfo kind.reg_name a e in
       is_authority_for-complete wide.userinfo wide.reg_name (keeps_apart wide sets) a (authority_parts a) u (record {
@@ -63,7 +70,8 @@ module _ (kind wide : Kind) (sets : HasComponentSets wide) (w : IsWithin kind wi
         port = h.port;
       })
 
-  needs_wider : (x y : Bool) → (x || (not kind.needs_scheme && y)) ≡ true → (x || (not wide.needs_scheme && y)) ≡ true
+  needs_wider : (x y : Bool) → (x || (not kind.needs_scheme && y)) ≡ true
+      → (x || (not wide.needs_scheme && y)) ≡ true
   needs_wider true y e = refl
   needs_wider false y e = let p = and_parts (not kind.needs_scheme) y e in and_from _ _ (fewer kind.needs_scheme wide.needs_scheme w.needs_scheme p.0) p.1
     where

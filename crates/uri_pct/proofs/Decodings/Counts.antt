@@ -1,5 +1,6 @@
 -- How many pieces and chunks a text has at most.
-use Rattle.std.proofs.Common.{ℕ, ◌+◌, ◌*◌, ◌≤◌, Bool, true, false, cond, List, [], ◌∷◌, length, ap, arith}
+use Rattle.std.proofs.Common.{ℕ, ◌+◌, ◌*◌, ◌≤◌, Bool, true, false, cond, List, [], ◌∷◌, length, ap}
+use Rattle.std.proofs.Common.{arith}
 use Rattle.std.specs.List.{slice_split}
 use Rattle.std.specs.Char.{encode_utf8, digit_value}
 use Rattle.std.specs.Str.{chars, IsUtf8}
@@ -12,7 +13,8 @@ use Rattle.uri_pct.specs.Chunks.{Chunk, Text, Byte, onto_chunks, chunks_of, chun
 pub length-pieces : (p : ℕ → Bool) (text : List ℕ) → length (slice_split p text) ≤ length text + 1
 length-pieces p text = omega (arith, length-slice_split p text, count_by-le-length p text)
 
-length-onto_chunks : (text : List ℕ) (ps : List Chunk) → length (onto_chunks text ps) ≤ length ps + 1
+length-onto_chunks : (text : List ℕ) (ps : List Chunk)
+    → length (onto_chunks text ps) ≤ length ps + 1
 unfolding onto_chunks
 length-onto_chunks text [] = omega arith
 length-onto_chunks text (Text more ∷ ps) = omega arith

@@ -6,7 +6,9 @@ use Rattle.uri_pct.specs.Tokens.{Octet, tokens, tokens_of, is_pct_encoded}
 use Rattle.uri_pct.proofs.Readings.Printing.{digits_of}
 use Rattle.uri_pct.proofs.ValidTexts.TokenCuts.{chars-ascii}
 
-pub tokens_of_octet : (upper : Bool) (value : ℕ) (rest : List ℕ) → value < 256 → tokens (37 ∷ digit_glyph upper (value / 16) ∷ digit_glyph upper (value % 16) ∷ rest) ≡ Octet value ∷ tokens rest
+pub tokens_of_octet : (upper : Bool) (value : ℕ) (rest : List ℕ) → value < 256
+    → tokens (37 ∷ digit_glyph upper (value / 16) ∷ digit_glyph upper (value % 16) ∷ rest)
+    ≡ Octet value ∷ tokens rest
 unfolding tokens_of is_pct_encoded
 tokens_of_octet upper value rest small =
     let high = digit_glyph upper (value / 16) in

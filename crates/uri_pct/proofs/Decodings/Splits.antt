@@ -7,5 +7,6 @@ use Rattle.uri_pct.specs.declared.pct_enc.EStr.{EStr}
 use Rattle.uri_pct.specs.declared.split.Split.{Split}
 
 -- the pieces of the text that is left
-pub pieces_left-at : {E : _} {g : _} (s : Split E g) (e : EStr E g) → s.rest ≡ Some e → pieces_left s ≡ slice_split (λ b. eqb b s.delimiter) (text_of e)
+pub pieces_left-at : {E : _} {g : _} (s : Split E g) (e : EStr E g) → s.rest ≡ Some e
+    → pieces_left s ≡ slice_split (λ b. eqb b s.delimiter) (text_of e)
 pieces_left-at s e h = rw h refl

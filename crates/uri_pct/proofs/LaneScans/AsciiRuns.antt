@@ -1,5 +1,6 @@
 -- A run of ASCII characters that a set allows is read, and behind it the text has a character's boundary.
-use Rattle.std.proofs.Common.{◌≡◌, ℕ, zero, suc, ◌+◌, ◌-◌, ◌<◌, ◌≤◌, true, List, length, get_or, drop, arith, subst}
+use Rattle.std.proofs.Common.{◌≡◌, ℕ, zero, suc, ◌+◌, ◌-◌, ◌<◌, ◌≤◌, true, List, length, get_or}
+use Rattle.std.proofs.Common.{drop, arith, subst}
 use Rattle.std.specs.Str.{IsUtf8, IsCharBoundary}
 use Rattle.std.proofs.lemmas.Str.{IsCharBoundary-after_ascii}
 use Rattle.uri_pct.specs.Sets.{TableSet, LacksPercent}
@@ -7,11 +8,15 @@ use Rattle.uri_pct.specs.Models.Fronts.{front}
 use Rattle.uri_pct.specs.Models.ByteRuns.{IsRun}
 use Rattle.uri_pct.proofs.ValidTexts.Fronts.{front-char}
 
-module _ (set : TableSet) (lacks : LacksPercent set) (ascii : (b : ℕ) → set.ascii b ≡ true → b < 128) (bs : List ℕ) (u : IsUtf8 bs) (start : ℕ) (here : IsCharBoundary bs start) where
+module _ (set : TableSet) (lacks : LacksPercent set)
+    (ascii : (b : ℕ) → set.ascii b ≡ true → b < 128) (bs : List ℕ) (u : IsUtf8 bs) (start : ℕ)
+    (here : IsCharBoundary bs start) where
   abbrev IsReadTo : ℕ → Type 0
   IsReadTo i = (i + front set (drop i bs) ≡ start + front set (drop start bs)) × IsCharBoundary bs i
 
-  read_on : (n : ℕ) → start + n ≤ length bs → ((k : ℕ) → start ≤ k → k < start + n → set.ascii (get_or bs k 0) ≡ true) → IsReadTo (start + n)
+  read_on : (n : ℕ) → start + n ≤ length bs
+      → ((k : ℕ) → start ≤ k → k < start + n → set.ascii (get_or bs k 0) ≡ true)
+      → IsReadTo (start + n)
   read_on zero room pass = let e : start ≡ start + zero = omega arith in subst IsReadTo e (omega arith, here)
   read_on (suc n) room pass =
       let before = read_on n (omega arith) (λ k from to. pass k from (omega arith)) in
@@ -21,7 +26,8 @@ module _ (set : TableSet) (lacks : LacksPercent set) (ascii : (b : ℕ) → set.
       let next : start + n + 1 ≡ start + suc n = omega arith in
       subst IsReadTo next (omega (arith, before.0, step), IsCharBoundary-after_ascii bs (start + n) u (omega arith) below)
 
-  pub run_read : (end : ℕ) → IsRun set.ascii bs start end → (end + front set (drop end bs) ≡ start + front set (drop start bs)) × IsCharBoundary bs end
+  pub run_read : (end : ℕ) → IsRun set.ascii bs start end
+      → (end + front set (drop end bs) ≡ start + front set (drop start bs)) × IsCharBoundary bs end
   run_read end run =
       let f = run.from in
       let w = run.within in

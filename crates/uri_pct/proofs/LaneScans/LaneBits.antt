@@ -1,8 +1,12 @@
 -- Masks of lanes, bit by bit: shifted, and as the lanes of a load.
-use Rattle.std.proofs.Common.{◌≡◌, ℕ, zero, suc, ◌+◌, ◌-◌, ◌*◌, ◌/◌, ◌%◌, ◌^◌, ◌<◌, ◌≤◌, min, Bool, true, false, not, cond, eqb, List, map, length, get_or, refl, sym, ap, subst, ◌∙◌, arith, w64, ⊎_elim}
+use Rattle.std.proofs.Common.{◌≡◌, ℕ, zero, suc, ◌+◌, ◌-◌, ◌*◌, ◌/◌, ◌%◌, ◌^◌, ◌<◌, ◌≤◌, min, Bool}
+use Rattle.std.proofs.Common.{true, false, not, cond, eqb, List, map, length, get_or, refl, sym, ap}
+use Rattle.std.proofs.Common.{subst, ◌∙◌, arith, w64, ⊎_elim}
 use Rattle.std.specs.Int.{bit_at, trailing_zeros}
 use Rattle.std.proofs.lemmas.Nat.{shr-shr, and_mask, pow_pos}
-use Rattle.std.proofs.lemmas.Nat.Bits.{bit_at-lt, bit_at_and, bit_at_ones, bit_at_cat_high, bit_at_cat_low, bit_at-zero, bit_at_above, bit_at-trailing_zeros}
+use Rattle.std.proofs.lemmas.Nat.Bits.{bit_at-lt, bit_at_and, bit_at_ones, bit_at_cat_high}
+use Rattle.std.proofs.lemmas.Nat.Bits.{bit_at_cat_low, bit_at-zero, bit_at_above}
+use Rattle.std.proofs.lemmas.Nat.Bits.{bit_at-trailing_zeros}
 use Rattle.std.specs.Simd.Lanes.{mask_l, chunk}
 use Rattle.std.proofs.lemmas.Bool.{cases_lt}
 use Rattle.std.proofs.lemmas.Simd.{bit_mask_l, mask_l-lt, get_or-chunk, length-chunk}
@@ -28,12 +32,15 @@ bit_shl n s k h l =
 pub bit_shl_low : (n s k : ℕ) → k < 64 → k < s → bit (n * 2 ^ s % 2 ^ 64) k ≡ false
 bit_shl_low n s k h l =
     let z : n * 2 ^ s + 0 ≡ n * 2 ^ s = omega arith in
-    let none : bit_at (n * 2 ^ s) k ≡ 0 = ap (λ m. bit_at m k) (sym z) ∙ bit_at_cat_low n s 0 k l ∙ bit_at-zero k in
-    let e : bit_at (n * 2 ^ s % 2 ^ 64) k ≡ 0 = ap (λ m. bit_at m k) (sym (and_mask (n * 2 ^ s) 64)) ∙ bit_at_and (n * 2 ^ s) (2 ^ 64 - 1) k ∙ omega arith in
+    let none : bit_at (n * 2 ^ s) k ≡ 0 = ap (λ m. bit_at m k) (sym z) ∙ bit_at_cat_low n s 0 k l
+    ∙ bit_at-zero k in
+    let e : bit_at (n * 2 ^ s % 2 ^ 64) k ≡ 0 = ap (λ m. bit_at m k) (sym (and_mask (n * 2 ^ s) 64))
+    ∙ bit_at_and (n * 2 ^ s) (2 ^ 64 - 1) k ∙ omega arith in
     ap (λ m. eqb m 1) e
 
 -- what a mask says of a lane
-pub lane_test : (test : ℕ → Bool) (bs : List ℕ) (i w mask k : ℕ) → LaneMarks test bs i w mask → k < w → bit mask k ≡ false → test (get_or bs (i + k) 0) ≡ true
+pub lane_test : (test : ℕ → Bool) (bs : List ℕ) (i w mask k : ℕ) → LaneMarks test bs i w mask
+    → k < w → bit mask k ≡ false → test (get_or bs (i + k) 0) ≡ true
 lane_test test bs i w mask k m h e = unset (test (get_or bs (i + k) 0)) (sym (ap (λ b. eqb b 1) (m.lane k h)) ∙ e)
   where
     unset : (b : Bool) → eqb (cond (not b) 1 0) 1 ≡ false → b ≡ true
@@ -41,7 +48,8 @@ lane_test test bs i w mask k m h e = unset (test (get_or bs (i + k) 0)) (sym (ap
     unset false f = sym f
 
 -- the lanes of a load at which a byte stands
-pub byte_lane : (byte : ℕ) (bs : List ℕ) (i k : ℕ) → i + 16 ≤ length bs → k < 16 → bit (mask_l (map (λ b. eqb b byte) (chunk i 16 bs))) k ≡ eqb (get_or bs (i + k) 0) byte
+pub byte_lane : (byte : ℕ) (bs : List ℕ) (i k : ℕ) → i + 16 ≤ length bs → k < 16
+    → bit (mask_l (map (λ b. eqb b byte) (chunk i 16 bs))) k ≡ eqb (get_or bs (i + k) 0) byte
 byte_lane byte bs i k room h =
     let v = chunk i 16 bs in
     let ms = map (λ b. eqb b byte) v in
@@ -53,13 +61,16 @@ byte_lane byte bs i k room h =
     one_if true = refl
     one_if false = refl
 
-pub bytes_below : (byte : ℕ) (bs : List ℕ) (i : ℕ) → i + 16 ≤ length bs → mask_l (map (λ b. eqb b byte) (chunk i 16 bs)) < 2 ^ 16
+pub bytes_below : (byte : ℕ) (bs : List ℕ) (i : ℕ) → i + 16 ≤ length bs
+    → mask_l (map (λ b. eqb b byte) (chunk i 16 bs)) < 2 ^ 16
 bytes_below byte bs i room =
     let ms = map (λ b. eqb b byte) (chunk i 16 bs) in
     subst (λ n. mask_l ms < 2 ^ n) (length-map (chunk i 16 bs) (λ b. eqb b byte) ∙ length-chunk i 16 bs room) (mask_l-lt ms)
 
 -- the first lane that is set
-pub first_lane : (mask : ℕ) → mask < 2 ^ 16 → (mask ≡ 0 → ⊥) → (trailing_zeros w64 mask < 16) × (bit_at mask (trailing_zeros w64 mask) ≡ 1) × ((k : ℕ) → k < trailing_zeros w64 mask → bit_at mask k ≡ 0)
+pub first_lane : (mask : ℕ) → mask < 2 ^ 16 → (mask ≡ 0 → ⊥)
+    → (trailing_zeros w64 mask < 16) × (bit_at mask (trailing_zeros w64 mask) ≡ 1)
+    × ((k : ℕ) → k < trailing_zeros w64 mask → bit_at mask k ≡ 0)
 first_lane mask below some =
     let pos : 0 < mask = pos-from-nonzero mask some in
     let z = bit_at-trailing_zeros w64 mask pos (omega (arith, below)) in

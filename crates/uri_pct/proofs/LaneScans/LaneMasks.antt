@@ -1,13 +1,19 @@
 -- Two words as the sixteen bytes of a vector, and the lanes of a load that have no bit in them.
-use Rattle.std.proofs.Common.{◌≡◌, ℕ, zero, suc, ◌+◌, ◌-◌, ◌*◌, ◌/◌, ◌%◌, ◌^◌, ◌<◌, ◌≤◌, min, true, false, not, cond, eqb, List, [], ◌∷◌, map, length, get_or, replicate, refl, sym, ap, ◌∙◌, arith, ⊎_elim, w8, bit_and, Fits, ◌||◌, subst, T, ltb}
+use Rattle.std.proofs.Common.{◌≡◌, ℕ, zero, suc, ◌+◌, ◌-◌, ◌*◌, ◌/◌, ◌%◌, ◌^◌, ◌<◌, ◌≤◌, min, true}
+use Rattle.std.proofs.Common.{false, not, cond, eqb, List, [], ◌∷◌, map, length, get_or, replicate}
+use Rattle.std.proofs.Common.{refl, sym, ap, ◌∙◌, arith, ⊎_elim, w8, bit_and, Fits, ◌||◌, subst, T}
+use Rattle.std.proofs.Common.{ltb}
 use mir.Val.{zeroes}
 use Rattle.std.specs.Int.{bit_at}
 use Rattle.std.specs.Int.Bits.{and_zero_r}
 use Rattle.std.specs.Simd.Lanes.{zip2, mask_l, top, digits_l, Each1}
 use Rattle.std.proofs.lemmas.Nat.{shr-shr, and_mask, pow_pos}
-use Rattle.std.proofs.lemmas.Nat.Bits.{bit_at-lt, bit_at_and, bit_at_ones, bit_at_cat_low, bit_at_cat_high, and_pow}
-use Rattle.std.proofs.lemmas.Simd.{swz_l, SwzOk, SwzOk-from_Each1, Each1-from_get_or, Each1-get_or, length-swz_l, get_or-swz_l, zip2_of_maps, bitmask_splat, map-map}
-use Rattle.std.proofs.lemmas.Bool.{cases_lt, cond-true, cond-false, lt-ltb, le-ltb, ne_eqb, agree_below_at, eqb-true}
+use Rattle.std.proofs.lemmas.Nat.Bits.{bit_at-lt, bit_at_and, bit_at_ones, bit_at_cat_low}
+use Rattle.std.proofs.lemmas.Nat.Bits.{bit_at_cat_high, and_pow}
+use Rattle.std.proofs.lemmas.Simd.{swz_l, SwzOk, SwzOk-from_Each1, Each1-from_get_or, Each1-get_or}
+use Rattle.std.proofs.lemmas.Simd.{length-swz_l, get_or-swz_l, zip2_of_maps, bitmask_splat, map-map}
+use Rattle.std.proofs.lemmas.Bool.{cases_lt, cond-true, cond-false, lt-ltb, le-ltb, ne_eqb}
+use Rattle.std.proofs.lemmas.Bool.{agree_below_at, eqb-true}
 use Rattle.std.proofs.lemmas.List.{ext_get_or, length-map}
 use Rattle.std.proofs.lemmas.Grind.{get_or_default_zero}
 use Rattle.std.proofs.Math.ListN.{get_or-map}
@@ -21,17 +27,20 @@ digit zero x j h = absurd (omega arith)
 digit (suc n) x zero h = ap (λ y. y % 2 ^ 8) (omega arith)
 digit (suc n) x (suc j) h =
     let e : 8 + 8 * j ≡ 8 * suc j = omega arith in
-    digit n (x / 2 ^ 8) j (omega arith) ∙ ap (λ y. y % 2 ^ 8) (shr-shr x 8 (8 * j) ∙ ap (λ k. x / 2 ^ k) e)
+    digit n (x / 2 ^ 8) j (omega arith)
+    ∙ ap (λ y. y % 2 ^ 8) (shr-shr x 8 (8 * j) ∙ ap (λ k. x / 2 ^ k) e)
 
 bit_of_digit : (x j k : ℕ) → k < 8 → bit_at (x / 2 ^ (8 * j) % 2 ^ 8) k ≡ bit_at x (8 * j + k)
 bit_of_digit x j k h =
     let m : ℕ = x / 2 ^ (8 * j) in
     let l : bit_at m k < 2 = bit_at-lt m k in
-    ap (λ y. bit_at y k) (sym (and_mask m 8)) ∙ bit_at_and m (2 ^ 8 - 1) k ∙ ap (λ b. min (bit_at m k) b) (bit_at_ones 8 k h) ∙ omega arith
+    ap (λ y. bit_at y k) (sym (and_mask m 8)) ∙ bit_at_and m (2 ^ 8 - 1) k
+    ∙ ap (λ b. min (bit_at m k) b) (bit_at_ones 8 k h) ∙ omega arith
     ∙ ap (λ y. y % 2) (shr-shr x (8 * j) k)
 
 -- the bit of an ASCII character in the two words as one number
-bit_of_masks : (low high c : ℕ) → low < 2 ^ 64 → c < 128 → has_bit low high c ≡ eqb (bit_at (low + 2 ^ 64 * high) c) 1
+bit_of_masks : (low high c : ℕ) → low < 2 ^ 64 → c < 128
+    → has_bit low high c ≡ eqb (bit_at (low + 2 ^ 64 * high) c) 1
 bit_of_masks low high c fits below =
     let turned : high * 2 ^ 64 + low ≡ low + 2 ^ 64 * high = omega arith in
     ⊎_elim
@@ -48,7 +57,9 @@ no_bit_there (suc (suc b)) k h = absurd (omega arith)
 no_bit_past : (n k : ℕ) → k ≡ 0 → eqb (bit_and n k) 0 ≡ true
 no_bit_past n k e = rw e (ap (λ x. eqb x 0) (and_zero_r n))
 
-pub lane_is : (low high b : ℕ) → low < 2 ^ 64 → eqb (bit_and (get_or (bytes_of_masks low high) (b / 8 % 16) 0) (bit_of b)) 0 ≡ not (has_bit low high b)
+pub lane_is : (low high b : ℕ) → low < 2 ^ 64
+    → eqb (bit_and (get_or (bytes_of_masks low high) (b / 8 % 16) 0) (bit_of b)) 0
+    ≡ not (has_bit low high b)
 unfolding bit_of
 lane_is low high b fits = ⊎_elim
     (λ (below : b < 128).
@@ -56,7 +67,8 @@ lane_is low high b fits = ⊎_elim
     let j : ℕ = b / 8 % 16 in
     let k : ℕ = b % 8 in
     let place : 8 * j + k ≡ b = omega arith in
-    let byte : get_or (bytes_of_masks low high) j 0 ≡ n / 2 ^ (8 * j) % 2 ^ 8 = ap (λ m. get_or (digits_l (2 ^ 8) 16 m) j 0) (omega arith) ∙ digit 16 n j (omega arith) in
+    let byte : get_or (bytes_of_masks low high) j 0 ≡ n / 2 ^ (8 * j) % 2 ^ 8 = ap (λ m. get_or (digits_l (2 ^ 8) 16 m) j 0) (omega arith)
+    ∙ digit 16 n j (omega arith) in
     ap (λ x. eqb (bit_and (get_or (bytes_of_masks low high) j 0) x) 0) (cond-true _ _ _ (lt-ltb b 128 below))
     ∙ ap (λ x. eqb x 0) (ap (λ y. bit_and y (2 ^ k)) byte ∙ and_pow (n / 2 ^ (8 * j) % 2 ^ 8) k)
     ∙ no_bit_there _ k (bit_at-lt (n / 2 ^ (8 * j) % 2 ^ 8) k)
@@ -68,19 +80,22 @@ lane_is low high b fits = ⊎_elim
 -- positions computed lane by lane, and what stands there
 module _ (xs v : List ℕ) (f g : ℕ → ℕ) (long : length v ≡ 16) (fits : Each1 (Fits w8) v) where
   at : (i : ℕ) → i < 16 → get_or (map f v) i 0 ≡ f (get_or v i 0)
-  at i h = sym (get_or_default_zero (map f v) i (f 0) (omega (arith, length-map v f))) ∙ get_or-map f v i 0
+  at i h = sym (get_or_default_zero (map f v) i (f 0) (omega (arith, length-map v f)))
+      ∙ get_or-map f v i 0
 
   byte_at : (i : ℕ) → i < 16 → get_or v i 0 < 256
   byte_at i h = (Each1-get_or (Fits w8) v i 0 (omega arith) fits).fits
 
-  pub swizzles : ((b : ℕ) → b < 256 → (zeroes 16 w8 (f b) || ltb (f b) 16) ≡ true) → SwzOk w8 16 16 0 (map f v)
+  pub swizzles : ((b : ℕ) → b < 256 → (zeroes 16 w8 (f b) || ltb (f b) 16) ≡ true)
+      → SwzOk w8 16 16 0 (map f v)
   swizzles ok =
       SwzOk-from_Each1 w8 16 1 16 0 _ refl (omega (arith, length-map v f))
       (Each1-from_get_or (λ j. T (zeroes 16 w8 j || ltb j 16)) (map f v) 0 (λ i l.
       let h : i < 16 = omega (arith, length-map v f) in
       subst T (sym (ap (λ j. zeroes 16 w8 j || ltb j 16) (at i h) ∙ ok (get_or v i 0) (byte_at i h))) tt))
 
-  pub looked_up : ((b : ℕ) → b < 256 → cond (zeroes 16 w8 (f b)) 0 (get_or xs (f b) 0) ≡ g b) → swz_l w8 16 xs 0 (map f v) ≡ map g v
+  pub looked_up : ((b : ℕ) → b < 256 → cond (zeroes 16 w8 (f b)) 0 (get_or xs (f b) 0) ≡ g b)
+      → swz_l w8 16 xs 0 (map f v) ≡ map g v
   looked_up is =
       let both = length-swz_l w8 16 xs 0 (map f v) ∙ length-map v f in
       ext_get_or 0 _ _ (both ∙ sym (length-map v g)) (λ i inside.
@@ -88,7 +103,8 @@ module _ (xs v : List ℕ) (f g : ℕ → ℕ) (long : length v ≡ 16) (fits : 
       get_or-swz_l w8 16 xs 0 (map f v) i (omega (arith, length-map v f))
       ∙ ap (λ j. cond (zeroes 16 w8 (get_or (map f v) i 0)) 0 (get_or xs j 0)) (omega arith)
       ∙ ap (λ j. cond (zeroes 16 w8 j) 0 (get_or xs j 0)) (at i h)
-      ∙ is (get_or v i 0) (byte_at i h) ∙ sym (sym (get_or_default_zero (map g v) i (g 0) (omega (arith, length-map v g))) ∙ get_or-map g v i 0))
+      ∙ is (get_or v i 0) (byte_at i h)
+      ∙ sym (sym (get_or_default_zero (map g v) i (g 0) (omega (arith, length-map v g))) ∙ get_or-map g v i 0))
 
 -- the place of a byte of the words, and of a bit
 pub byte_place : (b : ℕ) → b < 256 → (zeroes 16 w8 (b / 8 % 16) || ltb (b / 8 % 16) 16) ≡ true
@@ -97,13 +113,15 @@ byte_place b h = agree_below_at (λ c. zeroes 16 w8 (c / 8 % 16) || ltb (c / 8 %
 pub bit_place : (b : ℕ) → b < 256 → (zeroes 16 w8 (bit_and b 135) || ltb (bit_and b 135) 16) ≡ true
 bit_place b h = agree_below_at (λ c. zeroes 16 w8 (bit_and c 135) || ltb (bit_and c 135) 16) (λ c. true) 256 b refl h
 
-pub byte_there : (xs : List ℕ) (b : ℕ) → b < 256 → cond (zeroes 16 w8 (b / 8 % 16)) 0 (get_or xs (b / 8 % 16) 0) ≡ get_or xs (b / 8 % 16) 0
+pub byte_there : (xs : List ℕ) (b : ℕ) → b < 256
+    → cond (zeroes 16 w8 (b / 8 % 16)) 0 (get_or xs (b / 8 % 16) 0) ≡ get_or xs (b / 8 % 16) 0
 byte_there xs b h = cond-false _ _ _ (agree_below_at (λ c. zeroes 16 w8 (c / 8 % 16)) (λ c. false) 256 b refl h)
 
 abbrev pub bit_list : List ℕ
 bit_list = 1 ∷ 2 ∷ 4 ∷ 8 ∷ 16 ∷ 32 ∷ 64 ∷ 128 ∷ 0 ∷ 0 ∷ 0 ∷ 0 ∷ 0 ∷ 0 ∷ 0 ∷ 0 ∷ []
 
-pub bit_there : (b : ℕ) → b < 256 → cond (zeroes 16 w8 (bit_and b 135)) 0 (get_or bit_list (bit_and b 135) 0) ≡ bit_of b
+pub bit_there : (b : ℕ) → b < 256
+    → cond (zeroes 16 w8 (bit_and b 135)) 0 (get_or bit_list (bit_and b 135) 0) ≡ bit_of b
 unfolding bit_of
 bit_there b h = eqb-true _ _ (agree_below_at (λ c. eqb (cond (zeroes 16 w8 (bit_and c 135)) 0 (get_or bit_list (bit_and c 135) 0)) (bit_of c)) (λ c. true) 256 b refl h)
 

@@ -1,5 +1,7 @@
 -- From the mask of a load to the bytes under it.
-use Rattle.std.proofs.Common.{◌≡◌, ℕ, ◌+◌, ◌-◌, ◌/◌, ◌%◌, ◌^◌, ◌<◌, ◌≤◌, Bool, true, false, not, cond, List, map, length, get_or, refl, sym, ap, subst, ◌∙◌, arith, inl, inr, w64, ⊎_elim, pow_mono}
+use Rattle.std.proofs.Common.{◌≡◌, ℕ, ◌+◌, ◌-◌, ◌/◌, ◌%◌, ◌^◌, ◌<◌, ◌≤◌, Bool, true, false, not}
+use Rattle.std.proofs.Common.{cond, List, map, length, get_or, refl, sym, ap, subst, ◌∙◌, arith}
+use Rattle.std.proofs.Common.{inl, inr, w64, ⊎_elim, pow_mono}
 use Rattle.std.specs.Int.{bit_at, trailing_zeros}
 use Rattle.std.specs.Simd.Lanes.{mask_l, chunk}
 use Rattle.std.proofs.lemmas.Nat.{shr-shr, shr_below}
@@ -16,7 +18,8 @@ pub record LaneMarks (test : ℕ → Bool) (bs : List ℕ) (i w mask : ℕ) : Ty
   pub below : mask < 2 ^ w
 
 -- the mask of a load
-pub marks_of_load : (test : ℕ → Bool) (bs : List ℕ) (i w : ℕ) → i + w ≤ length bs → LaneMarks test bs i w (mask_l (map (λ b. not (test b)) (chunk i w bs)))
+pub marks_of_load : (test : ℕ → Bool) (bs : List ℕ) (i w : ℕ) → i + w ≤ length bs
+    → LaneMarks test bs i w (mask_l (map (λ b. not (test b)) (chunk i w bs)))
 marks_of_load test bs i w room =
     let v = chunk i w bs in
     let ms = map (λ b. not (test b)) v in
@@ -30,9 +33,11 @@ marks_of_load test bs i w room =
     }
 
 -- its last lanes
-pub marks_behind : (test : ℕ → Bool) (bs : List ℕ) (i w s mask : ℕ) → LaneMarks test bs i (w + s) mask → LaneMarks test bs (i + s) w (mask / 2 ^ s)
+pub marks_behind : (test : ℕ → Bool) (bs : List ℕ) (i w s mask : ℕ)
+    → LaneMarks test bs i (w + s) mask → LaneMarks test bs (i + s) w (mask / 2 ^ s)
 marks_behind test bs i w s mask m = record {
-  lane = λ k h. ap (λ n. n % 2) (shr-shr mask s k) ∙ m.lane (s + k) (omega arith) ∙ ap (λ n. cond (not (test (get_or bs n 0))) 1 0) (omega arith);
+  lane = λ k h. ap (λ n. n % 2) (shr-shr mask s k) ∙ m.lane (s + k) (omega arith)
+      ∙ ap (λ n. cond (not (test (get_or bs n 0))) 1 0) (omega arith);
   below = shr_below mask w s m.below;
 }
 
@@ -55,7 +60,8 @@ module _ (test : ℕ → Bool) (bs : List ℕ) (i w mask : ℕ) (m : LaneMarks t
   all_pass e k from to = at k from to (ap (λ n. bit_at n (k - i)) e ∙ bit_at-zero (k - i))
 
   module _ (some : 0 < mask) (small : w ≤ 64) where
-    place : (trailing_zeros w64 mask < 64) × (bit_at mask (trailing_zeros w64 mask) ≡ 1) × ((j : ℕ) → j < trailing_zeros w64 mask → bit_at mask j ≡ 0)
+    place : (trailing_zeros w64 mask < 64) × (bit_at mask (trailing_zeros w64 mask) ≡ 1)
+        × ((j : ℕ) → j < trailing_zeros w64 mask → bit_at mask j ≡ 0)
     place = bit_at-trailing_zeros w64 mask some (omega (arith, m.below, pow_mono {i = w} {j = 64} small))
 
     pub first_within : trailing_zeros w64 mask < w
@@ -64,25 +70,31 @@ module _ (test : ℕ → Bool) (bs : List ℕ) (i w mask : ℕ) (m : LaneMarks t
         (λ (h : w ≤ trailing_zeros w64 mask). let e = bit_at_above mask w (trailing_zeros w64 mask) m.below h in let f = place.1 in absurd (omega arith))
         (cases_lt (trailing_zeros w64 mask) w)
 
-    pub first_passes : (k : ℕ) → i ≤ k → k < i + trailing_zeros w64 mask → test (get_or bs k 0) ≡ true
+    pub first_passes : (k : ℕ) → i ≤ k → k < i + trailing_zeros w64 mask
+        → test (get_or bs k 0) ≡ true
     first_passes k from to = at k from (omega (arith, first_within)) (place.2 (k - i) (omega arith))
 
     pub first_stops : test (get_or bs (i + trailing_zeros w64 mask) 0) ≡ false
     first_stops = marked _ (sym (m.lane (trailing_zeros w64 mask) first_within) ∙ place.1)
 
 -- a run of bytes that pass, and then another
-pub both_pass : (test : ℕ → Bool) (bs : List ℕ) (a m b : ℕ) → ((k : ℕ) → a ≤ k → k < m → test (get_or bs k 0) ≡ true) → ((k : ℕ) → m ≤ k → k < b → test (get_or bs k 0) ≡ true) → (k : ℕ) → a ≤ k → k < b → test (get_or bs k 0) ≡ true
+pub both_pass : (test : ℕ → Bool) (bs : List ℕ) (a m b : ℕ)
+    → ((k : ℕ) → a ≤ k → k < m → test (get_or bs k 0) ≡ true)
+    → ((k : ℕ) → m ≤ k → k < b → test (get_or bs k 0) ≡ true) → (k : ℕ) → a ≤ k → k < b
+    → test (get_or bs k 0) ≡ true
 both_pass test bs a m b low high k from to = elim (cases_lt k m) [
   | inl below ↦ low k from below
   | inr past ↦ high k past to
 ]
 
 -- where no lane is marked the run goes on, and else it ends at the first that is
-module _ (test : ℕ → Bool) (bs : List ℕ) (start i w mask : ℕ) (m : LaneMarks test bs i w mask) (passed : (k : ℕ) → start ≤ k → k < i → test (get_or bs k 0) ≡ true) where
+module _ (test : ℕ → Bool) (bs : List ℕ) (start i w mask : ℕ) (m : LaneMarks test bs i w mask)
+    (passed : (k : ℕ) → start ≤ k → k < i → test (get_or bs k 0) ≡ true) where
   pub goes_on : mask ≡ 0 → (k : ℕ) → start ≤ k → k < i + w → test (get_or bs k 0) ≡ true
   goes_on e = both_pass test bs start i (i + w) passed (all_pass test bs i w mask m e)
 
-  pub ends_there : 0 < mask → w ≤ 64 → start ≤ i → i + w ≤ length bs → IsRun test bs start (i + trailing_zeros w64 mask)
+  pub ends_there : 0 < mask → w ≤ 64 → start ≤ i → i + w ≤ length bs
+      → IsRun test bs start (i + trailing_zeros w64 mask)
   ends_there some small from room =
       let first = first_within test bs i w mask m some small in
       record {

@@ -1,10 +1,13 @@
 -- The lanes at which octets begin, and those that are parts of octets.
-use Rattle.std.proofs.Common.{◌≡◌, ℕ, ◌+◌, ◌-◌, ◌*◌, ◌/◌, ◌%◌, ◌^◌, ◌<◌, ◌≤◌, min, Bool, true, false, not, eqb, List, get_or, refl, sym, ap, ◌∙◌, arith, w64, bit_and, bit_or, ◌&&◌, ◌||◌, ⊎_elim}
+use Rattle.std.proofs.Common.{◌≡◌, ℕ, ◌+◌, ◌-◌, ◌*◌, ◌/◌, ◌%◌, ◌^◌, ◌<◌, ◌≤◌, min, Bool, true}
+use Rattle.std.proofs.Common.{false, not, eqb, List, get_or, refl, sym, ap, ◌∙◌, arith, w64}
+use Rattle.std.proofs.Common.{bit_and, bit_or, ◌&&◌, ◌||◌, ⊎_elim}
 use Rattle.std.specs.Int.{bit_at, bit_not}
 use Rattle.std.specs.Char.{is_ascii_hexdigit}
 use Rattle.std.proofs.lemmas.Nat.{or_lt}
 use Rattle.std.proofs.lemmas.Nat.Bits.{bit_at_and, bit_at_above}
-use Rattle.std.proofs.lemmas.Bool.{cases_lt, both_ways, eqb-true, eq-eqb, and_from, or_from, or_parts}
+use Rattle.std.proofs.lemmas.Bool.{cases_lt, both_ways, eqb-true, eq-eqb, and_from, or_from}
+use Rattle.std.proofs.lemmas.Bool.{or_parts}
 use Rattle.uri_pct.specs.PercentSigns.{has_digits}
 use Rattle.uri_pct.specs.Models.ByteRuns.{AreSpelt}
 use Rattle.uri_pct.specs.Masks.{has_bit}
@@ -13,7 +16,8 @@ use Rattle.uri_pct.proofs.TableSets.Constants.{hexdig_table}
 use Rattle.uri_pct.proofs.LaneScans.LaneRuns.{LaneMarks}
 use Rattle.uri_pct.proofs.LaneScans.LaneBits.{bit, bit_shr, bit_shl, bit_shl_low, lane_test}
 
-is_hexdigit : (c : ℕ) → has_bit 0x03FF000000000000 0x0000007E0000007E c ≡ true → is_ascii_hexdigit c ≡ true
+is_hexdigit : (c : ℕ) → has_bit 0x03FF000000000000 0x0000007E0000007E c ≡ true
+    → is_ascii_hexdigit c ≡ true
 is_hexdigit c e = sym (ap (λ s. s.ascii c) hexdig_table) ∙ e
 
 unless : (a b : Bool) → (a && not b) ≡ true → (a ≡ true) × (b ≡ false)
@@ -22,13 +26,20 @@ unless true false e = (refl, refl)
 unless false b e = absurd (both_ways _ refl e)
 
 -- where octets begin that end among sixteen lanes
-module _ (bs : List ℕ) (i percents others : ℕ) (is : (k : ℕ) → k < 16 → bit percents k ≡ eqb (get_or bs (i + k) 0) 37) (small : percents < 2 ^ 16) (marks : LaneMarks (has_bit 0x03FF000000000000 0x0000007E0000007E) bs i 16 others) where
-  pub octets_begin : (k : ℕ) → bit_at (bit_and percents (bit_not w64 (bit_or (bit_or others 196608 / 2) (bit_or others 196608 / 4)))) k ≡ 1 → (k + 3 ≤ 16) × (get_or bs (i + k) 0 ≡ 37) × (has_digits bs (i + k) ≡ true)
+module _ (bs : List ℕ) (i percents others : ℕ)
+    (is : (k : ℕ) → k < 16 → bit percents k ≡ eqb (get_or bs (i + k) 0) 37)
+    (small : percents < 2 ^ 16)
+    (marks : LaneMarks (has_bit 0x03FF000000000000 0x0000007E0000007E) bs i 16 others) where
+  pub octets_begin : (k : ℕ)
+      → bit_at (bit_and percents (bit_not w64 (bit_or (bit_or others 196608 / 2) (bit_or others 196608 / 4)))) k
+      ≡ 1
+      → (k + 3 ≤ 16) × (get_or bs (i + k) 0 ≡ 37) × (has_digits bs (i + k) ≡ true)
   unfolding has_digits
   octets_begin k e =
       let all = bit_or others 196608 in
       let masked = bit_and percents (bit_not w64 (bit_or (all / 2) (all / 4))) in
-      let both : min (bit_at percents k) (bit_at (bit_not w64 (bit_or (all / 2) (all / 4))) k) ≡ 1 = sym (bit_at_and percents (bit_not w64 (bit_or (all / 2) (all / 4))) k) ∙ e in
+      let both : min (bit_at percents k) (bit_at (bit_not w64 (bit_or (all / 2) (all / 4))) k) ≡ 1 = sym (bit_at_and percents (bit_not w64 (bit_or (all / 2) (all / 4))) k)
+      ∙ e in
       let inside : k < 16 = ⊎_elim (λ (h : k < 16). h) (λ (h : 16 ≤ k). let z = bit_at_above percents 16 k small h in absurd (omega (arith, both))) (cases_lt k 16) in
       let wide : all < 2 ^ 64 = or_lt 64 others 196608 (omega (arith, marks.below)) (omega arith) in
       let fits : bit_or (all / 2) (all / 4) < 2 ^ 64 = or_lt 64 (all / 2) (all / 4) (omega arith) (omega arith) in
@@ -54,19 +65,25 @@ abbrev pub opened : ℕ → ℕ → ℕ
 opened misses begun = bit_and misses (bit_not w64 (covered begun))
 
 -- what a mask of the lanes that are or_parts says of those before the first
-module _ (test : ℕ → Bool) (bs : List ℕ) (i begun misses n : ℕ) (fits : begun < 2 ^ 64) (few : n ≤ 16)
+module _ (test : ℕ → Bool) (bs : List ℕ) (i begun misses n : ℕ) (fits : begun < 2 ^ 64)
+    (few : n ≤ 16)
     (starts : (k : ℕ) → bit_at begun k ≡ 1 → (k + 3 ≤ 16) × (get_or bs (i + k) 0 ≡ 37) × (has_digits bs (i + k) ≡ true))
     (marks : LaneMarks test bs i 16 misses) where
-  open_at : (k : ℕ) → k < 64 → bit (opened misses begun) k ≡ (bit misses k && not ((bit begun k || bit (begun * 2 ^ 1 % 2 ^ 64) k) || bit (begun * 2 ^ 2 % 2 ^ 64) k))
+  open_at : (k : ℕ) → k < 64
+      → bit (opened misses begun) k
+      ≡ (bit misses k && not ((bit begun k || bit (begun * 2 ^ 1 % 2 ^ 64) k) || bit (begun * 2 ^ 2 % 2 ^ 64) k))
   open_at k h =
       without_test misses (covered begun) k (or_lt 64 _ _ (or_lt 64 _ _ fits (omega arith)) (omega arith)) h
       ∙ ap (λ b. bit misses k && not b) (or_test (bit_or begun (begun * 2 ^ 1 % 2 ^ 64)) (begun * 2 ^ 2 % 2 ^ 64) k ∙ ap (λ b. b || bit (begun * 2 ^ 2 % 2 ^ 64) k) (or_test begun (begun * 2 ^ 1 % 2 ^ 64) k))
 
-  shifted : (s k : ℕ) → k < 64 → ((j : ℕ) → j + s ≡ k → bit begun j ≡ false) → bit (begun * 2 ^ s % 2 ^ 64) k ≡ false
+  shifted : (s k : ℕ) → k < 64 → ((j : ℕ) → j + s ≡ k → bit begun j ≡ false)
+      → bit (begun * 2 ^ s % 2 ^ 64) k ≡ false
   shifted s k h none = ⊎_elim (λ (l : k < s). bit_shl_low begun s k h l) (λ (l : s ≤ k). bit_shl begun s k h l ∙ none (k - s) (omega arith)) (cases_lt k s)
 
-  not_open : (a b c d : Bool) → (a && not ((b || c) || d)) ≡ false → b ≡ false → c ≡ false → d ≡ false → a ≡ false
-  not_open a b c d e p q r = sym (and-true a) ∙ ap (λ x. a && not x) (sym (or_from (b || c) d (or_from b c p q) r)) ∙ e
+  not_open : (a b c d : Bool) → (a && not ((b || c) || d)) ≡ false → b ≡ false → c ≡ false
+      → d ≡ false → a ≡ false
+  not_open a b c d e p q r = sym (and-true a)
+      ∙ ap (λ x. a && not x) (sym (or_from (b || c) d (or_from b c p q) r)) ∙ e
     where
       and-true : (x : Bool) → (x && true) ≡ x
       and-true true = refl

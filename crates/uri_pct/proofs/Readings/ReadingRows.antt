@@ -5,10 +5,13 @@ use Rattle.std.specs.Char.{encode_utf8}
 use Rattle.std.specs.List.{repeat}
 use Rattle.std.specs.Str.{chars}
 use Rattle.std.specs.Str.Lossy.{replacement_bytes}
-use Rattle.uri_pct.specs.Sets.{TableSet, userinfo_set, reg_name_set, path_set, query_set, fragment_set, allows_past_ascii, is_ucschar, is_iprivate}
+use Rattle.uri_pct.specs.Sets.{TableSet, userinfo_set, reg_name_set, path_set, query_set}
+use Rattle.uri_pct.specs.Sets.{fragment_set, allows_past_ascii, is_ucschar, is_iprivate}
 use Rattle.uri_pct.specs.Tokens.{tokens, tokens_of, is_pct_encoded, token_bytes, print}
-use Rattle.uri_pct.specs.Pieces.{WellFormed, IllFormed, utf8_pieces, pieces_from, following, lossy_text}
-use Rattle.uri_pct.specs.Reading.{read, read_alone, read_from, read_run, is_readable, is_bidi_formatting, is_never_literal, lower_token}
+use Rattle.uri_pct.specs.Pieces.{WellFormed, IllFormed, utf8_pieces, pieces_from, following}
+use Rattle.uri_pct.specs.Pieces.{lossy_text}
+use Rattle.uri_pct.specs.Reading.{read, read_alone, read_from, read_run, is_readable}
+use Rattle.uri_pct.specs.Reading.{is_bidi_formatting, is_never_literal, lower_token}
 
 -- a component of an IRI; the query of one
 iri : TableSet → TableSet
@@ -35,27 +38,32 @@ unfolding reads reads_lowered chars encode_utf8 tokens_of is_pct_encoded pieces_
 uri_reference = (refl, refl, refl, refl, refl)
 
 -- in a URI no octet past ASCII is read, and one by one is how octets are read
-uri_octets : (reads path_set (codes "/%c3%a9%61") ≡ codes "/%C3%A9a") × (map read_alone (tokens (codes "%c3%61%41")) ≡ read path_set (codes "%c3%61%41"))
+uri_octets : (reads path_set (codes "/%c3%a9%61") ≡ codes "/%C3%A9a")
+    × (map read_alone (tokens (codes "%c3%61%41")) ≡ read path_set (codes "%c3%61%41"))
 unfolding reads chars encode_utf8 tokens_of is_pct_encoded pieces_from following read_from read_run is_readable is_bidi_formatting is_never_literal allows_past_ascii
 uri_octets = (refl, refl)
 
 -- a character between them parts two octets that together would be `é`, and does so again where the text is read twice
-parted : (reads (iri path_set) (codes "/%C3%41%A9%C3%A9") ≡ codes "/%C3A%A9" ++ encode_utf8 0xE9) × (reads (iri path_set) (codes "/%C3A%A9" ++ encode_utf8 0xE9) ≡ codes "/%C3A%A9" ++ encode_utf8 0xE9)
+parted : (reads (iri path_set) (codes "/%C3%41%A9%C3%A9") ≡ codes "/%C3A%A9" ++ encode_utf8 0xE9)
+    × (reads (iri path_set) (codes "/%C3A%A9" ++ encode_utf8 0xE9) ≡ codes "/%C3A%A9" ++ encode_utf8 0xE9)
 unfolding reads iri chars encode_utf8 tokens_of is_pct_encoded pieces_from following read_from read_run is_readable is_bidi_formatting is_never_literal allows_past_ascii is_ucschar
 parted = (refl, refl)
 
 -- a character behind 31 octets
-far_behind : reads (iri path_set) (repeat 31 (codes "%61") ++ codes "%C3%A9") ≡ repeat 31 (codes "a") ++ encode_utf8 0xE9
+far_behind : reads (iri path_set) (repeat 31 (codes "%61") ++ codes "%C3%A9")
+    ≡ repeat 31 (codes "a") ++ encode_utf8 0xE9
 unfolding reads iri chars encode_utf8 tokens_of is_pct_encoded pieces_from following read_from read_run is_readable is_bidi_formatting is_never_literal allows_past_ascii is_ucschar
 far_behind = refl
 
 -- U+202E, a formatting character of bidirectional text, as octets and as a character
-override : (reads (iri path_set) (codes "/%e2%80%ae") ≡ codes "/%E2%80%AE") × (reads (iri path_set) (codes "/" ++ encode_utf8 0x202E) ≡ codes "/%E2%80%AE")
+override : (reads (iri path_set) (codes "/%e2%80%ae") ≡ codes "/%E2%80%AE")
+    × (reads (iri path_set) (codes "/" ++ encode_utf8 0x202E) ≡ codes "/%E2%80%AE")
 unfolding reads iri chars encode_utf8 tokens_of is_pct_encoded pieces_from following read_from read_run is_readable is_bidi_formatting is_never_literal allows_past_ascii is_ucschar
 override = (refl, refl)
 
 -- U+200E between two octets parts them, and does so again where the text is read twice
-mark_between : (reads (iri path_set) (codes "%C3" ++ encode_utf8 0x200E ++ codes "%A9") ≡ codes "%C3%E2%80%8E%A9") × (reads (iri path_set) (codes "%C3%E2%80%8E%A9") ≡ codes "%C3%E2%80%8E%A9")
+mark_between : (reads (iri path_set) (codes "%C3" ++ encode_utf8 0x200E ++ codes "%A9") ≡ codes "%C3%E2%80%8E%A9")
+    × (reads (iri path_set) (codes "%C3%E2%80%8E%A9") ≡ codes "%C3%E2%80%8E%A9")
 unfolding reads iri chars encode_utf8 tokens_of is_pct_encoded pieces_from following read_from read_run is_readable is_bidi_formatting is_never_literal allows_past_ascii is_ucschar
 mark_between = (refl, refl)
 
@@ -65,22 +73,26 @@ unfolding reads iquery_set chars encode_utf8 tokens_of is_pct_encoded pieces_fro
 embedding = refl
 
 -- U+202F and U+200D, beside them, are characters
-neighbours : (reads (iri path_set) (codes "%E2%80%AF") ≡ encode_utf8 0x202F) × (reads (iri path_set) (codes "%E2%80%8D") ≡ encode_utf8 0x200D)
+neighbours : (reads (iri path_set) (codes "%E2%80%AF") ≡ encode_utf8 0x202F)
+    × (reads (iri path_set) (codes "%E2%80%8D") ≡ encode_utf8 0x200D)
 unfolding reads iri chars encode_utf8 tokens_of is_pct_encoded pieces_from following read_from read_run is_readable is_bidi_formatting is_never_literal allows_past_ascii is_ucschar
 neighbours = (refl, refl)
 
 -- U+200F behind 30 octets
-mark_far_behind : reads (iri path_set) (repeat 30 (codes "%61") ++ codes "%E2%80%8F") ≡ repeat 30 (codes "a") ++ codes "%E2%80%8F"
+mark_far_behind : reads (iri path_set) (repeat 30 (codes "%61") ++ codes "%E2%80%8F")
+    ≡ repeat 30 (codes "a") ++ codes "%E2%80%8F"
 unfolding reads iri chars encode_utf8 tokens_of is_pct_encoded pieces_from following read_from read_run is_readable is_bidi_formatting is_never_literal allows_past_ascii is_ucschar
 mark_far_behind = refl
 
 -- U+E000 is read in a query alone
-private_use : (reads iquery_set (codes "%EE%80%80") ≡ encode_utf8 0xE000) × (reads (iri path_set) (codes "%EE%80%80") ≡ codes "%EE%80%80")
+private_use : (reads iquery_set (codes "%EE%80%80") ≡ encode_utf8 0xE000)
+    × (reads (iri path_set) (codes "%EE%80%80") ≡ codes "%EE%80%80")
 unfolding reads iri iquery_set chars encode_utf8 tokens_of is_pct_encoded pieces_from following read_from read_run is_readable is_bidi_formatting is_never_literal allows_past_ascii is_ucschar is_iprivate
 private_use = (refl, refl)
 
 -- ASCII letters alone are lowered
-lowered : (reads_lowered (iri reg_name_set) (codes "R%c3%89") ≡ codes "r" ++ encode_utf8 0xC9) × (reads_lowered (iri reg_name_set) (codes "%41%c3%89") ≡ codes "a" ++ encode_utf8 0xC9)
+lowered : (reads_lowered (iri reg_name_set) (codes "R%c3%89") ≡ codes "r" ++ encode_utf8 0xC9)
+    × (reads_lowered (iri reg_name_set) (codes "%41%c3%89") ≡ codes "a" ++ encode_utf8 0xC9)
 unfolding reads_lowered iri chars encode_utf8 tokens_of is_pct_encoded pieces_from following read_from read_run is_readable is_bidi_formatting is_never_literal allows_past_ascii is_ucschar
 lowered = (refl, refl)
 

@@ -1,9 +1,11 @@
 -- Characters that are told by their first byte: from U+00C0 to U+D7FF each is in `ucschar`.
-use Rattle.std.proofs.Common.{◌≡◌, ℕ, ◌+◌, ◌/◌, ◌<◌, ◌≤◌, true, false, cond, ltb, List, [], ◌∷◌, ◌++◌, length, get_or, drop, refl, sym, ap, subst, ◌∙◌, arith, ⊎_elim}
+use Rattle.std.proofs.Common.{◌≡◌, ℕ, ◌+◌, ◌/◌, ◌<◌, ◌≤◌, true, false, cond, ltb, List, [], ◌∷◌}
+use Rattle.std.proofs.Common.{◌++◌, length, get_or, drop, refl, sym, ap, subst, ◌∙◌, arith, ⊎_elim}
 use Rattle.std.specs.Char.{encode_utf8, len_utf8, IsScalar}
 use Rattle.std.specs.Int.{is_in_range}
 use Rattle.std.specs.Str.{encode_utf8_all, all_scalars, IsUtf8, IsCharBoundary}
-use Rattle.std.proofs.lemmas.Bool.{cases_Bool, cases_lt, cond-true, cond-false, and_parts, and_from, or_left, lt-ltb, le-ltb, leb-true}
+use Rattle.std.proofs.lemmas.Bool.{cases_Bool, cases_lt, cond-true, cond-false, and_parts, and_from}
+use Rattle.std.proofs.lemmas.Bool.{or_left, lt-ltb, le-ltb, leb-true}
 use Rattle.std.proofs.lemmas.Bool.Decides.{nat_tests}
 use Rattle.std.proofs.lemmas.List.{get_or-drop, length-drop}
 use Rattle.std.proofs.lemmas.Str.{IsUtf8-drop, IsCharBoundary-past_char, drop_past_char}
@@ -22,7 +24,8 @@ record FirstChar (text : List ℕ) : Type 0 where
 none_there : (text : List ℕ) → [] ≡ text → 0 < length text → ⊥
 none_there text e h = let n = ap length e in omega arith
 
-first_of : (text cs : List ℕ) → all_scalars cs ≡ true → encode_utf8_all cs ≡ text → 0 < length text → FirstChar text
+first_of : (text cs : List ℕ) → all_scalars cs ≡ true → encode_utf8_all cs ≡ text → 0 < length text
+    → FirstChar text
 first_of text [] s e h = absurd (none_there text e h)
 first_of text (c ∷ cs) s e h = record { code = c; behind = encode_utf8_all cs; scalar = (and_parts _ (all_scalars cs) s).0; spelt = sym e }
 
@@ -72,7 +75,8 @@ three_told c s h l = ⊎_elim
     (λ big. let f = le-ltb c 2048 big in ⊎_elim
     (λ below.
     let g = lt-ltb c 65536 below in
-    let b : lead_byte c ≡ 224 + c / 4096 = cond-false _ _ _ e ∙ cond-false _ _ _ f ∙ cond-true _ _ _ g in
+    let b : lead_byte c ≡ 224 + c / 4096 = cond-false _ _ _ e ∙ cond-false _ _ _ f
+    ∙ cond-true _ _ _ g in
     record { from = omega arith; to = no_surrogate c s (omega arith); size = cond-false _ _ _ e ∙ cond-false _ _ _ f ∙ cond-true _ _ _ g })
     (λ g. let b : lead_byte c ≡ 240 + c / 262144 = cond-false _ _ _ e ∙ cond-false _ _ _ f ∙ cond-false _ _ _ (le-ltb c 65536 g) in absurd (omega arith))
     (cases_lt c 65536))
@@ -88,7 +92,8 @@ first_range c e = rw e refl
 is_low : (c : ℕ) → 160 ≤ c → c ≤ 55295 → is_ucschar c ≡ true
 is_low c from to = ucschar_low c (omega arith) ∙ first_range c (in_low_range c from to)
 
-told_allowed : (set : TableSet) (c n : ℕ) → set.ucschar ≡ true → IsTold c n → allows_past_ascii set c ≡ true
+told_allowed : (set : TableSet) (c n : ℕ) → set.ucschar ≡ true → IsTold c n
+    → allows_past_ascii set c ≡ true
 unfolding allows_past_ascii
 told_allowed set c n flag told = or_left _ _ (and_from _ _ flag (is_low c told.from told.to))
 
@@ -97,31 +102,40 @@ pub lead_range : (b : ℕ) → is_in_range 0xC3 0xED b ≡ true → (195 ≤ b) 
 lead_range b e = let p = and_parts _ _ e in (leb-true 195 b p.0, leb-true b 237 p.1)
 
 -- one character is read
-pub char_read : (set : TableSet) (bs rest : List ℕ) (i c n : ℕ) → IsUtf8 bs → IsCharBoundary bs i → i < length bs → 128 ≤ get_or bs i 0 → drop i bs ≡ encode_utf8 c ++ rest → allows_past_ascii set c ≡ true → len_utf8 c ≡ n
+pub char_read : (set : TableSet) (bs rest : List ℕ) (i c n : ℕ) → IsUtf8 bs → IsCharBoundary bs i
+    → i < length bs → 128 ≤ get_or bs i 0 → drop i bs ≡ encode_utf8 c ++ rest
+    → allows_past_ascii set c ≡ true → len_utf8 c ≡ n
     → (front set (drop i bs) ≡ front set (drop (i + n) bs) + n) × IsCharBoundary bs (i + n)
 char_read set bs rest i c n u here inside past spelt allowed size =
-    let whole : drop i bs ≡ encode_utf8 c ++ drop (i + len_utf8 c) bs = spelt ∙ ap (λ t. encode_utf8 c ++ t) (sym (drop_past_char bs rest i c spelt)) in
+    let whole : drop i bs ≡ encode_utf8 c ++ drop (i + len_utf8 c) bs = spelt
+    ∙ ap (λ t. encode_utf8 c ++ t) (sym (drop_past_char bs rest i c spelt)) in
     subst (λ k. (front set (drop i bs) ≡ front set (drop (i + k) bs) + k) × IsCharBoundary bs (i + k)) size
     (front-past-at set bs i c u here whole past ∙ cond-true _ _ _ allowed, IsCharBoundary-past_char bs rest i c (omega arith) (IsUtf8-drop bs i u here) spelt)
 
-byte_there : (bs rest : List ℕ) (i c : ℕ) → drop i bs ≡ encode_utf8 c ++ rest → get_or bs i 0 ≡ lead_byte c
+byte_there : (bs rest : List ℕ) (i c : ℕ) → drop i bs ≡ encode_utf8 c ++ rest
+    → get_or bs i 0 ≡ lead_byte c
 byte_there bs rest i c spelt =
     let z : i + 0 ≡ i = omega arith in
-    ap (λ k. get_or bs k 0) (sym z) ∙ sym (get_or-drop i bs 0 0) ∙ ap (λ t. get_or t 0 0) spelt ∙ lead_is c rest
+    ap (λ k. get_or bs k 0) (sym z) ∙ sym (get_or-drop i bs 0 0) ∙ ap (λ t. get_or t 0 0) spelt
+    ∙ lead_is c rest
 
-module _ (set : TableSet) (bs : List ℕ) (i : ℕ) (u : IsUtf8 bs) (here : IsCharBoundary bs i) (inside : i < length bs) (flag : set.ucschar ≡ true) where
+module _ (set : TableSet) (bs : List ℕ) (i : ℕ) (u : IsUtf8 bs) (here : IsCharBoundary bs i)
+    (inside : i < length bs) (flag : set.ucschar ≡ true) where
   there : FirstChar (drop i bs)
   there = let v = IsUtf8-drop bs i u here in first_of (drop i bs) v.0 v.1.0 v.1.1 (omega (arith, length-drop i bs))
 
-  told_read : (n : ℕ) → 195 ≤ get_or bs i 0 → IsTold there.code n → (front set (drop i bs) ≡ front set (drop (i + n) bs) + n) × IsCharBoundary bs (i + n)
+  told_read : (n : ℕ) → 195 ≤ get_or bs i 0 → IsTold there.code n
+      → (front set (drop i bs) ≡ front set (drop (i + n) bs) + n) × IsCharBoundary bs (i + n)
   told_read n high told = char_read set bs there.behind i there.code n u here inside (omega arith) there.spelt (told_allowed set there.code n flag told) told.size
 
-  pub two_read : 195 ≤ get_or bs i 0 → get_or bs i 0 < 224 → (front set (drop i bs) ≡ front set (drop (i + 2) bs) + 2) × IsCharBoundary bs (i + 2)
+  pub two_read : 195 ≤ get_or bs i 0 → get_or bs i 0 < 224
+      → (front set (drop i bs) ≡ front set (drop (i + 2) bs) + 2) × IsCharBoundary bs (i + 2)
   two_read high low =
       let e = byte_there bs there.behind i there.code there.spelt in
       told_read 2 high (two_told there.code (subst (λ b. 195 ≤ b) e high) (subst (λ b. b < 224) e low))
 
-  pub three_read : 224 ≤ get_or bs i 0 → get_or bs i 0 ≤ 237 → (front set (drop i bs) ≡ front set (drop (i + 3) bs) + 3) × IsCharBoundary bs (i + 3)
+  pub three_read : 224 ≤ get_or bs i 0 → get_or bs i 0 ≤ 237
+      → (front set (drop i bs) ≡ front set (drop (i + 3) bs) + 3) × IsCharBoundary bs (i + 3)
   three_read high low =
       let e = byte_there bs there.behind i there.code there.spelt in
       told_read 3 (omega arith) (three_told there.code there.scalar (subst (λ b. 224 ≤ b) e high) (subst (λ b. b ≤ 237) e low))

@@ -1,11 +1,17 @@
 -- Two words as a set of ASCII characters.
-use Rattle.std.proofs.Common.{◌≡◌, ℕ, ◌+◌, ◌-◌, ◌*◌, ◌/◌, ◌%◌, ◌^◌, ◌<◌, ◌≤◌, min, max, Bool, true, false, not, eqb, ltb, List, refl, sym, ap, ◌∙◌, arith, bit_and, bit_or, ◌&&◌, ◌||◌, ⊎_elim, w64}
+use Rattle.std.proofs.Common.{◌≡◌, ℕ, ◌+◌, ◌-◌, ◌*◌, ◌/◌, ◌%◌, ◌^◌, ◌<◌, ◌≤◌, min, max, Bool, true}
+use Rattle.std.proofs.Common.{false, not, eqb, ltb, List, refl, sym, ap, ◌∙◌, arith, bit_and}
+use Rattle.std.proofs.Common.{bit_or, ◌&&◌, ◌||◌, ⊎_elim, w64}
 use Rattle.std.specs.Prelude.{slice_index_or}
 use Rattle.std.specs.Int.{bit_at, bit_not}
 use Rattle.std.proofs.Math.Bool.{or-false}
 use Rattle.std.proofs.lemmas.Nat.{and_mask}
-use Rattle.std.proofs.lemmas.Nat.Bits.{shr_and_one, bit_at-zero, bit_at-lt, bit_at_or, bit_at_and, bit_at_not, bit_at_set_same, bit_at_set_other, same_from_bits_below}
-use Rattle.std.proofs.lemmas.Bool.{cases_lt, cases_eq, cond-true, cond-false, lt-ltb, le-ltb, eq-eqb, ne_eqb, eqb-false, or_from, or_right, and_left, agree_below, agree_below_at, both_ways}
+use Rattle.std.proofs.lemmas.Nat.Bits.{shr_and_one, bit_at-zero, bit_at-lt, bit_at_or, bit_at_and}
+use Rattle.std.proofs.lemmas.Nat.Bits.{bit_at_not, bit_at_set_same, bit_at_set_other}
+use Rattle.std.proofs.lemmas.Nat.Bits.{same_from_bits_below}
+use Rattle.std.proofs.lemmas.Bool.{cases_lt, cases_eq, cond-true, cond-false, lt-ltb, le-ltb}
+use Rattle.std.proofs.lemmas.Bool.{eq-eqb, ne_eqb, eqb-false, or_from, or_right, and_left}
+use Rattle.std.proofs.lemmas.Bool.{agree_below, agree_below_at, both_ways}
 use Rattle.std.proofs.lemmas.Bool.Decides.{nat_tests}
 use Rattle.uri_pct.specs.Masks.{has_bit}
 
@@ -14,13 +20,16 @@ pub has_low_bit : (low high c : ℕ) → c < 64 → has_bit low high c ≡ eqb (
 unfolding has_bit
 has_low_bit low high c h = cond-true _ _ _ (lt-ltb c 64 h)
 
-pub has_high_bit : (low high c : ℕ) → 64 ≤ c → c < 128 → has_bit low high c ≡ eqb (bit_at high (c - 64)) 1
+pub has_high_bit : (low high c : ℕ) → 64 ≤ c → c < 128
+    → has_bit low high c ≡ eqb (bit_at high (c - 64)) 1
 unfolding has_bit
-has_high_bit low high c from below = cond-false _ _ _ (le-ltb c 64 from) ∙ ap (λ b. b && eqb (bit_at high (c - 64)) 1) (lt-ltb c 128 below)
+has_high_bit low high c from below = cond-false _ _ _ (le-ltb c 64 from)
+    ∙ ap (λ b. b && eqb (bit_at high (c - 64)) 1) (lt-ltb c 128 below)
 
 pub has_no_bit : (low high c : ℕ) → 128 ≤ c → has_bit low high c ≡ false
 unfolding has_bit
-has_no_bit low high c h = cond-false _ _ _ (le-ltb c 64 (omega arith)) ∙ ap (λ b. b && eqb (bit_at high (c - 64)) 1) (le-ltb c 128 h)
+has_no_bit low high c h = cond-false _ _ _ (le-ltb c 64 (omega arith))
+    ∙ ap (λ b. b && eqb (bit_at high (c - 64)) 1) (le-ltb c 128 h)
 
 pub bit_ascii : (low high c : ℕ) → has_bit low high c ≡ true → c < 128
 bit_ascii low high c e = ⊎_elim (λ (below : c < 128). below) (λ (past : 128 ≤ c). absurd (both_ways _ (has_no_bit low high c past) e)) (cases_lt c 128)
@@ -34,7 +43,8 @@ percent_bit low high = refl
 abbrev pub bit_read : List ℕ → ℕ → Bool
 bit_read words b = eqb (bit_and (slice_index_or words (b / 64) 0 / 2 ^ bit_and b 63) 1) 1
 
-bit_of_word : (words : List ℕ) (b q : ℕ) → b / 64 ≡ q → bit_read words b ≡ eqb (bit_at (slice_index_or words q 0) (b - 64 * q)) 1
+bit_of_word : (words : List ℕ) (b q : ℕ) → b / 64 ≡ q
+    → bit_read words b ≡ eqb (bit_at (slice_index_or words q 0) (b - 64 * q)) 1
 bit_of_word words b q e =
     let place : bit_and b 63 ≡ b - 64 * q = and_mask b 6 ∙ omega arith in
     ap (λ w. eqb w 1) (shr_and_one (slice_index_or words (b / 64) 0) (bit_and b 63))
@@ -45,7 +55,9 @@ no_bit_of_zero : (w k : ℕ) → w ≡ 0 → eqb (bit_at w k) 1 ≡ false
 no_bit_of_zero w k e = ap (λ v. eqb (bit_at v k) 1) e ∙ ap (λ v. eqb v 1) (bit_at-zero k)
 
 -- the last two words are empty
-pub bit_read_is : (words : List ℕ) (b : ℕ) → slice_index_or words 2 0 ≡ 0 → slice_index_or words 3 0 ≡ 0 → b < 256 → bit_read words b ≡ has_bit (slice_index_or words 0 0) (slice_index_or words 1 0) b
+pub bit_read_is : (words : List ℕ) (b : ℕ) → slice_index_or words 2 0 ≡ 0
+    → slice_index_or words 3 0 ≡ 0 → b < 256
+    → bit_read words b ≡ has_bit (slice_index_or words 0 0) (slice_index_or words 1 0) b
 bit_read_is words b third fourth h =
     let low = slice_index_or words 0 0 in
     let high = slice_index_or words 1 0 in
@@ -63,7 +75,9 @@ bit_read_is words b third fourth h =
     (cases_lt b 64)
 
 -- a word's bits tell the sixty-four first characters, another's the next, and none the rest
-pub has_bit_by : (low high : ℕ) (f : ℕ → Bool) → ((c : ℕ) → c < 64 → eqb (bit_at low c) 1 ≡ f c) → ((c : ℕ) → 64 ≤ c → c < 128 → eqb (bit_at high (c - 64)) 1 ≡ f c) → ((c : ℕ) → 128 ≤ c → f c ≡ false) → (c : ℕ) → has_bit low high c ≡ f c
+pub has_bit_by : (low high : ℕ) (f : ℕ → Bool) → ((c : ℕ) → c < 64 → eqb (bit_at low c) 1 ≡ f c)
+    → ((c : ℕ) → 64 ≤ c → c < 128 → eqb (bit_at high (c - 64)) 1 ≡ f c)
+    → ((c : ℕ) → 128 ≤ c → f c ≡ false) → (c : ℕ) → has_bit low high c ≡ f c
 has_bit_by low high f first second third c =
     ⊎_elim
     (λ (below : c < 64). has_low_bit low high c below ∙ first c below)
@@ -83,28 +97,38 @@ max_test x y p q = grind (arith, nat_tests)
 min_test : (x y : ℕ) → x < 2 → y < 2 → eqb (min x (1 - y)) 1 ≡ (eqb x 1 && not (eqb y 1))
 min_test x y p q = grind (arith, nat_tests)
 
-pub or_test : (a b i : ℕ) → eqb (bit_at (bit_or a b) i) 1 ≡ (eqb (bit_at a i) 1 || eqb (bit_at b i) 1)
-or_test a b i = ap (λ n. eqb n 1) (bit_at_or a b i) ∙ max_test (bit_at a i) (bit_at b i) (bit_at-lt a i) (bit_at-lt b i)
+pub or_test : (a b i : ℕ)
+    → eqb (bit_at (bit_or a b) i) 1 ≡ (eqb (bit_at a i) 1 || eqb (bit_at b i) 1)
+or_test a b i = ap (λ n. eqb n 1) (bit_at_or a b i)
+    ∙ max_test (bit_at a i) (bit_at b i) (bit_at-lt a i) (bit_at-lt b i)
 
 both_test : (x y : ℕ) → x < 2 → y < 2 → eqb (min x y) 1 ≡ (eqb x 1 && eqb y 1)
 both_test x y p q = grind (arith, nat_tests)
 
-pub and_test : (a b i : ℕ) → eqb (bit_at (bit_and a b) i) 1 ≡ (eqb (bit_at a i) 1 && eqb (bit_at b i) 1)
-and_test a b i = ap (λ n. eqb n 1) (bit_at_and a b i) ∙ both_test (bit_at a i) (bit_at b i) (bit_at-lt a i) (bit_at-lt b i)
+pub and_test : (a b i : ℕ)
+    → eqb (bit_at (bit_and a b) i) 1 ≡ (eqb (bit_at a i) 1 && eqb (bit_at b i) 1)
+and_test a b i = ap (λ n. eqb n 1) (bit_at_and a b i)
+    ∙ both_test (bit_at a i) (bit_at b i) (bit_at-lt a i) (bit_at-lt b i)
 
-pub without_test : (a b i : ℕ) → b < 2 ^ 64 → i < 64 → eqb (bit_at (bit_and a (bit_not w64 b)) i) 1 ≡ (eqb (bit_at a i) 1 && not (eqb (bit_at b i) 1))
+pub without_test : (a b i : ℕ) → b < 2 ^ 64 → i < 64
+    → eqb (bit_at (bit_and a (bit_not w64 b)) i) 1
+    ≡ (eqb (bit_at a i) 1 && not (eqb (bit_at b i) 1))
 without_test a b i fits within =
-    ap (λ n. eqb n 1) (bit_at_and a (bit_not w64 b) i) ∙ ap (λ n. eqb (min (bit_at a i) n) 1) (bit_at_not w64 b i fits within)
+    ap (λ n. eqb n 1) (bit_at_and a (bit_not w64 b) i)
+    ∙ ap (λ n. eqb (min (bit_at a i) n) 1) (bit_at_not w64 b i fits within)
     ∙ min_test (bit_at a i) (bit_at b i) (bit_at-lt a i) (bit_at-lt b i)
 
-pub has_bit_or : (low high low' high' c : ℕ) → has_bit (bit_or low low') (bit_or high high') c ≡ (has_bit low high c || has_bit low' high' c)
+pub has_bit_or : (low high low' high' c : ℕ)
+    → has_bit (bit_or low low') (bit_or high high') c ≡ (has_bit low high c || has_bit low' high' c)
 has_bit_or low high low' high' =
     has_bit_by (bit_or low low') (bit_or high high') (λ c. has_bit low high c || has_bit low' high' c)
     (λ c h. or_test low low' c ∙ sym (in_both (λ a b. a || b) (has_low_bit low high c h) (has_low_bit low' high' c h)))
     (λ c h k. or_test high high' (c - 64) ∙ sym (in_both (λ a b. a || b) (has_high_bit low high c h k) (has_high_bit low' high' c h k)))
     (λ c h. or_from (has_bit low high c) (has_bit low' high' c) (has_no_bit low high c h) (has_no_bit low' high' c h))
 
-pub has_bit_without : (low high low' high' c : ℕ) → low' < 2 ^ 64 → high' < 2 ^ 64 → has_bit (bit_and low (bit_not w64 low')) (bit_and high (bit_not w64 high')) c ≡ (has_bit low high c && not (has_bit low' high' c))
+pub has_bit_without : (low high low' high' c : ℕ) → low' < 2 ^ 64 → high' < 2 ^ 64
+    → has_bit (bit_and low (bit_not w64 low')) (bit_and high (bit_not w64 high')) c
+    ≡ (has_bit low high c && not (has_bit low' high' c))
 has_bit_without low high low' high' c fits fits' =
     has_bit_by (bit_and low (bit_not w64 low')) (bit_and high (bit_not w64 high')) (λ c. has_bit low high c && not (has_bit low' high' c))
     (λ c h. without_test low low' c fits h ∙ sym (in_both (λ a b. a && not b) (has_low_bit low high c h) (has_low_bit low' high' c h)))
@@ -113,18 +137,21 @@ has_bit_without low high low' high' c fits fits' =
     c
 
 -- one more bit
-set_test : (n k i : ℕ) → k < 64 → eqb (bit_at (bit_or n (1 * 2 ^ k % 2 ^ 64)) i) 1 ≡ (eqb (bit_at n i) 1 || eqb k i)
+set_test : (n k i : ℕ) → k < 64
+    → eqb (bit_at (bit_or n (1 * 2 ^ k % 2 ^ 64)) i) 1 ≡ (eqb (bit_at n i) 1 || eqb k i)
 set_test n k i within =
     ⊎_elim
     (λ (e : k ≡ i).
-    ap (λ j. eqb (bit_at (bit_or n (1 * 2 ^ k % 2 ^ 64)) j) 1) (sym e) ∙ ap (λ b. eqb b 1) (bit_at_set_same w64 n k within)
+    ap (λ j. eqb (bit_at (bit_or n (1 * 2 ^ k % 2 ^ 64)) j) 1) (sym e)
+    ∙ ap (λ b. eqb b 1) (bit_at_set_same w64 n k within)
     ∙ sym (or_right (eqb (bit_at n i) 1) (eqb k i) (eq-eqb k i e)))
     (λ (ne : k ≡ i → ⊥).
     ap (λ b. eqb b 1) (bit_at_set_other w64 n k within i (λ (e : i ≡ k). ne (sym e)))
     ∙ sym (or-false (eqb (bit_at n i) 1)) ∙ ap (λ b. eqb (bit_at n i) 1 || b) (sym (ne_eqb k i ne)))
     (cases_eq k i)
 
-pub has_bit_set_low : (low high k c : ℕ) → k < 64 → has_bit (bit_or low (1 * 2 ^ k % 2 ^ 64)) high c ≡ (has_bit low high c || eqb k c)
+pub has_bit_set_low : (low high k c : ℕ) → k < 64
+    → has_bit (bit_or low (1 * 2 ^ k % 2 ^ 64)) high c ≡ (has_bit low high c || eqb k c)
 has_bit_set_low low high k c within =
     has_bit_by (bit_or low (1 * 2 ^ k % 2 ^ 64)) high (λ c. has_bit low high c || eqb k c)
     (λ c h. set_test low k c within ∙ ap (λ a. a || eqb k c) (sym (has_low_bit low high c h)))
@@ -137,7 +164,8 @@ has_bit_set_low low high k c within =
 same_distance : (k c : ℕ) → 64 ≤ k → 64 ≤ c → eqb (k - 64) (c - 64) ≡ eqb k c
 same_distance k c p q = grind (arith, nat_tests)
 
-pub has_bit_set_high : (low high k c : ℕ) → 64 ≤ k → k < 128 → has_bit low (bit_or high (1 * 2 ^ (k - 64) % 2 ^ 64)) c ≡ (has_bit low high c || eqb k c)
+pub has_bit_set_high : (low high k c : ℕ) → 64 ≤ k → k < 128
+    → has_bit low (bit_or high (1 * 2 ^ (k - 64) % 2 ^ 64)) c ≡ (has_bit low high c || eqb k c)
 has_bit_set_high low high k c from within =
     has_bit_by low (bit_or high (1 * 2 ^ (k - 64) % 2 ^ 64)) (λ c. has_bit low high c || eqb k c)
     (λ c h.
@@ -166,14 +194,17 @@ zero_by_bits n fits none =
 pub low_is_zero : (low high : ℕ) → low < 2 ^ 64 → ((c : ℕ) → has_bit low high c ≡ false) → low ≡ 0
 low_is_zero low high fits none = zero_by_bits low fits (λ i h. sym (has_low_bit low high i h) ∙ none i)
 
-pub high_is_zero : (low high : ℕ) → high < 2 ^ 64 → ((c : ℕ) → has_bit low high c ≡ false) → high ≡ 0
+pub high_is_zero : (low high : ℕ) → high < 2 ^ 64 → ((c : ℕ) → has_bit low high c ≡ false)
+    → high ≡ 0
 high_is_zero low high fits none =
     zero_by_bits high fits
     (λ i h.
-    ap (λ j. eqb (bit_at high j) 1) (omega arith) ∙ sym (has_high_bit low high (i + 64) (omega arith) (omega arith)) ∙ none (i + 64))
+    ap (λ j. eqb (bit_at high j) 1) (omega arith)
+    ∙ sym (has_high_bit low high (i + 64) (omega arith) (omega arith)) ∙ none (i + 64))
 
 -- masks that agree with a test below 128 are the test, where that is false from there on
-pub has_bit_is : (low high : ℕ) (test : ℕ → Bool) → agree_below (has_bit low high) test 128 ≡ true → ((c : ℕ) → 128 ≤ c → test c ≡ false) → (c : ℕ) → has_bit low high c ≡ test c
+pub has_bit_is : (low high : ℕ) (test : ℕ → Bool) → agree_below (has_bit low high) test 128 ≡ true
+    → ((c : ℕ) → 128 ≤ c → test c ≡ false) → (c : ℕ) → has_bit low high c ≡ test c
 has_bit_is low high test same none c =
     ⊎_elim
     (λ (below : c < 128). agree_below_at (has_bit low high) test 128 c same below)

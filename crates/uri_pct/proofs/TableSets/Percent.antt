@@ -1,5 +1,6 @@
 -- No table holds the percent sign.
-use Rattle.std.proofs.Common.{◌≡◌, ◌∙◌, ℕ, Bool, true, false, not, ◌&&◌, ◌||◌, eqb, List, [], ◌∷◌, refl, ap}
+use Rattle.std.proofs.Common.{◌≡◌, ◌∙◌, ℕ, Bool, true, false, not, ◌&&◌, ◌||◌, eqb, List, [], ◌∷◌}
+use Rattle.std.proofs.Common.{refl, ap}
 use Rattle.std.specs.List.{list_any}
 use Rattle.uri_pct.specs.Sets.{LacksPercent}
 use Rattle.uri_pct.specs.Tables.{set_of}
@@ -16,6 +17,8 @@ none_of_two true y = refl
 none_of_two false y = refl
 
 -- a byte stands nowhere in a text where none of the text is found to be it
-pub lacks_unless_found : (byte : ℕ) (text : List ℕ) → not (list_any (λ b. eqb b byte) text) ≡ lacks byte text
+pub lacks_unless_found : (byte : ℕ) (text : List ℕ)
+    → not (list_any (λ b. eqb b byte) text) ≡ lacks byte text
 lacks_unless_found byte [] = refl
-lacks_unless_found byte (b ∷ text) = none_of_two (eqb b byte) (list_any (λ b. eqb b byte) text) ∙ ap (λ t. not (eqb b byte) && t) (lacks_unless_found byte text)
+lacks_unless_found byte (b ∷ text) = none_of_two (eqb b byte) (list_any (λ b. eqb b byte) text)
+    ∙ ap (λ t. not (eqb b byte) && t) (lacks_unless_found byte text)

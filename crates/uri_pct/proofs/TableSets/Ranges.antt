@@ -1,5 +1,6 @@
 -- The ranges of `ucschar` and `iprivate`, told apart as the code tells them: below plane 1, planes 1 to 13, and above.
-use Rattle.std.proofs.Common.{◌≡◌, ℕ, zero, suc, ◌+◌, ◌*◌, ◌%◌, ◌<◌, ◌≤◌, Bool, false, leb, refl, ap, ◌∙◌, arith, ◌||◌, ⊎_elim}
+use Rattle.std.proofs.Common.{◌≡◌, ℕ, zero, suc, ◌+◌, ◌*◌, ◌%◌, ◌<◌, ◌≤◌, Bool, false, leb, refl}
+use Rattle.std.proofs.Common.{ap, ◌∙◌, arith, ◌||◌, ⊎_elim}
 use Rattle.std.specs.Int.{is_in_range}
 use Rattle.std.proofs.Math.Bool.{or-false}
 use Rattle.std.proofs.lemmas.Bool.{cases_lt, and_left, and_right, or_from, lt-leb}
@@ -32,12 +33,14 @@ above_planes (suc n) c h =
     (above_planes n c (omega arith))
     (above_range (65536 * (n + 1)) (65536 * (n + 1) + 65533) c (omega arith))
 
-in_plane : (n c : ℕ) → 65536 * n ≤ c → c < 65536 * n + 65536 → is_in_range (65536 * n) (65536 * n + 65533) c ≡ leb (c % 65536) 65533
+in_plane : (n c : ℕ) → 65536 * n ≤ c → c < 65536 * n + 65536
+    → is_in_range (65536 * n) (65536 * n + 65533) c ≡ leb (c % 65536) 65533
 in_plane n c from below =
     let place : c % 65536 + 65536 * n ≡ c = omega arith in
     grind (arith, nat_tests, place)
 
-within_planes : (n c : ℕ) → 65536 ≤ c → c < 65536 * (n + 1) → in_planes false n c ≡ leb (c % 65536) 65533
+within_planes : (n c : ℕ) → 65536 ≤ c → c < 65536 * (n + 1)
+    → in_planes false n c ≡ leb (c % 65536) 65533
 unfolding in_planes
 within_planes zero c from below = absurd (omega arith)
 within_planes (suc n) c from below =
@@ -54,30 +57,38 @@ within_planes (suc n) c from below =
 abbrev pub is_low_ucschar : ℕ → Bool
 is_low_ucschar c = is_in_range 0xA0 0xD7FF c || is_in_range 0xF900 0xFDCF c || is_in_range 0xFDF0 0xFFEF c
 
-ucschar_by_planes : (c : ℕ) → is_ucschar c ≡ (in_planes (is_low_ucschar c) 13 c || is_in_range 0xE1000 0xEFFFD c)
+ucschar_by_planes : (c : ℕ)
+    → is_ucschar c ≡ (in_planes (is_low_ucschar c) 13 c || is_in_range 0xE1000 0xEFFFD c)
 unfolding is_ucschar in_planes
 ucschar_by_planes c = refl
 
 pub ucschar_low : (c : ℕ) → c < 65536 → is_ucschar c ≡ is_low_ucschar c
 ucschar_low c h =
-    ucschar_by_planes c ∙ ap (λ b. in_planes (is_low_ucschar c) 13 c || b) (below_range 0xE1000 0xEFFFD c (omega arith))
+    ucschar_by_planes c
+    ∙ ap (λ b. in_planes (is_low_ucschar c) 13 c || b) (below_range 0xE1000 0xEFFFD c (omega arith))
     ∙ or-false (in_planes (is_low_ucschar c) 13 c) ∙ below_planes (is_low_ucschar c) 13 c h
 
 none_low : (c : ℕ) → 65536 ≤ c → is_low_ucschar c ≡ false
 none_low c h = grind (arith, nat_tests)
 
-pub ucschar_high : (c : ℕ) → 65536 ≤ c → is_ucschar c ≡ (in_planes false 13 c || is_in_range 0xE1000 0xEFFFD c)
-ucschar_high c h = ucschar_by_planes c ∙ ap (λ b. in_planes b 13 c || is_in_range 0xE1000 0xEFFFD c) (none_low c h)
+pub ucschar_high : (c : ℕ) → 65536 ≤ c
+    → is_ucschar c ≡ (in_planes false 13 c || is_in_range 0xE1000 0xEFFFD c)
+ucschar_high c h = ucschar_by_planes c
+    ∙ ap (λ b. in_planes b 13 c || is_in_range 0xE1000 0xEFFFD c) (none_low c h)
 
 pub ucschar_middle : (c : ℕ) → 65536 ≤ c → c < 0xE0000 → is_ucschar c ≡ leb (c % 65536) 65533
 ucschar_middle c from below =
-    ucschar_high c from ∙ ap (λ b. in_planes false 13 c || b) (below_range 0xE1000 0xEFFFD c (omega arith))
+    ucschar_high c from
+    ∙ ap (λ b. in_planes false 13 c || b) (below_range 0xE1000 0xEFFFD c (omega arith))
     ∙ or-false (in_planes false 13 c) ∙ within_planes 13 c from below
 
 pub ucschar_last : (c : ℕ) → 0xE0000 ≤ c → is_ucschar c ≡ is_in_range 0xE1000 0xEFFFD c
 ucschar_last c h =
-    ucschar_high c (omega arith) ∙ ap (λ b. b || is_in_range 0xE1000 0xEFFFD c) (above_planes 13 c h)
+    ucschar_high c (omega arith)
+    ∙ ap (λ b. b || is_in_range 0xE1000 0xEFFFD c) (above_planes 13 c h)
 
-pub iprivate_ranges : (c : ℕ) → is_iprivate c ≡ (is_in_range 0xE000 0xF8FF c || is_in_range 0xF0000 0xFFFFD c || is_in_range 0x100000 0x10FFFD c)
+pub iprivate_ranges : (c : ℕ)
+    → is_iprivate c
+    ≡ (is_in_range 0xE000 0xF8FF c || is_in_range 0xF0000 0xFFFFD c || is_in_range 0x100000 0x10FFFD c)
 unfolding is_iprivate
 iprivate_ranges c = refl

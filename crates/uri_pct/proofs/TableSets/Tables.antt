@@ -1,8 +1,10 @@
 -- Sets as two masks and three flags.
-use Rattle.std.proofs.Common.{◌≡◌, ℕ, ◌+◌, ◌^◌, ◌<◌, ◌≤◌, Bool, true, false, not, eqb, refl, sym, ap, ◌∙◌, arith, bit_or, ◌&&◌, ◌||◌, All, List, get_or}
+use Rattle.std.proofs.Common.{◌≡◌, ℕ, ◌+◌, ◌^◌, ◌<◌, ◌≤◌, Bool, true, false, not, eqb, refl, sym}
+use Rattle.std.proofs.Common.{ap, ◌∙◌, arith, bit_or, ◌&&◌, ◌||◌, All, List, get_or}
 use Rattle.std.specs.Int.Bits.{bit_and, or_add_and}
 use Rattle.std.proofs.lemmas.Nat.{and_le_l, and_le_r}
-use Rattle.std.proofs.lemmas.Bool.{and_parts, or_parts, not-true, eqb-true, eqb-false, ltb-true, ne_eqb}
+use Rattle.std.proofs.lemmas.Bool.{and_parts, or_parts, not-true, eqb-true, eqb-false, ltb-true}
+use Rattle.std.proofs.lemmas.Bool.{ne_eqb}
 use Rattle.std.proofs.lemmas.List.Folds.{list_any_none}
 use Rattle.std.proofs.lemmas.List.Sums.{AllPass-from_list_all}
 use Rattle.std.proofs.Math.Dec.{ltb}
@@ -16,7 +18,9 @@ abbrev pub record_set : (ℕ → Bool) → Bool → Bool → Bool → TableSet
 record_set test pct_encoded ucschar iprivate = record { ascii = test; pct_encoded = pct_encoded; ucschar = ucschar; iprivate = iprivate }
 
 -- sets are equal if their tests agree everywhere, and their flags are the same
-pub same_set : (test test' : ℕ → Bool) (pct_encoded ucschar iprivate : Bool) → ((c : ℕ) → test c ≡ test' c) → record_set test pct_encoded ucschar iprivate ≡ record_set test' pct_encoded ucschar iprivate
+pub same_set : (test test' : ℕ → Bool) (pct_encoded ucschar iprivate : Bool)
+    → ((c : ℕ) → test c ≡ test' c)
+    → record_set test pct_encoded ucschar iprivate ≡ record_set test' pct_encoded ucschar iprivate
 same_set test test' pct_encoded ucschar iprivate same = λ i. record_set (λ c. same c i) pct_encoded ucschar iprivate
 
 -- a set lies in another if nothing is left of it without that other
@@ -52,7 +56,9 @@ is_clear low high pct_encoded ucschar iprivate = eqb (bit_or low high) 0 && not 
 abbrev pub set_of_masks : ℕ → ℕ → Bool → Bool → Bool → TableSet
 set_of_masks low high = record_set (has_bit low high)
 
-pub empty_if_clear : (low high : ℕ) (pct_encoded ucschar iprivate : Bool) → is_clear low high pct_encoded ucschar iprivate ≡ true → set_of_masks low high pct_encoded ucschar iprivate ≡ empty_set
+pub empty_if_clear : (low high : ℕ) (pct_encoded ucschar iprivate : Bool)
+    → is_clear low high pct_encoded ucschar iprivate ≡ true
+    → set_of_masks low high pct_encoded ucschar iprivate ≡ empty_set
 empty_if_clear low high pct_encoded ucschar iprivate h =
     let parts = and_parts (eqb (bit_or low high) 0) (not (pct_encoded || ucschar || iprivate)) h in
     let none : bit_or low high ≡ 0 = eqb-true (bit_or low high) 0 parts.0 in
@@ -67,7 +73,9 @@ empty_if_clear low high pct_encoded ucschar iprivate h =
     ∙ ap (λ n. set_of_masks 0 n pct_encoded ucschar iprivate) no_high
     ∙ (λ i. record_set (λ c. has_no_bits c i) (first_flags.0 i) (first_flags.1 i) (flags.1 i))
 
-pub clear_if_empty : (low high : ℕ) (pct_encoded ucschar iprivate : Bool) → low < 2 ^ 64 → high < 2 ^ 64 → set_of_masks low high pct_encoded ucschar iprivate ≡ empty_set → is_clear low high pct_encoded ucschar iprivate ≡ true
+pub clear_if_empty : (low high : ℕ) (pct_encoded ucschar iprivate : Bool) → low < 2 ^ 64
+    → high < 2 ^ 64 → set_of_masks low high pct_encoded ucschar iprivate ≡ empty_set
+    → is_clear low high pct_encoded ucschar iprivate ≡ true
 clear_if_empty low high pct_encoded ucschar iprivate fits fits' e =
     let none : (c : ℕ) → has_bit low high c ≡ false = λ c. ap (λ (r : TableSet). r.ascii c) e in
     ap (λ n. is_clear n high pct_encoded ucschar iprivate) (low_is_zero low high fits none)
@@ -80,7 +88,8 @@ clear_if_empty low high pct_encoded ucschar iprivate fits fits' e =
 pub not_one_of : (bytes : List ℕ) (c : ℕ) → All (λ b. b ≡ c → ⊥) bytes → is_one_of bytes c ≡ false
 not_one_of bytes c h = list_any_none (λ x. eqb x c) bytes (λ k d within. ne_eqb (get_or bytes k d) c (h k d within))
 
-pub plain_bytes : (bytes : List ℕ) → list_all is_plain_ascii bytes ≡ true → All (λ b. (b < 128) × (b ≡ 37 → ⊥)) bytes
+pub plain_bytes : (bytes : List ℕ) → list_all is_plain_ascii bytes ≡ true
+    → All (λ b. (b < 128) × (b ≡ 37 → ⊥)) bytes
 plain_bytes bytes h = λ k d within.
     let b = get_or bytes k d in
     let parts = and_parts (ltb b 128) (not (eqb b 37)) (AllPass-from_list_all is_plain_ascii bytes h k d within) in

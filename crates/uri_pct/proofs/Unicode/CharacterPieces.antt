@@ -1,5 +1,8 @@
 -- The bytes of a character are a well-formed piece wherever they stand, and each well-formed piece is those of one.
-use Rattle.std.proofs.Common.{◌≡◌, ℕ, zero, suc, ◌+◌, ◌-◌, ◌*◌, ◌/◌, ◌%◌, ◌<◌, ◌≤◌, ◌⊎◌, true, false, cond, eqb, leb, List, [], ◌∷◌, ◌++◌, length, take, refl, sym, ap, ◌∙◌, arith, ⊎_elim, Option, Some, None, option_map, subst, inl, inr, lit≤}
+use Rattle.std.proofs.Common.{◌≡◌, ℕ, zero, suc, ◌+◌, ◌-◌, ◌*◌, ◌/◌, ◌%◌, ◌<◌, ◌≤◌, ◌⊎◌, true}
+use Rattle.std.proofs.Common.{false, cond, eqb, leb, List, [], ◌∷◌, ◌++◌, length, take, refl, sym}
+use Rattle.std.proofs.Common.{ap, ◌∙◌, arith, ⊎_elim, Option, Some, None, option_map, subst, inl}
+use Rattle.std.proofs.Common.{inr, lit≤}
 use Rattle.std.specs.Prelude.{slice_index}
 use Rattle.std.specs.List.{find, All, AllByRecursion}
 use Rattle.std.specs.Char.{encode_utf8, IsScalar}
@@ -8,9 +11,14 @@ use Rattle.std.proofs.Math.Utf8.{scalar_cases, low_scalar}
 use Rattle.std.proofs.lemmas.List.{take_at, drop_at, append-nil}
 use Rattle.std.proofs.lemmas.List.Elements.{All-from_recursion}
 use Rattle.std.proofs.lemmas.Str.{encode_ascii, chars-encodes}
-use Rattle.std.proofs.lemmas.Bool.{cases_Bool, cond-true, cond-false, and_parts, and_left, and_right, leb-true, lt-leb, le-leb, and_from, cases_lt, eq-eqb, eqb-true}
+use Rattle.std.proofs.lemmas.Bool.{cases_Bool, cond-true, cond-false, and_parts, and_left}
+use Rattle.std.proofs.lemmas.Bool.{and_right, leb-true, lt-leb, le-leb, and_from, cases_lt, eq-eqb}
+use Rattle.std.proofs.lemmas.Bool.{eqb-true}
 use Rattle.std.proofs.lemmas.Bool.Decides.{nat_tests}
-use Rattle.uri_pct.specs.Pieces.{Piece, WellFormed, IllFormed, ByteRange, Row, is_within, continuation, well_formed_rows, begins_within, char_of, IsOfCharacter, following, fitting, taken, first_piece, pieces_from, utf8_pieces}
+use Rattle.uri_pct.specs.Pieces.{Piece, WellFormed, IllFormed, ByteRange, Row, is_within}
+use Rattle.uri_pct.specs.Pieces.{continuation, well_formed_rows, begins_within, char_of}
+use Rattle.uri_pct.specs.Pieces.{IsOfCharacter, following, fitting, taken, first_piece, pieces_from}
+use Rattle.uri_pct.specs.Pieces.{utf8_pieces}
 use Rattle.uri_pct.proofs.Unicode.Pieces.{pieces_from-drop, utf8_pieces-append}
 
 -- bytes that fit a row, whatever follows them
@@ -20,7 +28,8 @@ Fits [] (b ∷ rest) = ⊥
 Fits (range ∷ ranges) [] = ⊥
 Fits (range ∷ ranges) (b ∷ rest) = ((range.0 ≤ b) × (b ≤ range.1)) × Fits ranges rest
 
-fits_length : (ranges : List ByteRange) (tail : List ℕ) → Fits ranges tail → length tail ≡ length ranges
+fits_length : (ranges : List ByteRange) (tail : List ℕ) → Fits ranges tail
+    → length tail ≡ length ranges
 fits_length [] [] fits = refl
 fits_length [] (b ∷ tail) fits = absurd fits
 fits_length (range ∷ ranges) [] fits = absurd fits
@@ -29,14 +38,17 @@ fits_length (range ∷ ranges) (b ∷ tail) fits = ap suc (fits_length ranges ta
 within_from : (range : ByteRange) (b : ℕ) → range.0 ≤ b → b ≤ range.1 → is_within range b ≡ true
 within_from range b low high = and_from _ _ (le-leb range.0 b low) (le-leb b range.1 high)
 
-fitting_all : (ranges : List ByteRange) (tail rest : List ℕ) → Fits ranges tail → fitting ranges (tail ++ rest) ≡ length ranges
+fitting_all : (ranges : List ByteRange) (tail rest : List ℕ) → Fits ranges tail
+    → fitting ranges (tail ++ rest) ≡ length ranges
 fitting_all [] tail rest fits = refl
 fitting_all (range ∷ ranges) [] rest fits = absurd fits
 fitting_all (range ∷ ranges) (b ∷ tail) rest fits =
-    cond-true _ _ _ (within_from range b fits.0.0 fits.0.1) ∙ ap suc (fitting_all ranges tail rest fits.1)
+    cond-true _ _ _ (within_from range b fits.0.0 fits.0.1)
+    ∙ ap suc (fitting_all ranges tail rest fits.1)
 
 -- a first byte and what fits its row are a piece
-piece_first : (b : ℕ) (ranges : List ByteRange) (tail rest : List ℕ) → following b ≡ Some ranges → Fits ranges tail → utf8_pieces ((b ∷ tail) ++ rest) ≡ WellFormed (b ∷ tail) ∷ utf8_pieces rest
+piece_first : (b : ℕ) (ranges : List ByteRange) (tail rest : List ℕ) → following b ≡ Some ranges
+    → Fits ranges tail → utf8_pieces ((b ∷ tail) ++ rest) ≡ WellFormed (b ∷ tail) ∷ utf8_pieces rest
 unfolding pieces_from
 piece_first b ranges tail rest row fits =
     let n = length ranges in
@@ -72,15 +84,18 @@ pub row_6 : (b : ℕ) → 0xEE ≤ b → b ≤ 0xEF → following b ≡ Some (co
 unfolding following
 row_6 b low high = grind (arith, nat_tests)
 
-pub row_7 : (b : ℕ) → b ≡ 0xF0 → following b ≡ Some ((0x90, 0xBF) ∷ continuation ∷ continuation ∷ [])
+pub row_7 : (b : ℕ) → b ≡ 0xF0
+    → following b ≡ Some ((0x90, 0xBF) ∷ continuation ∷ continuation ∷ [])
 unfolding following
 row_7 b e = ap following e
 
-pub row_8 : (b : ℕ) → 0xF1 ≤ b → b ≤ 0xF3 → following b ≡ Some (continuation ∷ continuation ∷ continuation ∷ [])
+pub row_8 : (b : ℕ) → 0xF1 ≤ b → b ≤ 0xF3
+    → following b ≡ Some (continuation ∷ continuation ∷ continuation ∷ [])
 unfolding following
 row_8 b low high = grind (arith, nat_tests)
 
-pub row_9 : (b : ℕ) → b ≡ 0xF4 → following b ≡ Some ((0x80, 0x8F) ∷ continuation ∷ continuation ∷ [])
+pub row_9 : (b : ℕ) → b ≡ 0xF4
+    → following b ≡ Some ((0x80, 0x8F) ∷ continuation ∷ continuation ∷ [])
 unfolding following
 row_9 b e = ap following e
 
@@ -89,11 +104,14 @@ encode_2 : (c : ℕ) → 0x80 ≤ c → c < 0x800 → encode_utf8 c ≡ (192 + c
 unfolding encode_utf8
 encode_2 c low high = grind (arith, nat_tests)
 
-encode_3 : (c : ℕ) → 0x800 ≤ c → c < 0x10000 → encode_utf8 c ≡ (224 + c / 4096) ∷ (128 + c / 64 % 64) ∷ (128 + c % 64) ∷ []
+encode_3 : (c : ℕ) → 0x800 ≤ c → c < 0x10000
+    → encode_utf8 c ≡ (224 + c / 4096) ∷ (128 + c / 64 % 64) ∷ (128 + c % 64) ∷ []
 unfolding encode_utf8
 encode_3 c low high = grind (arith, nat_tests)
 
-encode_4 : (c : ℕ) → 0x10000 ≤ c → encode_utf8 c ≡ (240 + c / 262144) ∷ (128 + c / 4096 % 64) ∷ (128 + c / 64 % 64) ∷ (128 + c % 64) ∷ []
+encode_4 : (c : ℕ) → 0x10000 ≤ c
+    → encode_utf8 c
+    ≡ (240 + c / 262144) ∷ (128 + c / 4096 % 64) ∷ (128 + c / 64 % 64) ∷ (128 + c % 64) ∷ []
 unfolding encode_utf8
 encode_4 c low = grind (arith, nat_tests)
 
@@ -108,11 +126,15 @@ begins_2 : (c : ℕ) (rest : List ℕ) → 0x80 ≤ c → c < 0x800 → BeginsPi
 begins_2 c rest low high = rw (encode_2 c low high)
     (piece_first (192 + c / 64) (continuation ∷ []) ((128 + c % 64) ∷ []) rest (row_2 _ (omega arith) (omega arith)) ((omega arith, omega arith), tt))
 
-begins_3 : (c : ℕ) (rest : List ℕ) (second : ByteRange) → 0x800 ≤ c → c < 0x10000 → following (224 + c / 4096) ≡ Some (second ∷ continuation ∷ []) → second.0 ≤ 128 + c / 64 % 64 → 128 + c / 64 % 64 ≤ second.1 → BeginsPiece c rest
+begins_3 : (c : ℕ) (rest : List ℕ) (second : ByteRange) → 0x800 ≤ c → c < 0x10000
+    → following (224 + c / 4096) ≡ Some (second ∷ continuation ∷ []) → second.0 ≤ 128 + c / 64 % 64
+    → 128 + c / 64 % 64 ≤ second.1 → BeginsPiece c rest
 begins_3 c rest second low high row from upto = rw (encode_3 c low high)
     (piece_first (224 + c / 4096) (second ∷ continuation ∷ []) ((128 + c / 64 % 64) ∷ (128 + c % 64) ∷ []) rest row ((from, upto), ((omega arith, omega arith), tt)))
 
-begins_4 : (c : ℕ) (rest : List ℕ) (second : ByteRange) → 0x10000 ≤ c → following (240 + c / 262144) ≡ Some (second ∷ continuation ∷ continuation ∷ []) → second.0 ≤ 128 + c / 4096 % 64 → 128 + c / 4096 % 64 ≤ second.1 → BeginsPiece c rest
+begins_4 : (c : ℕ) (rest : List ℕ) (second : ByteRange) → 0x10000 ≤ c
+    → following (240 + c / 262144) ≡ Some (second ∷ continuation ∷ continuation ∷ [])
+    → second.0 ≤ 128 + c / 4096 % 64 → 128 + c / 4096 % 64 ≤ second.1 → BeginsPiece c rest
 begins_4 c rest second low row from upto = rw (encode_4 c low)
     (piece_first (240 + c / 262144) (second ∷ continuation ∷ continuation ∷ []) ((128 + c / 4096 % 64) ∷ (128 + c / 64 % 64) ∷ (128 + c % 64) ∷ []) rest row
     ((from, upto), ((omega arith, omega arith), ((omega arith, omega arith), tt))))
@@ -133,7 +155,8 @@ begins_high c rest low high = ⊎_elim
     (λ l3. begins_4 c rest (0x80, 0x8F) l1 (row_9 _ (omega arith)) (omega arith) (omega arith))
     (cases_lt c 0x100000)) (cases_lt c 0x40000)) (cases_lt c 0x10000)
 
-pub utf8_pieces-encode_first : (c : ℕ) (rest : List ℕ) → IsScalar c → utf8_pieces (encode_utf8 c ++ rest) ≡ WellFormed (encode_utf8 c) ∷ utf8_pieces rest
+pub utf8_pieces-encode_first : (c : ℕ) (rest : List ℕ) → IsScalar c
+    → utf8_pieces (encode_utf8 c ++ rest) ≡ WellFormed (encode_utf8 c) ∷ utf8_pieces rest
 utf8_pieces-encode_first c rest scalar = ⊎_elim (λ h. begins_low c rest h) (λ h. begins_high c rest h.0 h.1) (scalar_cases c scalar)
 
 -- a character begins with a byte that continues none
@@ -147,8 +170,11 @@ begins_within-encode c rest = ⊎_elim (λ h. rw (encode_ascii c h) (outside c (
     (cases_lt c 0x10000)) (cases_lt c 0x800)) (cases_lt c 0x80)
 
 -- a character parts the pieces before it from those behind it
-pub utf8_pieces-around_char : (xs : List ℕ) (c : ℕ) (ys : List ℕ) → IsScalar c → utf8_pieces (xs ++ (encode_utf8 c ++ ys)) ≡ utf8_pieces xs ++ WellFormed (encode_utf8 c) ∷ utf8_pieces ys
-utf8_pieces-around_char xs c ys scalar = utf8_pieces-append xs (encode_utf8 c ++ ys) (begins_within-encode c ys) ∙ ap (λ ps. utf8_pieces xs ++ ps) (utf8_pieces-encode_first c ys scalar)
+pub utf8_pieces-around_char : (xs : List ℕ) (c : ℕ) (ys : List ℕ) → IsScalar c
+    → utf8_pieces (xs ++ (encode_utf8 c ++ ys))
+    ≡ utf8_pieces xs ++ WellFormed (encode_utf8 c) ∷ utf8_pieces ys
+utf8_pieces-around_char xs c ys scalar = utf8_pieces-append xs (encode_utf8 c ++ ys) (begins_within-encode c ys)
+    ∙ ap (λ ps. utf8_pieces xs ++ ps) (utf8_pieces-encode_first c ys scalar)
 
 -- what fits the row of a first byte, by the rows of the table
 found_by : (b : ℕ) (P : Option (List ByteRange) → Type 0) (rows : List Row) → P None
@@ -161,8 +187,10 @@ found_by b P (row ∷ rows) none all = ⊎_elim (λ e. rw e (all.0 e)) (λ e. rw
 abbrev pub AreCharacter : List ℕ → Type 0
 AreCharacter bytes = (c : ℕ) × IsScalar c × (encode_utf8 c ≡ bytes)
 
-fits_from : (range : ByteRange) (ranges : List ByteRange) (text : List ℕ) → fitting (range ∷ ranges) text ≡ suc (length ranges)
-    → (b : ℕ) × (rest : List ℕ) × (text ≡ b ∷ rest) × (range.0 ≤ b) × (b ≤ range.1) × (fitting ranges rest ≡ length ranges)
+fits_from : (range : ByteRange) (ranges : List ByteRange) (text : List ℕ)
+    → fitting (range ∷ ranges) text ≡ suc (length ranges)
+    → (b : ℕ) × (rest : List ℕ) × (text ≡ b ∷ rest) × (range.0 ≤ b) × (b ≤ range.1)
+    × (fitting ranges rest ≡ length ranges)
 fits_from range ranges [] e = absurd (omega arith)
 fits_from range ranges (b ∷ rest) e = ⊎_elim
     (λ t. let p = and_parts (leb range.0 b) (leb b range.1) t in
@@ -178,11 +206,13 @@ upto b low high e = let p = and_parts (leb low b) (leb b high) e in (leb-true lo
 abbrev Forms : ℕ → Option (List ByteRange) → Type 0
 Forms b row = (rest bytes : List ℕ) → first_piece row b rest ≡ WellFormed bytes → AreCharacter bytes
 
-well_formed_parts : (b : ℕ) (ranges : List ByteRange) (rest bytes : List ℕ) → first_piece (Some ranges) b rest ≡ WellFormed bytes
+well_formed_parts : (b : ℕ) (ranges : List ByteRange) (rest bytes : List ℕ)
+    → first_piece (Some ranges) b rest ≡ WellFormed bytes
     → (fitting ranges rest ≡ length ranges) × (bytes ≡ b ∷ take (length ranges) rest)
 well_formed_parts b ranges rest bytes e = ⊎_elim
     (λ t. let same = eqb-true (fitting ranges rest) (length ranges) t in
-    let f : WellFormed (b ∷ take (fitting ranges rest) rest) ≡ WellFormed bytes = sym (cond-true _ _ _ t) ∙ e in
+    let f : WellFormed (b ∷ take (fitting ranges rest) rest) ≡ WellFormed bytes = sym (cond-true _ _ _ t)
+    ∙ e in
     let g : bytes ≡ b ∷ take (fitting ranges rest) rest = cc in
     (same, g ∙ ap (λ n. b ∷ take n rest) same))
     (λ f. let g : IllFormed (b ∷ take (fitting ranges rest) rest) ≡ WellFormed bytes = sym (cond-false _ _ _ f) ∙ e in cc)
@@ -197,20 +227,24 @@ high_scalar : (c : ℕ) → 0xE000 ≤ c → c < 0x110000 → IsScalar c
 high_scalar c low high = grind (arith, nat_tests)
 
 -- the number that the bytes spell, the marks of the bytes added up
-encode_from_2 : (b t c : ℕ) → c + 12416 ≡ b * 64 + t → 0xC2 ≤ b → b ≤ 0xDF → 0x80 ≤ t → t ≤ 0xBF → encode_utf8 c ≡ b ∷ t ∷ []
+encode_from_2 : (b t c : ℕ) → c + 12416 ≡ b * 64 + t → 0xC2 ≤ b → b ≤ 0xDF → 0x80 ≤ t → t ≤ 0xBF
+    → encode_utf8 c ≡ b ∷ t ∷ []
 encode_from_2 b t c e l h l1 h1 =
     let first : 192 + c / 64 ≡ b = omega arith in
     let second : 128 + c % 64 ≡ t = omega arith in
     encode_2 c (omega arith) (omega arith) ∙ rw (first, second) refl
 
-encode_from_3 : (b t u c : ℕ) → c + 925824 ≡ (b * 64 + t) * 64 + u → 0x800 ≤ c → c < 0x10000 → 0x80 ≤ t → t ≤ 0xBF → 0x80 ≤ u → u ≤ 0xBF → encode_utf8 c ≡ b ∷ t ∷ u ∷ []
+encode_from_3 : (b t u c : ℕ) → c + 925824 ≡ (b * 64 + t) * 64 + u → 0x800 ≤ c → c < 0x10000
+    → 0x80 ≤ t → t ≤ 0xBF → 0x80 ≤ u → u ≤ 0xBF → encode_utf8 c ≡ b ∷ t ∷ u ∷ []
 encode_from_3 b t u c e l h l1 h1 l2 h2 =
     let first : 224 + c / 4096 ≡ b = omega arith in
     let second : 128 + c / 64 % 64 ≡ t = omega arith in
     let third : 128 + c % 64 ≡ u = omega arith in
     encode_3 c l h ∙ rw (first, second, third) refl
 
-encode_from_4 : (b t u v c : ℕ) → c + 63447168 ≡ ((b * 64 + t) * 64 + u) * 64 + v → 0x10000 ≤ c → 0x80 ≤ t → t ≤ 0xBF → 0x80 ≤ u → u ≤ 0xBF → 0x80 ≤ v → v ≤ 0xBF → encode_utf8 c ≡ b ∷ t ∷ u ∷ v ∷ []
+encode_from_4 : (b t u v c : ℕ) → c + 63447168 ≡ ((b * 64 + t) * 64 + u) * 64 + v → 0x10000 ≤ c
+    → 0x80 ≤ t → t ≤ 0xBF → 0x80 ≤ u → u ≤ 0xBF → 0x80 ≤ v → v ≤ 0xBF
+    → encode_utf8 c ≡ b ∷ t ∷ u ∷ v ∷ []
 encode_from_4 b t u v c e l l1 h1 l2 h2 l3 h3 =
     let first : 240 + c / 262144 ≡ b = omega arith in
     let second : 128 + c / 4096 % 64 ≡ t = omega arith in
@@ -237,7 +271,8 @@ char_3 b second low least most fair rest bytes e =
     let c : ℕ = (b * 64 + f.0) * 64 + g.0 - 925824 in
     let spelt : c + 925824 ≡ (b * 64 + f.0) * 64 + g.0 = omega arith in
     let h = fair c f.0 f.3 f.4 (omega arith) (omega arith) in
-    let whole : bytes ≡ b ∷ f.0 ∷ g.0 ∷ [] = p.1 ∙ ap (λ x. b ∷ take 2 x) f.2 ∙ ap (λ x. b ∷ f.0 ∷ take 1 x) g.2 in
+    let whole : bytes ≡ b ∷ f.0 ∷ g.0 ∷ [] = p.1 ∙ ap (λ x. b ∷ take 2 x) f.2
+    ∙ ap (λ x. b ∷ f.0 ∷ take 1 x) g.2 in
     (c, h.2, encode_from_3 b f.0 g.0 c spelt h.0 h.1 (omega arith) (omega arith) g.3 g.4 ∙ sym whole)
 
 char_4 : (b : ℕ) (second : ByteRange) → 0xF0 ≤ b → 0x80 ≤ second.0 → second.1 ≤ 0xBF
@@ -251,7 +286,8 @@ char_4 b second low least most fair rest bytes e =
     let c : ℕ = ((b * 64 + f.0) * 64 + g.0) * 64 + k.0 - 63447168 in
     let spelt : c + 63447168 ≡ ((b * 64 + f.0) * 64 + g.0) * 64 + k.0 = omega arith in
     let h = fair c f.0 f.3 f.4 (omega arith) (omega arith) in
-    let whole : bytes ≡ b ∷ f.0 ∷ g.0 ∷ k.0 ∷ [] = p.1 ∙ ap (λ x. b ∷ take 3 x) f.2 ∙ ap (λ x. b ∷ f.0 ∷ take 2 x) g.2 ∙ ap (λ x. b ∷ f.0 ∷ g.0 ∷ take 1 x) k.2 in
+    let whole : bytes ≡ b ∷ f.0 ∷ g.0 ∷ k.0 ∷ [] = p.1 ∙ ap (λ x. b ∷ take 3 x) f.2
+    ∙ ap (λ x. b ∷ f.0 ∷ take 2 x) g.2 ∙ ap (λ x. b ∷ f.0 ∷ g.0 ∷ take 1 x) k.2 in
     (c, high_scalar c (omega arith) h.1, encode_from_4 b f.0 g.0 k.0 c spelt h.0 (omega arith) (omega arith) g.3 g.4 k.3 k.4 ∙ sym whole)
 
 -- the table, row by row
@@ -296,7 +332,8 @@ character_piece bytes a =
     let same : char_of bytes ≡ a.0 = ap char_of (sym a.2) ∙ char_of-encode a.0 a.1 in
     (subst IsScalar (sym same) a.1, ap encode_utf8 same ∙ a.2)
 
-pub is_piece : (b : ℕ) (rest : List ℕ) (p : Piece) → first_piece (following b) b rest ≡ p → IsOfCharacter p
+pub is_piece : (b : ℕ) (rest : List ℕ) (p : Piece) → first_piece (following b) b rest ≡ p
+    → IsOfCharacter p
 is_piece b rest (WellFormed bytes) e = character_piece bytes (forms b rest bytes e)
 is_piece b rest (IllFormed bytes) e = tt
 

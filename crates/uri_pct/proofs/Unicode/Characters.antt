@@ -1,11 +1,13 @@
 -- The bytes of one character in UTF-8.
-use Rattle.std.proofs.Common.{◌≡◌, ℕ, ◌+◌, ◌/◌, ◌%◌, ◌<◌, ◌≤◌, Bool, true, false, List, [], ◌∷◌, ◌++◌, length, get_or, refl, sym, ap, ◌∙◌, arith, ◌&&◌, ⊎_elim}
+use Rattle.std.proofs.Common.{◌≡◌, ℕ, ◌+◌, ◌/◌, ◌%◌, ◌<◌, ◌≤◌, Bool, true, false, List, [], ◌∷◌}
+use Rattle.std.proofs.Common.{◌++◌, length, get_or, refl, sym, ap, ◌∙◌, arith, ◌&&◌, ⊎_elim}
 use Rattle.std.specs.Prelude.{slice_index, nat_le}
 use Rattle.std.specs.List.{list_all}
 use Rattle.std.specs.Char.{is_ascii_hexdigit, encode_utf8}
 use Rattle.std.specs.Str.{encode_utf8_all, all_scalars, continuation_len}
 use Rattle.std.proofs.lemmas.Str.{chars-encodes, encode_ascii}
-use Rattle.std.proofs.lemmas.Bool.{cases_lt, cond-true, cond-false, and_left, and_from, lt-ltb, le-ltb}
+use Rattle.std.proofs.lemmas.Bool.{cases_lt, cond-true, cond-false, and_left, and_from, lt-ltb}
+use Rattle.std.proofs.lemmas.Bool.{le-ltb}
 use Rattle.std.proofs.lemmas.Bool.Decides.{nat_tests}
 use Rattle.uri_pct.specs.Models.Fronts.{begins_hex, first_char}
 use Rattle.uri_pct.proofs.TableSets.Constants.{hexdigit_past}
@@ -62,14 +64,16 @@ lead c rest h =
     (λ k. let f = le-ltb c 2048 k in rw f (⊎_elim (λ m. let g = lt-ltb c 65536 m in rw g (omega arith)) (λ m. let g = le-ltb c 65536 m in rw g (omega arith)) (cases_lt c 65536)))
     (cases_lt c 2048))
 
-pub first_char-encodes : (c : ℕ) (cs : List ℕ) → all_scalars (c ∷ cs) ≡ true → first_char (encode_utf8_all (c ∷ cs)) ≡ c
+pub first_char-encodes : (c : ℕ) (cs : List ℕ) → all_scalars (c ∷ cs) ≡ true
+    → first_char (encode_utf8_all (c ∷ cs)) ≡ c
 unfolding first_char
 first_char-encodes c cs e = ap (λ xs. slice_index xs 0) (chars-encodes (c ∷ cs) e)
 
 pub hex_ascii : (b : ℕ) → is_ascii_hexdigit b ≡ true → b < 128
 hex_ascii b e = grind (arith, nat_tests)
 
-hex_first : (cs : List ℕ) → is_ascii_hexdigit (get_or (encode_utf8_all cs) 0 0) ≡ is_ascii_hexdigit (get_or cs 0 0)
+hex_first : (cs : List ℕ)
+    → is_ascii_hexdigit (get_or (encode_utf8_all cs) 0 0) ≡ is_ascii_hexdigit (get_or cs 0 0)
 hex_first [] = refl
 hex_first (c ∷ cs) = ⊎_elim (λ h. rw (encode_ascii c h) refl) (λ h. hexdigit_past _ (lead c (encode_utf8_all cs) h) ∙ sym (hexdigit_past c h)) (cases_lt c 128)
 

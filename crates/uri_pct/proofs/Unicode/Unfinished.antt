@@ -1,13 +1,16 @@
 -- Bytes at whose end no first byte calls for more are pieces by themselves, whatever follows, and so are those before
 -- such an end.
-use Rattle.std.proofs.Common.{◌≡◌, ℕ, zero, suc, ◌-◌, ◌<◌, ◌≤◌, true, false, cond, leb, nat_lt, List, [], ◌∷◌, ◌++◌, length, take, drop, get_or, map, refl, sym, ap, ◌∙◌, append_assoc, arith, ⊎_elim, Option, Some, None, option_map}
+use Rattle.std.proofs.Common.{◌≡◌, ℕ, zero, suc, ◌-◌, ◌<◌, ◌≤◌, true, false, cond, leb, nat_lt}
+use Rattle.std.proofs.Common.{List, [], ◌∷◌, ◌++◌, length, take, drop, get_or, map, refl, sym, ap}
+use Rattle.std.proofs.Common.{◌∙◌, append_assoc, arith, ⊎_elim, Option, Some, None, option_map}
 use Rattle.std.specs.List.{list_all, find}
 use Rattle.std.proofs.lemmas.List.{append-nil, map-append, take_all, drop_all, take-append-drop}
 use Rattle.std.proofs.lemmas.Bool.{cases_Bool, cond-true, cond-false, and_parts, leb-true, cases_lt}
 use Rattle.std.proofs.lemmas.Bool.Decides.{nat_tests}
 use Rattle.uri_pct.specs.Chunks.{Chunk, Text, Byte}
 use Rattle.uri_pct.specs.Parts.{Plain, Read, parts_from}
-use Rattle.uri_pct.specs.Pieces.{ByteRange, Row, is_within, continuation, well_formed_rows, begins_within, following, fitting, taken, pieces_from, utf8_pieces}
+use Rattle.uri_pct.specs.Pieces.{ByteRange, Row, is_within, continuation, well_formed_rows}
+use Rattle.uri_pct.specs.Pieces.{begins_within, following, fitting, taken, pieces_from, utf8_pieces}
 use Rattle.uri_pct.specs.Models.Unfinished.{range_count, called_for, unfinished_len, PartNoPiece}
 use Rattle.uri_pct.proofs.Unicode.Pieces.{taken_le, first_parted, utf8_pieces-append}
 use Rattle.uri_pct.proofs.Unicode.CharacterPieces.{row_1, row_2}
@@ -47,7 +50,8 @@ unfoldable pub by_three : ℕ → ℕ → ℕ → ℕ
 by_three third second last = cond (nat_lt 2 third) 3 (cond (nat_lt 1 second) 2 (cond (nat_lt 0 last) 1 0))
 
 of_last_three : (bytes : List ℕ) (n : ℕ) → length bytes ≡ suc (suc (suc n))
-    → unfinished_len bytes ≡ by_three (called_for (get_or bytes n 0)) (called_for (get_or bytes (suc n) 0)) (called_for (get_or bytes (suc (suc n)) 0))
+    → unfinished_len bytes
+    ≡ by_three (called_for (get_or bytes n 0)) (called_for (get_or bytes (suc n) 0)) (called_for (get_or bytes (suc (suc n)) 0))
 unfolding unfinished_len by_three
 of_last_three [] n e = absurd (omega arith)
 of_last_three (a ∷ []) zero e = absurd (omega arith)
@@ -61,7 +65,8 @@ of_last_three (a ∷ rest) (suc n) e =
 
 pub last_three : (bytes : List ℕ) (third second last : ℕ) → 3 ≤ length bytes
     → third ≡ called_for (get_or bytes (length bytes - 3) 0)
-    → second ≡ called_for (get_or bytes (length bytes - 2) 0) → last ≡ called_for (get_or bytes (length bytes - 1) 0)
+    → second ≡ called_for (get_or bytes (length bytes - 2) 0)
+    → last ≡ called_for (get_or bytes (length bytes - 1) 0)
     → unfinished_len bytes ≡ by_three third second last
 last_three bytes third second last long e3 e2 e1 =
     let n = length bytes - 3 in
@@ -159,13 +164,15 @@ unfinished_parts bytes behind =
 
 -- the parts of a run that is cut there
 pub cut_run : (front end more : List ℕ) (behind : List Chunk) → PartNoPiece front end
-    → parts_from (front ++ (end ++ more)) behind ≡ map Read (utf8_pieces front) ++ parts_from (end ++ more) behind
+    → parts_from (front ++ (end ++ more)) behind
+    ≡ map Read (utf8_pieces front) ++ parts_from (end ++ more) behind
 unfolding parts_from
 cut_run front end more [] parted =
     ap (map Read) (parted more) ∙ map-append Read (utf8_pieces front) (utf8_pieces (end ++ more))
 cut_run front end more (Byte value ∷ chunks) parted =
     let longer : (front ++ (end ++ more)) ++ value ∷ [] ≡ front ++ (end ++ (more ++ value ∷ [])) =
-    append_assoc front (end ++ more) (value ∷ []) ∙ ap (λ x. front ++ x) (append_assoc end more (value ∷ [])) in
+    append_assoc front (end ++ more) (value ∷ [])
+    ∙ ap (λ x. front ++ x) (append_assoc end more (value ∷ [])) in
     ap (λ x. parts_from x chunks) longer ∙ cut_run front end (more ++ value ∷ []) chunks parted
     ∙ ap (λ x. map Read (utf8_pieces front) ++ parts_from x chunks) (sym (append_assoc end more (value ∷ [])))
 cut_run front end more (Text text ∷ chunks) parted =
@@ -176,10 +183,12 @@ cut_run front end more (Text text ∷ chunks) parted =
 
 -- and of bytes that are cut before their unfinished end
 pub cut_unfinished : (bytes : List ℕ) (behind : List Chunk)
-    → parts_from bytes behind ≡ map Read (utf8_pieces (take (length bytes - unfinished_len bytes) bytes)) ++ parts_from (drop (length bytes - unfinished_len bytes) bytes) behind
+    → parts_from bytes behind
+    ≡ map Read (utf8_pieces (take (length bytes - unfinished_len bytes) bytes)) ++ parts_from (drop (length bytes - unfinished_len bytes) bytes) behind
 cut_unfinished bytes behind =
     let n = length bytes - unfinished_len bytes in
     let front = take n bytes in
     let end = drop n bytes in
     ap (λ x. parts_from x behind) (sym (take-append-drop n bytes) ∙ ap (λ x. front ++ x) (sym (append-nil end)))
-    ∙ cut_run front end [] behind (unfinished_parts bytes) ∙ ap (λ x. map Read (utf8_pieces front) ++ parts_from x behind) (append-nil end)
+    ∙ cut_run front end [] behind (unfinished_parts bytes)
+    ∙ ap (λ x. map Read (utf8_pieces front) ++ parts_from x behind) (append-nil end)

@@ -1,10 +1,14 @@
 -- The longest front that a set allows, step by step.
-use Rattle.std.proofs.Common.{◌≡◌, ℕ, zero, suc, ◌+◌, ◌<◌, ◌≤◌, true, false, not, cond, eqb, List, [], ◌∷◌, ◌++◌, length, get_or, drop, refl, sym, subst, ap, ◌∙◌, arith, ◌&&◌, ◌||◌, ⊎_elim, add-one, zero-add}
+use Rattle.std.proofs.Common.{◌≡◌, ℕ, zero, suc, ◌+◌, ◌<◌, ◌≤◌, true, false, not, cond, eqb, List}
+use Rattle.std.proofs.Common.{[], ◌∷◌, ◌++◌, length, get_or, drop, refl, sym, subst, ap, ◌∙◌, arith}
+use Rattle.std.proofs.Common.{◌&&◌, ◌||◌, ⊎_elim, add-one, zero-add}
 use Rattle.std.specs.Char.{encode_utf8, len_utf8}
 use Rattle.std.specs.Str.{continuation_len, IsUtf8, IsCharBoundary}
 use Rattle.std.proofs.lemmas.Str.{length-encode, chars_past_char, IsUtf8-drop}
 use Rattle.std.proofs.lemmas.List.{at_drop_more, get_or-drop, drop_all}
-use Rattle.std.proofs.lemmas.Bool.{cases_Bool, cases_lt, cond-true, cond-false, and_from, and_left, and_right, and_parts, or_left, or_right, or_cases, or_from, or_parts, eq-eqb, eqb-true, ne_eqb, lt-ltb, le-ltb, both_ways}
+use Rattle.std.proofs.lemmas.Bool.{cases_Bool, cases_lt, cond-true, cond-false, and_from, and_left}
+use Rattle.std.proofs.lemmas.Bool.{and_right, and_parts, or_left, or_right, or_cases, or_from}
+use Rattle.std.proofs.lemmas.Bool.{or_parts, eq-eqb, eqb-true, ne_eqb, lt-ltb, le-ltb, both_ways}
 use Rattle.uri_pct.specs.Sets.{TableSet, LacksPercent, IsSubset, allows_past_ascii}
 use Rattle.uri_pct.specs.Models.Fronts.{begins_hex, first_char, allows_first, front_from, front}
 use Rattle.uri_pct.specs.Models.Fronts.{after, may_go_on}
@@ -17,7 +21,8 @@ pub drop_one : (n : ℕ) (b : ℕ) (bs : List ℕ) → drop (n + 1) (b ∷ bs) �
 drop_one n b bs = rw add-one refl
 
 -- nothing more is read at once
-front_after_from : (set : TableSet) (k : ℕ) (bs : List ℕ) → front_from set 0 (drop (front_from set k bs) bs) ≡ 0
+front_after_from : (set : TableSet) (k : ℕ) (bs : List ℕ)
+    → front_from set 0 (drop (front_from set k bs) bs) ≡ 0
 unfolding front_from
 front_after_from set zero [] = refl
 front_after_from set (suc k) [] = refl
@@ -56,30 +61,38 @@ pub front-le-length : (set : TableSet) (bs : List ℕ) → front set bs ≤ leng
 front-le-length set bs = front_from_le set 0 bs
 
 -- what a small set allows is read first of what a greater one allows
-past_subset : (small great : TableSet) → IsSubset small great → (c : ℕ) → allows_past_ascii small c ≡ true → allows_past_ascii great c ≡ true
+past_subset : (small great : TableSet) → IsSubset small great → (c : ℕ)
+    → allows_past_ascii small c ≡ true → allows_past_ascii great c ≡ true
 unfolding allows_past_ascii
 past_subset small great w c e = ⊎_elim
     (λ u. let p = and_parts _ _ u in or_left _ _ (and_from _ _ (w.ucschar p.0) p.1))
     (λ u. let p = and_parts _ _ u in or_right _ _ (and_from _ _ (w.iprivate p.0) p.1))
     (or_cases _ _ e)
 
-first_subset : (small great : TableSet) → IsSubset small great → (b : ℕ) (bs : List ℕ) → allows_first small b bs ≡ true → allows_first great b bs ≡ true
+first_subset : (small great : TableSet) → IsSubset small great → (b : ℕ) (bs : List ℕ)
+    → allows_first small b bs ≡ true → allows_first great b bs ≡ true
 unfolding allows_first
 first_subset small great w b bs e = ⊎_elim
     (λ h. let l = lt-ltb b 128 h in cond-true _ _ _ l ∙ w.ascii b (sym (cond-true _ _ _ l) ∙ e))
     (λ h. let l = le-ltb b 128 h in cond-false _ _ _ l ∙ past_subset small great w _ (sym (cond-false _ _ _ l) ∙ e))
     (cases_lt b 128)
 
-none_within : (small great : TableSet) (bs : List ℕ) → front small bs ≡ 0 → front great bs ≡ front small bs + front great (drop (front small bs) bs)
+none_within : (small great : TableSet) (bs : List ℕ) → front small bs ≡ 0
+    → front great bs ≡ front small bs + front great (drop (front small bs) bs)
 none_within small great bs e = sym (ap (λ n. n + front great (drop n bs)) e ∙ zero-add _)
 
-more_within : (great : TableSet) (b p n : ℕ) (bs : List ℕ) → p ≡ n + front great (drop n bs) → p + 1 ≡ (n + 1) + front great (drop (n + 1) (b ∷ bs))
+more_within : (great : TableSet) (b p n : ℕ) (bs : List ℕ) → p ≡ n + front great (drop n bs)
+    → p + 1 ≡ (n + 1) + front great (drop (n + 1) (b ∷ bs))
 more_within great b p n bs e = rw (drop_one n b bs) (omega arith)
 
-percent_out : (set : TableSet) → LacksPercent set → (b : ℕ) (bs : List ℕ) → eqb b 37 ≡ true → allows_first set b bs ≡ false
-percent_out set lacks b bs e = let d = eqb-true b 37 e in allows_first-ascii set b bs (omega arith) ∙ ap set.ascii d ∙ lacks
+percent_out : (set : TableSet) → LacksPercent set → (b : ℕ) (bs : List ℕ) → eqb b 37 ≡ true
+    → allows_first set b bs ≡ false
+percent_out set lacks b bs e = let d = eqb-true b 37 e in allows_first-ascii set b bs (omega arith)
+    ∙ ap set.ascii d ∙ lacks
 
-front_from_within : (small great : TableSet) → IsSubset small great → LacksPercent small → (k : ℕ) (bs : List ℕ) → front_from great k bs ≡ front_from small k bs + front great (drop (front_from small k bs) bs)
+front_from_within : (small great : TableSet) → IsSubset small great → LacksPercent small
+    → (k : ℕ) (bs : List ℕ)
+    → front_from great k bs ≡ front_from small k bs + front great (drop (front_from small k bs) bs)
 unfolding front_from
 front_from_within small great w lacks zero [] = refl
 front_from_within small great w lacks (suc k) [] = refl
@@ -100,15 +113,19 @@ front_from_within small great w lacks zero (b ∷ bs) = ⊎_elim
     (cases_Bool (allows_first small b bs)))
     (cases_Bool (small.pct_encoded && eqb b 37))
 
-pub front-within : (small great : TableSet) → IsSubset small great → LacksPercent small → (bs : List ℕ) → front great bs ≡ front small bs + front great (after small bs)
+pub front-within : (small great : TableSet) → IsSubset small great → LacksPercent small
+    → (bs : List ℕ) → front great bs ≡ front small bs + front great (after small bs)
 front-within small great w lacks bs = front_from_within small great w lacks 0 bs
 
 -- one step of reading at a place in a text
-front_at : (set : TableSet) (bs : List ℕ) (i : ℕ) → i < length bs → front set (drop i bs) ≡ cond (set.pct_encoded && eqb (get_or bs i 0) 37) (cond (begins_hex (drop (i + 1) bs)) (front_from set 2 (drop (i + 1) bs) + 1) 0) (cond (allows_first set (get_or bs i 0) (drop (i + 1) bs)) (front_from set (continuation_len (get_or bs i 0)) (drop (i + 1) bs) + 1) 0)
+front_at : (set : TableSet) (bs : List ℕ) (i : ℕ) → i < length bs
+    → front set (drop i bs)
+    ≡ cond (set.pct_encoded && eqb (get_or bs i 0) 37) (cond (begins_hex (drop (i + 1) bs)) (front_from set 2 (drop (i + 1) bs) + 1) 0) (cond (allows_first set (get_or bs i 0) (drop (i + 1) bs)) (front_from set (continuation_len (get_or bs i 0)) (drop (i + 1) bs) + 1) 0)
 unfolding front_from
 front_at set bs i h = at_drop_more (front set) bs i 0 h
 
-skip_at : (set : TableSet) (k : ℕ) (bs : List ℕ) (i : ℕ) → i < length bs → front_from set (k + 1) (drop i bs) ≡ front_from set k (drop (i + 1) bs) + 1
+skip_at : (set : TableSet) (k : ℕ) (bs : List ℕ) (i : ℕ) → i < length bs
+    → front_from set (k + 1) (drop i bs) ≡ front_from set k (drop (i + 1) bs) + 1
 unfolding front_from
 skip_at set k bs i h = rw add-one (at_drop_more (front_from set (suc k)) bs i 0 h)
 
@@ -120,14 +137,18 @@ digits_at : (bs : List ℕ) (i : ℕ) → begins_hex (drop (i + 1) bs) ≡ has_d
 unfolding has_digits begins_hex
 digits_at bs i = rw (get_or-drop (i + 1) bs 0 0, get_or-drop (i + 1) bs 1 0) (let e : i + 1 + 0 ≡ i + 1 = omega arith in let f : i + 1 + 1 ≡ i + 2 = omega arith in rw (e, f))
 
-pub front-octet : (set : TableSet) (bs : List ℕ) (i : ℕ) → i + 2 < length bs → set.pct_encoded ≡ true → get_or bs i 0 ≡ 37 → has_digits bs i ≡ true → front set (drop i bs) ≡ front set (drop (i + 3) bs) + 3
+pub front-octet : (set : TableSet) (bs : List ℕ) (i : ℕ) → i + 2 < length bs
+    → set.pct_encoded ≡ true → get_or bs i 0 ≡ 37 → has_digits bs i ≡ true
+    → front set (drop i bs) ≡ front set (drop (i + 3) bs) + 3
 front-octet set bs i h o p e =
     let f : i + 1 + 1 + 1 ≡ i + 3 = omega arith in
-    front_at set bs i (omega arith) ∙ cond-true _ _ _ (and_from _ _ o (eq-eqb _ _ p)) ∙ cond-true _ _ _ (digits_at bs i ∙ e)
+    front_at set bs i (omega arith) ∙ cond-true _ _ _ (and_from _ _ o (eq-eqb _ _ p))
+    ∙ cond-true _ _ _ (digits_at bs i ∙ e)
     ∙ ap (λ n. n + 1) (skip_at set 1 bs (i + 1) (omega arith) ∙ ap (λ n. n + 1) (skip_at set 0 bs (i + 1 + 1) (omega arith)))
     ∙ (rw f (omega arith))
 
-pub front-stray : (set : TableSet) → LacksPercent set → (bs : List ℕ) (i : ℕ) → i < length bs → get_or bs i 0 ≡ 37 → (set.pct_encoded && has_digits bs i) ≡ false → front set (drop i bs) ≡ 0
+pub front-stray : (set : TableSet) → LacksPercent set → (bs : List ℕ) (i : ℕ) → i < length bs
+    → get_or bs i 0 ≡ 37 → (set.pct_encoded && has_digits bs i) ≡ false → front set (drop i bs) ≡ 0
 front-stray set lacks bs i h p e = front_at set bs i h ∙ ⊎_elim
     (λ o. cond-true _ _ _ (and_from _ _ o (eq-eqb _ _ p)) ∙ cond-false _ _ _ (digits_at bs i ∙ sym (ap (λ t. t && has_digits bs i) o) ∙ e))
     (λ o. cond-false _ _ _ (and_left _ _ o) ∙ cond-false _ _ _ (percent_out set lacks _ _ (eq-eqb _ _ p)))
@@ -136,15 +157,21 @@ front-stray set lacks bs i h p e = front_at set bs i h ∙ ⊎_elim
 not_percent : (set : TableSet) → LacksPercent set → (b : ℕ) → set.ascii b ≡ true → eqb b 37 ≡ false
 not_percent set lacks b a = ⊎_elim (λ x. absurd (both_ways _ (ap set.ascii (eqb-true b 37 x) ∙ lacks) a)) (λ x. x) (cases_Bool (eqb b 37))
 
-pub front-char : (set : TableSet) → LacksPercent set → (bs : List ℕ) (i : ℕ) → i < length bs → get_or bs i 0 < 128 → set.ascii (get_or bs i 0) ≡ true → front set (drop i bs) ≡ front set (drop (i + 1) bs) + 1
+pub front-char : (set : TableSet) → LacksPercent set → (bs : List ℕ) (i : ℕ) → i < length bs
+    → get_or bs i 0 < 128 → set.ascii (get_or bs i 0) ≡ true
+    → front set (drop i bs) ≡ front set (drop (i + 1) bs) + 1
 front-char set lacks bs i h l a =
-    front_at set bs i h ∙ cond-false _ _ _ (and_right _ _ (not_percent set lacks _ a)) ∙ cond-true _ _ _ (allows_first-ascii set _ _ l ∙ a)
+    front_at set bs i h ∙ cond-false _ _ _ (and_right _ _ (not_percent set lacks _ a))
+    ∙ cond-true _ _ _ (allows_first-ascii set _ _ l ∙ a)
     ∙ ap (λ k. front_from set k (drop (i + 1) bs) + 1) (cond-true _ _ _ (lt-ltb _ 128 l))
 
-pub front-stop : (set : TableSet) (bs : List ℕ) (i : ℕ) → i < length bs → get_or bs i 0 < 128 → eqb (get_or bs i 0) 37 ≡ false → set.ascii (get_or bs i 0) ≡ false → front set (drop i bs) ≡ 0
-front-stop set bs i h l p a = front_at set bs i h ∙ cond-false _ _ _ (and_right _ _ p) ∙ cond-false _ _ _ (allows_first-ascii set _ _ l ∙ a)
+pub front-stop : (set : TableSet) (bs : List ℕ) (i : ℕ) → i < length bs → get_or bs i 0 < 128
+    → eqb (get_or bs i 0) 37 ≡ false → set.ascii (get_or bs i 0) ≡ false → front set (drop i bs) ≡ 0
+front-stop set bs i h l p a = front_at set bs i h ∙ cond-false _ _ _ (and_right _ _ p)
+    ∙ cond-false _ _ _ (allows_first-ascii set _ _ l ∙ a)
 
-skip_more : (set : TableSet) (more rest : List ℕ) → front_from set (length more) (more ++ rest) ≡ front set rest + length more
+skip_more : (set : TableSet) (more rest : List ℕ)
+    → front_from set (length more) (more ++ rest) ≡ front set rest + length more
 unfolding front_from
 skip_more set [] rest = omega arith
 skip_more set (b ∷ more) rest = let h = skip_more set more rest in omega arith
@@ -157,22 +184,30 @@ unfolding first_char
 first_is bs rest c u e = ap (λ cs. get_or cs 0 0) (chars_past_char bs rest c u e)
 
 -- one character past ASCII
-pub front-past : (set : TableSet) (bs rest : List ℕ) (c : ℕ) → IsUtf8 bs → bs ≡ encode_utf8 c ++ rest → 128 ≤ get_or bs 0 0 → front set bs ≡ cond (allows_past_ascii set c) (front set rest + len_utf8 c) 0
+pub front-past : (set : TableSet) (bs rest : List ℕ) (c : ℕ) → IsUtf8 bs
+    → bs ≡ encode_utf8 c ++ rest → 128 ≤ get_or bs 0 0
+    → front set bs ≡ cond (allows_past_ascii set c) (front set rest + len_utf8 c) 0
 front-past set bs rest c u e h =
     let w = bytes_of_char c in
     let s : bs ≡ w.first ∷ (w.more ++ rest) = e ∙ ap (λ t. t ++ rest) w.spelt in
     let l : 128 ≤ w.first = subst (λ n. 128 ≤ n) (ap (λ t. get_or t 0 0) s) h in
-    let n : len_utf8 c ≡ length w.more + 1 = sym (length-encode c) ∙ ap length w.spelt ∙ omega arith in
-    let f : allows_first set w.first (w.more ++ rest) ≡ allows_past_ascii set c = allows_first-past set w.first _ l ∙ ap (allows_past_ascii set) (ap first_char (sym s) ∙ first_is bs rest c u e) in
+    let n : len_utf8 c ≡ length w.more + 1 = sym (length-encode c) ∙ ap length w.spelt
+    ∙ omega arith in
+    let f : allows_first set w.first (w.more ++ rest) ≡ allows_past_ascii set c = allows_first-past set w.first _ l
+    ∙ ap (allows_past_ascii set) (ap first_char (sym s) ∙ first_is bs rest c u e) in
     ap (front set) s ∙ front_cons set w.first (w.more ++ rest)
     ∙ cond-false _ _ _ (and_right _ _ (ne_eqb w.first 37 (λ d. too_big w.first l d)))
     ∙ ap (λ t. cond t (front_from set (continuation_len w.first) (w.more ++ rest) + 1) 0) f
     ∙ ap (λ t. cond (allows_past_ascii set c) t 0) (ap (λ k. front_from set k (w.more ++ rest) + 1) w.len ∙ ap (λ k. k + 1) (skip_more set w.more rest) ∙ omega arith)
 
-pub front-past-at : (set : TableSet) (bs : List ℕ) (i c : ℕ) → IsUtf8 bs → IsCharBoundary bs i → drop i bs ≡ encode_utf8 c ++ drop (i + len_utf8 c) bs → 128 ≤ get_or bs i 0 → front set (drop i bs) ≡ cond (allows_past_ascii set c) (front set (drop (i + len_utf8 c) bs) + len_utf8 c) 0
+pub front-past-at : (set : TableSet) (bs : List ℕ) (i c : ℕ) → IsUtf8 bs → IsCharBoundary bs i
+    → drop i bs ≡ encode_utf8 c ++ drop (i + len_utf8 c) bs → 128 ≤ get_or bs i 0
+    → front set (drop i bs)
+    ≡ cond (allows_past_ascii set c) (front set (drop (i + len_utf8 c) bs) + len_utf8 c) 0
 front-past-at set bs i c u b e h =
     let z : i + 0 ≡ i = omega arith in
-    let g : get_or (drop i bs) 0 0 ≡ get_or bs i 0 = get_or-drop i bs 0 0 ∙ ap (λ n. get_or bs n 0) z in
+    let g : get_or (drop i bs) 0 0 ≡ get_or bs i 0 = get_or-drop i bs 0 0
+    ∙ ap (λ n. get_or bs n 0) z in
     front-past set (drop i bs) (drop (i + len_utf8 c) bs) c (IsUtf8-drop bs i u b) e (subst (λ n. 128 ≤ n) (sym g) h)
 
 pub digits-ascii : (bs : List ℕ) (i : ℕ) → has_digits bs i ≡ true → get_or bs (i + 2) 0 < 128
@@ -183,24 +218,29 @@ pub none_read : (n : ℕ) → n + 1 ≡ 0 → ⊥
 none_read n e = omega arith
 
 -- where nothing is read of a `%`, no octet begins
-pub stray-digits : (set : TableSet) (bs : List ℕ) (i : ℕ) → i < length bs → set.pct_encoded ≡ true → get_or bs i 0 ≡ 37 → front set (drop i bs) ≡ 0 → has_digits bs i ≡ false
+pub stray-digits : (set : TableSet) (bs : List ℕ) (i : ℕ) → i < length bs → set.pct_encoded ≡ true
+    → get_or bs i 0 ≡ 37 → front set (drop i bs) ≡ 0 → has_digits bs i ≡ false
 stray-digits set bs i h o p z = ⊎_elim
     (λ e. absurd (none_read _ (sym (cond-true _ _ _ (digits_at bs i ∙ e)) ∙ sym (cond-true _ _ _ (and_from _ _ o (eq-eqb _ _ p))) ∙ sym (front_at set bs i h) ∙ z)))
     (λ e. e)
     (cases_Bool (has_digits bs i))
 
 -- where no ASCII is allowed and reading may not go on
-flags_off : (set : TableSet) → (set.ucschar || set.iprivate) ≡ false → (c : ℕ) → allows_past_ascii set c ≡ false
+flags_off : (set : TableSet) → (set.ucschar || set.iprivate) ≡ false → (c : ℕ)
+    → allows_past_ascii set c ≡ false
 unfolding allows_past_ascii
 flags_off set e c = or_from _ _ (and_left _ _ (or_parts set.ucschar set.iprivate e).0) (and_left _ _ (or_parts set.ucschar set.iprivate e).1)
 
-front-past-none : (set : TableSet) (bs : List ℕ) (i : ℕ) → i < length bs → 128 ≤ get_or bs i 0 → (set.ucschar || set.iprivate) ≡ false → front set (drop i bs) ≡ 0
+front-past-none : (set : TableSet) (bs : List ℕ) (i : ℕ) → i < length bs → 128 ≤ get_or bs i 0
+    → (set.ucschar || set.iprivate) ≡ false → front set (drop i bs) ≡ 0
 front-past-none set bs i h l e =
     front_at set bs i h
     ∙ cond-false _ _ _ (and_right _ _ (ne_eqb (get_or bs i 0) 37 (too_big (get_or bs i 0) l)))
     ∙ cond-false _ _ _ (allows_first-past set _ _ l ∙ flags_off set e _)
 
-pub front-done : (set : TableSet) → LacksPercent set → (bs : List ℕ) (i : ℕ) → i < length bs → set.ascii (get_or bs i 0) ≡ false → may_go_on set (get_or bs i 0) ≡ false → front set (drop i bs) ≡ 0
+pub front-done : (set : TableSet) → LacksPercent set → (bs : List ℕ) (i : ℕ) → i < length bs
+    → set.ascii (get_or bs i 0) ≡ false → may_go_on set (get_or bs i 0) ≡ false
+    → front set (drop i bs) ≡ 0
 unfolding may_go_on
 front-done set lacks bs i h a e = ⊎_elim
     (λ p. front-stray set lacks bs i h (eqb-true _ _ p) (and_left _ _ (sym (cond-true _ _ _ p) ∙ e)))

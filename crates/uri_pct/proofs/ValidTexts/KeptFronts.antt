@@ -1,9 +1,12 @@
 -- The front of a text that a set without octets allows is encoded as it stands.
-use Rattle.std.proofs.Common.{◌≡◌, ℕ, ◌+◌, ◌-◌, ◌<◌, ◌≤◌, true, false, cond, List, [], ◌∷◌, ◌++◌, length, get_or, take, drop, map, refl, sym, ap, subst, ◌∙◌, arith, ⊎_elim, append_assoc}
+use Rattle.std.proofs.Common.{◌≡◌, ℕ, ◌+◌, ◌-◌, ◌<◌, ◌≤◌, true, false, cond, List, [], ◌∷◌, ◌++◌}
+use Rattle.std.proofs.Common.{length, get_or, take, drop, map, refl, sym, ap, subst, ◌∙◌, arith}
+use Rattle.std.proofs.Common.{⊎_elim, append_assoc}
 use Rattle.std.specs.Char.{encode_utf8, len_utf8}
 use Rattle.std.specs.Str.{encode_utf8_all, all_scalars, continuation_len, IsUtf8, IsCharBoundary}
 use Rattle.std.proofs.Math.Seq.{take-append-add, drop-append-add}
-use Rattle.std.proofs.lemmas.Bool.{cases_Bool, cases_lt, cond-true, cond-false, and_parts, both_ways}
+use Rattle.std.proofs.lemmas.Bool.{cases_Bool, cases_lt, cond-true, cond-false, and_parts}
+use Rattle.std.proofs.lemmas.Bool.{both_ways}
 use Rattle.std.proofs.lemmas.List.{append-nil, drop-drop, drop_all, map-append}
 use Rattle.std.proofs.lemmas.Str.{encode_ascii, length-encode, IsUtf8-drop}
 use Rattle.uri_pct.specs.Sets.{TableSet, allows, allows_past_ascii}
@@ -13,7 +16,8 @@ use Rattle.uri_pct.specs.Encoding.{encode_char, encode_text, IsEncodedBy}
 use Rattle.uri_pct.proofs.Unicode.Characters.{lead, bytes_of_char}
 use Rattle.uri_pct.proofs.ValidTexts.Validity.{allows_first-ascii, allows-ascii, allows-past}
 use Rattle.uri_pct.proofs.ValidTexts.Cuts.{front_cons, len_ascii}
-use Rattle.uri_pct.proofs.EncodedTexts.Encodings.{print-append, encode_text-first, encode_char-kept, encode_char-octets, part_longer, encode_none}
+use Rattle.uri_pct.proofs.EncodedTexts.Encodings.{print-append, encode_text-first, encode_char-kept}
+use Rattle.uri_pct.proofs.EncodedTexts.Encodings.{encode_char-octets, part_longer, encode_none}
 use Rattle.uri_pct.proofs.ValidTexts.Fronts.{front-past, front-after}
 
 -- the set that allows the same characters, and no octets
@@ -23,7 +27,9 @@ plain_set set = record set { pct_encoded = false }
 one_byte : (c : ℕ) → c < 128 → len_utf8 c ≡ 1
 one_byte c h = sym (length-encode c) ∙ ap length (encode_ascii c h)
 
-ascii_front : (set : TableSet) (rest : List ℕ) (c : ℕ) → c < 128 → front (plain_set set) (c ∷ rest) ≡ cond (allows set c) (front (plain_set set) rest + len_utf8 c) 0
+ascii_front : (set : TableSet) (rest : List ℕ) (c : ℕ) → c < 128
+    → front (plain_set set) (c ∷ rest)
+    ≡ cond (allows set c) (front (plain_set set) rest + len_utf8 c) 0
 ascii_front set rest c h =
     let plain = plain_set set in
     front_cons plain c rest
@@ -36,7 +42,9 @@ unfolding allows_past_ascii
 same_past set c = refl
 
 -- the front of a text by its first character
-pub front_first : (set : TableSet) (text rest : List ℕ) (c : ℕ) → IsUtf8 text → text ≡ encode_utf8 c ++ rest → front (plain_set set) text ≡ cond (allows set c) (front (plain_set set) rest + len_utf8 c) 0
+pub front_first : (set : TableSet) (text rest : List ℕ) (c : ℕ) → IsUtf8 text
+    → text ≡ encode_utf8 c ++ rest
+    → front (plain_set set) text ≡ cond (allows set c) (front (plain_set set) rest + len_utf8 c) 0
 front_first set text rest c u e = ⊎_elim
     (λ h. ap (front (plain_set set)) (e ∙ ap (λ t. t ++ rest) (encode_ascii c h)) ∙ ascii_front set rest c h)
     (λ h. front-past (plain_set set) text rest c u e (subst (λ t. 128 ≤ get_or t 0 0) (sym e) (lead c rest h))
@@ -47,19 +55,22 @@ front_first set text rest c u e = ⊎_elim
 abbrev IsKept : TableSet → List ℕ → ℕ → Type 0
 IsKept set text n = print (encode_text set text) ≡ take n text ++ print (encode_text set (drop n text))
 
-some_kept : (set : TableSet) (c n : ℕ) (rest : List ℕ) → IsUtf8 (encode_utf8 c ++ rest) → allows set c ≡ true → IsKept set rest n → IsKept set (encode_utf8 c ++ rest) (n + len_utf8 c)
+some_kept : (set : TableSet) (c n : ℕ) (rest : List ℕ) → IsUtf8 (encode_utf8 c ++ rest)
+    → allows set c ≡ true → IsKept set rest n → IsKept set (encode_utf8 c ++ rest) (n + len_utf8 c)
 some_kept set c n rest u allowed kept =
     let text : List ℕ = encode_utf8 c ++ rest in
     let size : n + len_utf8 c ≡ length (encode_utf8 c) + n = omega (arith, length-encode c) in
     let behind = print (encode_text set (drop n rest)) in
-    ap print (encode_text-first set text rest c u refl) ∙ print-append (encode_char set c) (encode_text set rest)
+    ap print (encode_text-first set text rest c u refl)
+    ∙ print-append (encode_char set c) (encode_text set rest)
     ∙ ap (λ x. x ++ print (encode_text set rest)) (encode_char-kept set c allowed)
     ∙ ap (λ x. encode_utf8 c ++ x) kept ∙ sym (append_assoc (encode_utf8 c) (take n rest) behind)
     ∙ ap (λ x. x ++ behind) (sym (take-append-add (encode_utf8 c) rest n))
     ∙ ap (λ x. take (length (encode_utf8 c) + n) text ++ print (encode_text set x)) (sym (drop-append-add (encode_utf8 c) rest n))
     ∙ ap (λ k. take k text ++ print (encode_text set (drop k text))) (sym size)
 
-kept_chars : (set : TableSet) (cs : List ℕ) → all_scalars cs ≡ true → IsKept set (encode_utf8_all cs) (front (plain_set set) (encode_utf8_all cs))
+kept_chars : (set : TableSet) (cs : List ℕ) → all_scalars cs ≡ true
+    → IsKept set (encode_utf8_all cs) (front (plain_set set) (encode_utf8_all cs))
 unfolding front_from
 kept_chars set [] s = refl
 kept_chars set (c ∷ cs) s =
@@ -73,11 +84,13 @@ kept_chars set (c ∷ cs) s =
     (cases_Bool (allows set c))
 
 -- what is read of a text stands for itself
-pub front_kept : (set : TableSet) (text : List ℕ) → IsUtf8 text → IsKept set text (front (plain_set set) text)
+pub front_kept : (set : TableSet) (text : List ℕ) → IsUtf8 text
+    → IsKept set text (front (plain_set set) text)
 front_kept set text u = subst (λ t. IsKept set t (front (plain_set set) t)) u.1.1 (kept_chars set u.0 u.1.0)
 
 -- the same at a place of a text
-pub kept_from : (set : TableSet) (text : List ℕ) (start end : ℕ) → IsUtf8 text → IsCharBoundary text start → end ≡ start + front (plain_set set) (drop start text)
+pub kept_from : (set : TableSet) (text : List ℕ) (start end : ℕ) → IsUtf8 text
+    → IsCharBoundary text start → end ≡ start + front (plain_set set) (drop start text)
     → IsEncodedBy (λ bytes. bytes) set text start end
 kept_from set text start end u here e =
     let n = front (plain_set set) (drop start text) in
@@ -89,17 +102,22 @@ kept_from set text start end u here e =
 len_some : (c : ℕ) → 0 < len_utf8 c
 len_some c =
     let w = bytes_of_char c in
-    let n : len_utf8 c ≡ length w.more + 1 = sym (length-encode c) ∙ ap length w.spelt ∙ omega arith in
+    let n : len_utf8 c ≡ length w.more + 1 = sym (length-encode c) ∙ ap length w.spelt
+    ∙ omega arith in
     omega arith
 
 none_more : (n k : ℕ) → 0 < k → n + k ≡ 0 → ⊥
 none_more n k h e = omega arith
 
 -- what stands behind it is not allowed
-pub refused_behind : (set : TableSet) (text rest : List ℕ) (start end c : ℕ) → IsUtf8 text → IsCharBoundary text end → end ≡ start + front (plain_set set) (drop start text) → drop end text ≡ encode_utf8 c ++ rest → allows set c ≡ false
+pub refused_behind : (set : TableSet) (text rest : List ℕ) (start end c : ℕ) → IsUtf8 text
+    → IsCharBoundary text end → end ≡ start + front (plain_set set) (drop start text)
+    → drop end text ≡ encode_utf8 c ++ rest → allows set c ≡ false
 refused_behind set text rest start end c u here e spelt =
     let n = front (plain_set set) (drop start text) in
-    let none : front (plain_set set) (drop end text) ≡ 0 = ap (λ k. front (plain_set set) (drop k text)) e ∙ ap (front (plain_set set)) (sym (drop-drop n start text)) ∙ front-after (plain_set set) (drop start text) in
+    let none : front (plain_set set) (drop end text) ≡ 0 = ap (λ k. front (plain_set set) (drop k text)) e
+    ∙ ap (front (plain_set set)) (sym (drop-drop n start text))
+    ∙ front-after (plain_set set) (drop start text) in
     ⊎_elim
     (λ a. absurd (none_more (front (plain_set set) rest) (len_utf8 c) (len_some c) (sym (cond-true _ _ _ a) ∙ sym (front_first set (drop end text) rest c (IsUtf8-drop text end u here) spelt) ∙ none)))
     (λ a. a)
@@ -113,26 +131,34 @@ unfolding octets
 octets_more xs ys = ap print (map-append Octet xs ys) ∙ print-append (map Octet xs) (map Octet ys)
 
 -- no character is refused yet
-pub none_refused : (set : TableSet) (text : List ℕ) (start : ℕ) → IsEncodedBy (λ bytes. print (map Octet bytes)) set text start start
+pub none_refused : (set : TableSet) (text : List ℕ) (start : ℕ)
+    → IsEncodedBy (λ bytes. print (map Octet bytes)) set text start start
 none_refused set text start = let none : start - start ≡ 0 = omega arith in rw none refl
 
 -- one more that is refused
-pub refused_more : (set : TableSet) (text : List ℕ) (start end next c : ℕ) → IsUtf8 (drop end text) → start ≤ end → drop end text ≡ encode_utf8 c ++ drop (end + len_utf8 c) text → next ≡ end + len_utf8 c → allows set c ≡ false
-    → IsEncodedBy (λ bytes. print (map Octet bytes)) set text start end → IsEncodedBy (λ bytes. print (map Octet bytes)) set text start next
+pub refused_more : (set : TableSet) (text : List ℕ) (start end next c : ℕ) → IsUtf8 (drop end text)
+    → start ≤ end → drop end text ≡ encode_utf8 c ++ drop (end + len_utf8 c) text
+    → next ≡ end + len_utf8 c → allows set c ≡ false
+    → IsEncodedBy (λ bytes. print (map Octet bytes)) set text start end
+    → IsEncodedBy (λ bytes. print (map Octet bytes)) set text start next
 unfolding octets
 refused_more set text start end next c u ordered spelt place refused before =
     let part : List ℕ = take (end - start) (drop start text) in
     let rest = print (encode_text set (drop (end + len_utf8 c) text)) in
     let one : print (encode_text set (drop end text)) ≡ octets (encode_utf8 c) ++ rest =
-    ap print (encode_text-first set (drop end text) (drop (end + len_utf8 c) text) c u spelt) ∙ print-append (encode_char set c) (encode_text set (drop (end + len_utf8 c) text))
+    ap print (encode_text-first set (drop end text) (drop (end + len_utf8 c) text) c u spelt)
+    ∙ print-append (encode_char set c) (encode_text set (drop (end + len_utf8 c) text))
     ∙ ap (λ ts. print ts ++ rest) (encode_char-octets set c refused) in
-    before ∙ ap (λ x. octets part ++ x) one ∙ sym (append_assoc (octets part) (octets (encode_utf8 c)) rest)
+    before ∙ ap (λ x. octets part ++ x) one
+    ∙ sym (append_assoc (octets part) (octets (encode_utf8 c)) rest)
     ∙ ap (λ x. x ++ rest) (sym (octets_more part (encode_utf8 c)) ∙ ap octets (sym (part_longer text start end c ordered spelt)))
     ∙ ap (λ k. octets (take (k - start) (drop start text)) ++ print (encode_text set (drop k text))) (sym place)
 
 -- the first character is refused, so that some is
-pub some_refused : (set : TableSet) (text : List ℕ) (start end c : ℕ) → start ≤ end → drop end text ≡ encode_utf8 c ++ drop (end + len_utf8 c) text → allows set c ≡ true
-    → ((d : ℕ) (rest : List ℕ) → drop start text ≡ encode_utf8 d ++ rest → allows set d ≡ false) → start < end
+pub some_refused : (set : TableSet) (text : List ℕ) (start end c : ℕ) → start ≤ end
+    → drop end text ≡ encode_utf8 c ++ drop (end + len_utf8 c) text → allows set c ≡ true
+    → ((d : ℕ) (rest : List ℕ) → drop start text ≡ encode_utf8 d ++ rest → allows set d ≡ false)
+    → start < end
 some_refused set text start end c ordered spelt allowed first = ⊎_elim
     (λ h. h)
     (λ h.
@@ -141,18 +167,25 @@ some_refused set text start end c ordered spelt allowed first = ⊎_elim
     (cases_lt start end)
 
 -- what is written behind a run that is kept and one that is refused
-pub run_step : (set : TableSet) (out mid new text all : List ℕ) (start end next : ℕ) → IsEncodedBy (λ bytes. bytes) set text start end → IsEncodedBy (λ bytes. print (map Octet bytes)) set text end next
-    → mid ≡ out ++ take (end - start) (drop start text) → new ≡ mid ++ print (map Octet (take (next - end) (drop end text)))
-    → out ++ print (encode_text set (drop start text)) ≡ all → new ++ print (encode_text set (drop next text)) ≡ all
+pub run_step : (set : TableSet) (out mid new text all : List ℕ) (start end next : ℕ)
+    → IsEncodedBy (λ bytes. bytes) set text start end
+    → IsEncodedBy (λ bytes. print (map Octet bytes)) set text end next
+    → mid ≡ out ++ take (end - start) (drop start text)
+    → new ≡ mid ++ print (map Octet (take (next - end) (drop end text)))
+    → out ++ print (encode_text set (drop start text)) ≡ all
+    → new ++ print (encode_text set (drop next text)) ≡ all
 run_step set out mid new text all start end next kept refused copied written whole =
     let part : List ℕ = take (end - start) (drop start text) in
     let octets_of : List ℕ = print (map Octet (take (next - end) (drop end text))) in
     let rest : List ℕ = print (encode_text set (drop next text)) in
-    ap (λ x. x ++ rest) (written ∙ ap (λ x. x ++ octets_of) copied) ∙ append_assoc (out ++ part) octets_of rest ∙ append_assoc out part (octets_of ++ rest)
+    ap (λ x. x ++ rest) (written ∙ ap (λ x. x ++ octets_of) copied)
+    ∙ append_assoc (out ++ part) octets_of rest ∙ append_assoc out part (octets_of ++ rest)
     ∙ ap (λ x. out ++ x) (ap (λ x. part ++ x) (sym refused) ∙ sym kept) ∙ whole
 
 -- at the end of the text
-pub whole_written : (set : TableSet) (out text all : List ℕ) (done : ℕ) → length text ≤ done → out ++ print (encode_text set (drop done text)) ≡ all → out ≡ all
+pub whole_written : (set : TableSet) (out text all : List ℕ) (done : ℕ) → length text ≤ done
+    → out ++ print (encode_text set (drop done text)) ≡ all → out ≡ all
 whole_written set out text all done past whole =
-    let none : print (encode_text set (drop done text)) ≡ [] = ap (λ x. print (encode_text set x)) (drop_all done text past) ∙ encode_none set in
+    let none : print (encode_text set (drop done text)) ≡ [] = ap (λ x. print (encode_text set x)) (drop_all done text past)
+    ∙ encode_none set in
     sym (append-nil out) ∙ ap (λ x. out ++ x) (sym none) ∙ whole

@@ -1,5 +1,6 @@
 -- A test of texts that computes at a literal, and what it tells.
-use Rattle.std.proofs.Common.{◌≡◌, ℕ, Bool, true, false, List, [], ◌∷◌, ◌&&◌, ap, sym, refl, ◌∙◌, ⊎_elim}
+use Rattle.std.proofs.Common.{◌≡◌, ℕ, Bool, true, false, List, [], ◌∷◌, ◌&&◌, ap, sym, refl, ◌∙◌}
+use Rattle.std.proofs.Common.{⊎_elim}
 use Rattle.std.specs.Prelude.{◌==◌, not, nat_lt, if◌then◌else◌}
 use Rattle.std.specs.Char.{is_ascii_hexdigit}
 use Rattle.std.specs.Int.{is_in_range}
@@ -11,7 +12,8 @@ use Rattle.uri_pct.specs.Tokens.{tokens_of, allows_token, is_pct_encoded, is_val
 use Rattle.uri_pct.proofs.Readings.Printing.{char_first}
 
 -- the first range of `ucschar`, which has the letters of most scripts
-pub letter_is_allowed : (set : TableSet) (c : ℕ) → set.ucschar ≡ true → is_in_range 0xA0 0xD7FF c ≡ true → allows_past_ascii set c ≡ true
+pub letter_is_allowed : (set : TableSet) (c : ℕ) → set.ucschar ≡ true
+    → is_in_range 0xA0 0xD7FF c ≡ true → allows_past_ascii set c ≡ true
 unfolding allows_past_ascii is_ucschar
 letter_is_allowed set c flag range = rw (flag, range) refl
 
@@ -37,7 +39,8 @@ are_literal_chars set (c ∷ high ∷ low ∷ rest) =
     then is_ascii_hexdigit high && (is_ascii_hexdigit low && (set.pct_encoded && are_literal_chars set rest))
     else is_literal_char set c && are_literal_chars set (high ∷ low ∷ rest)
 
-literal_chars : (set : TableSet) (cs : List ℕ) → are_literal_chars set cs ≡ true → list_all (allows_token set) (tokens_of cs) ≡ true
+literal_chars : (set : TableSet) (cs : List ℕ) → are_literal_chars set cs ≡ true
+    → list_all (allows_token set) (tokens_of cs) ≡ true
 unfolding tokens_of is_pct_encoded
 literal_chars set [] e = refl
 literal_chars set (c ∷ []) e = and_from (allows set c) true (literal_char set c (and_parts (not (c == 37)) _ e).1) refl
@@ -67,6 +70,8 @@ unfolding chars
 same_chars [] = refl
 same_chars (b ∷ rest) = refl
 
-pub literal_text_is_valid : (set : TableSet) (text : List ℕ) → are_literal_chars set (literal_text_chars text) ≡ true → IsValidFor set text
+pub literal_text_is_valid : (set : TableSet) (text : List ℕ)
+    → are_literal_chars set (literal_text_chars text) ≡ true → IsValidFor set text
 unfolding is_valid_for
-literal_text_is_valid set text e = ap (λ cs. list_all (allows_token set) (tokens_of cs)) (same_chars text) ∙ literal_chars set (literal_text_chars text) e
+literal_text_is_valid set text e = ap (λ cs. list_all (allows_token set) (tokens_of cs)) (same_chars text)
+    ∙ literal_chars set (literal_text_chars text) e

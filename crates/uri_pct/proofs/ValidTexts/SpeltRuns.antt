@@ -1,5 +1,6 @@
 -- Bytes and octets that are spelt by what a set allows are read.
-use Rattle.std.proofs.Common.{◌≡◌, ℕ, zero, suc, ◌+◌, ◌<◌, ◌≤◌, Bool, true, false, List, length, get_or, drop, refl, sym, ap, subst, ◌∙◌, arith, ⊎_elim}
+use Rattle.std.proofs.Common.{◌≡◌, ℕ, zero, suc, ◌+◌, ◌<◌, ◌≤◌, Bool, true, false, List, length}
+use Rattle.std.proofs.Common.{get_or, drop, refl, sym, ap, subst, ◌∙◌, arith, ⊎_elim}
 use Rattle.std.specs.Char.{is_ascii_hexdigit}
 use Rattle.std.specs.Str.{IsUtf8, IsCharBoundary}
 use Rattle.std.proofs.lemmas.Str.{IsCharBoundary-after_ascii}
@@ -11,7 +12,9 @@ use Rattle.uri_pct.specs.Models.ByteRuns.{AreSpelt}
 use Rattle.uri_pct.proofs.ValidTexts.Fronts.{front-char, front-octet, digits-ascii}
 
 -- bytes and octets that are lanes from i on, of which octets begin where `oct` tells
-module _ (set : TableSet) (lacks : LacksPercent set) (pct : set.pct_encoded ≡ true) (ascii : (b : ℕ) → set.ascii b ≡ true → b < 128) (bs : List ℕ) (i n : ℕ) (room : i + n ≤ length bs) (oct : ℕ → Bool)
+module _ (set : TableSet) (lacks : LacksPercent set) (pct : set.pct_encoded ≡ true)
+    (ascii : (b : ℕ) → set.ascii b ≡ true → b < 128) (bs : List ℕ) (i n : ℕ)
+    (room : i + n ≤ length bs) (oct : ℕ → Bool)
     (held : (k : ℕ) → k < n → oct k ≡ false → ((j : ℕ) → j < k → k ≤ j + 2 → oct j ≡ false) → set.ascii (get_or bs (i + k) 0) ≡ true)
     (percent : (k : ℕ) → oct k ≡ true → get_or bs (i + k) 0 ≡ 37)
     (digits : (k : ℕ) → oct k ≡ true → has_digits bs (i + k) ≡ true)
@@ -27,7 +30,8 @@ module _ (set : TableSet) (lacks : LacksPercent set) (pct : set.pct_encoded ≡ 
   plain : (k : ℕ) → (get_or bs (i + k) 0 ≡ 37 → ⊥) → oct k ≡ false
   plain k none = false_from_ne_true _ (λ o. none (percent k o))
 
-  no_percent : (k : ℕ) → oct k ≡ true → (get_or bs (i + k + 1) 0 ≡ 37 → ⊥) × (get_or bs (i + k + 2) 0 ≡ 37 → ⊥)
+  no_percent : (k : ℕ) → oct k ≡ true
+      → (get_or bs (i + k + 1) 0 ≡ 37 → ⊥) × (get_or bs (i + k + 2) 0 ≡ 37 → ⊥)
   unfolding has_digits
   no_percent k o =
       let both = and_parts _ _ (digits k o) in
@@ -60,7 +64,8 @@ module _ (set : TableSet) (lacks : LacksPercent set) (pct : set.pct_encoded ≡ 
       let last : i + k + 2 + 1 ≡ i + (k + 3) = omega arith in
       let behind = IsCharBoundary-after_ascii bs (i + k + 2) u (omega arith) (digits-ascii bs (i + k) (digits k o)) in
       let r : IsRead (k + 3) = walk steps (k + 3) (omega arith) w (fresh_3 k o) (subst (IsCharBoundary bs) last behind) in
-      let f : front set (drop (i + k) bs) ≡ front set (drop (i + (k + 3)) bs) + 3 = e ∙ ap (λ m. front set (drop m bs) + 3) next in
+      let f : front set (drop (i + k) bs) ≡ front set (drop (i + (k + 3)) bs) + 3 = e
+      ∙ ap (λ m. front set (drop m bs) + 3) next in
       (omega (arith, r.0, f), r.1))
       (λ o.
       let a = held k inside o fresh in
@@ -68,24 +73,29 @@ module _ (set : TableSet) (lacks : LacksPercent set) (pct : set.pct_encoded ≡ 
       let next : i + k + 1 ≡ i + (k + 1) = omega arith in
       let behind = IsCharBoundary-after_ascii bs (i + k) u (omega arith) (ascii _ a) in
       let r : IsRead (k + 1) = walk steps (k + 1) (omega arith) (omega arith) (fresh_1 k fresh o) (subst (IsCharBoundary bs) next behind) in
-      let f : front set (drop (i + k) bs) ≡ front set (drop (i + (k + 1)) bs) + 1 = e ∙ ap (λ m. front set (drop m bs) + 1) next in
+      let f : front set (drop (i + k) bs) ≡ front set (drop (i + (k + 1)) bs) + 1 = e
+      ∙ ap (λ m. front set (drop m bs) + 1) next in
       (omega (arith, r.0, f), r.1))
       (cases_Bool (oct k)))
       (λ (end : n ≤ k). stay k (omega arith) b)
       (cases_lt k n)
 
-  pub all_read : (i + n + front set (drop (i + n) bs) ≡ i + front set (drop i bs)) × IsCharBoundary bs (i + n)
+  pub all_read : (i + n + front set (drop (i + n) bs) ≡ i + front set (drop i bs))
+      × IsCharBoundary bs (i + n)
   all_read =
       let z : i + 0 ≡ i = omega arith in
       let r = walk n 0 (omega arith) (omega arith) (λ j l h. absurd (omega arith)) (subst (IsCharBoundary bs) (sym z) here) in
       (r.0 ∙ ap (λ m. m + front set (drop m bs)) z, r.1)
 
-pub spelt_read : (set : TableSet) → LacksPercent set → set.pct_encoded ≡ true → ((b : ℕ) → set.ascii b ≡ true → b < 128) → (bs : List ℕ) (i n : ℕ) → i + n ≤ length bs → IsUtf8 bs → IsCharBoundary bs i → AreSpelt set.ascii bs i n
+pub spelt_read : (set : TableSet) → LacksPercent set → set.pct_encoded ≡ true
+    → ((b : ℕ) → set.ascii b ≡ true → b < 128) → (bs : List ℕ) (i n : ℕ) → i + n ≤ length bs
+    → IsUtf8 bs → IsCharBoundary bs i → AreSpelt set.ascii bs i n
     → (i + n + front set (drop (i + n) bs) ≡ i + front set (drop i bs)) × IsCharBoundary bs (i + n)
 spelt_read set lacks pct ascii bs i n room u here are = all_read set lacks pct ascii bs i n room are.octet are.pass are.percent are.digits are.whole u here
 
 -- an octet is read
-pub octet_read : (set : TableSet) (bs : List ℕ) (i : ℕ) → IsUtf8 bs → set.pct_encoded ≡ true → i + 2 < length bs → get_or bs i 0 ≡ 37 → has_digits bs i ≡ true
+pub octet_read : (set : TableSet) (bs : List ℕ) (i : ℕ) → IsUtf8 bs → set.pct_encoded ≡ true
+    → i + 2 < length bs → get_or bs i 0 ≡ 37 → has_digits bs i ≡ true
     → (i + 3 + front set (drop (i + 3) bs) ≡ i + front set (drop i bs)) × IsCharBoundary bs (i + 3)
 octet_read set bs i u pct within percent digits =
     let e = front-octet set bs i within pct percent digits in

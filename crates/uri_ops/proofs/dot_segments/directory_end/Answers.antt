@@ -14,7 +14,8 @@ returns-then-is_double_dot-clause-text c =
     ∙ removed_dots c.args.path.now c.last_slash-slash.result c.requires (search rules) (search rules) (search rules)
 
 pub returns-then-is_double_dot-clause-underflow : goal.returns-then-is_double_dot-clause-underflow
-returns-then-is_double_dot-clause-underflow c = ap underflows (take-length c.args.path.now) ∙ sym (underflows_directory c.args.path.now (inr c.requires))
+returns-then-is_double_dot-clause-underflow c = ap underflows (take-length c.args.path.now)
+    ∙ sym (underflows_directory c.args.path.now (inr c.requires))
 
 pub returns-clause-text : goal.returns-clause-text
 returns-clause-text c = ap remove_dot_segments (up_to_slash c.args.path.now c.last_slash-slash.result c.requires (search rules) (search rules) (search rules))

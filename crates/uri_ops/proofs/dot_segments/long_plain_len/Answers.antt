@@ -13,7 +13,8 @@ returns-then-plain-lt-LANES c =
       some = omega arith;
       within = omega (arith, c.requires, c.loop-i-test.true, c.if-plain-lt-LANES.true);
       none = λ k h. before k (omega (arith, h));
-      ends = λ _. ap (λ m. get_or bytes m 0) end ∙ c.length_before_dots-plain.ensures.slash c.if-plain-lt-LANES.true;
+      ends = λ _. ap (λ m. get_or bytes m 0) end
+          ∙ c.length_before_dots-plain.ensures.slash c.if-plain-lt-LANES.true;
     }
 
 pub loop-i-preserved : goal.loop-i-preserved
@@ -38,5 +39,6 @@ returns c =
       some = omega arith;
       within = omega (arith, c.requires, c.length_before_dots-plain-2.ensures.few);
       none = λ k h. before k (omega (arith, h));
-      ends = λ more. ap (λ m. get_or bytes m 0) end ∙ c.length_before_dots-plain-2.ensures.slash (omega (arith, c.requires, more));
+      ends = λ more. ap (λ m. get_or bytes m 0) end
+          ∙ c.length_before_dots-plain-2.ensures.slash (omega (arith, c.requires, more));
     }

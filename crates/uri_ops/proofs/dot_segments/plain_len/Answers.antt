@@ -4,11 +4,13 @@ use Rattle.std.proofs.lemmas.List.{take_all}
 use Rattle.std.specs.Str.{IsCharBoundary}
 use Rattle.std.proofs.Math.Seq.{take-length}
 use Rattle.uri_ops.specs.Dots.{lacks_dot_segments}
-use Rattle.uri_ops.proofs.Paths.DotStarts.{boundary_before, closed_before, dots_begin, first_plain, lacks_before, lacks_from, one_further}
+use Rattle.uri_ops.proofs.Paths.DotStarts.{boundary_before, closed_before, dots_begin, first_plain}
+use Rattle.uri_ops.proofs.Paths.DotStarts.{lacks_before, lacks_from, one_further}
 use Rattle.uri_ops.specs.Models.Directories.{IsClosed}
 use Rattle.uri_ops.specs.Models.LeadingSegments.{begins_at}
 use Rattle.uri_ops.proofs.dot_segments.plain_len.Goals as goal
-use Rattle.uri_ops.proofs.dot_segments.plain_len.Goals.{else-bytes-i-eq47-via-then-bytes-i-eq47+else-is_dot_start, else-bytes-i-eq47-via-else-bytes-i-eq47}
+use Rattle.uri_ops.proofs.dot_segments.plain_len.Goals.{else-bytes-i-eq47-via-then-bytes-i-eq47+else-is_dot_start}
+use Rattle.uri_ops.proofs.dot_segments.plain_len.Goals.{else-bytes-i-eq47-via-else-bytes-i-eq47}
 
 pub loop-i-init : goal.loop-i-init
 loop-i-init c = record { within = omega arith; plain = first_plain c.as_bytes-bytes.result.now (sym c.begins_with_dot.ensures ∙ c.if-begins_with_dot.false) }
@@ -50,5 +52,6 @@ loop-i-preserved c =
 pub returns-clause-plain : goal.returns-clause-plain
 returns-clause-plain c =
     let bytes = c.as_bytes-bytes.result.now in
-    ap (λ t. lacks_dot_segments (take (length bytes) t)) (sym c.as_bytes-bytes.ensures.value) ∙ ap lacks_dot_segments (take-length bytes)
+    ap (λ t. lacks_dot_segments (take (length bytes) t)) (sym c.as_bytes-bytes.ensures.value)
+    ∙ ap lacks_dot_segments (take-length bytes)
     ∙ lacks_from bytes (ap (dots_begin true) (sym (take_all (c.loop-i.i + 1) bytes (omega (arith, c.loop-i-test.false)))) ∙ c.loop-i.invariant.plain)

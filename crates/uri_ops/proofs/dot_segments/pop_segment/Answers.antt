@@ -7,8 +7,10 @@ pub truncate-requires : goal.truncate-requires
 truncate-requires c =
     let text = string_bytes c.args.out.now in
     let all = take (c.len-end.result - 1) c.as_bytes.result.now in
-    let end_is : c.len-end.result ≡ length text = c.len-end.ensures ∙ sym c.as_bytes.ensures.len ∙ ap length c.as_bytes.ensures.value in
-    let all_is : all ≡ take (length text - 1) text = ap (λ n. take (n - 1) c.as_bytes.result.now) end_is ∙ ap (take (length text - 1)) c.as_bytes.ensures.value in
+    let end_is : c.len-end.result ≡ length text = c.len-end.ensures ∙ sym c.as_bytes.ensures.len
+    ∙ ap length c.as_bytes.ensures.value in
+    let all_is : all ≡ take (length text - 1) text = ap (λ n. take (n - 1) c.as_bytes.result.now) end_is
+    ∙ ap (take (length text - 1)) c.as_bytes.ensures.value in
     let slash = popped_slash text c.args.start c.requires all all_is c.last_slash-slash.result c.last_slash-slash.ensures.place in
     let place = IsCharBoundary-after_ascii text c.last_slash-slash.result (IsUtf8-string_bytes c.args.out.now) slash.0 (omega (arith, slash.1)) in
     λ _. (place.0, λ _. place.1)
@@ -17,8 +19,10 @@ pub returns-clause-bytes : goal.returns-clause-bytes
 returns-clause-bytes c =
     let text = string_bytes c.args.out.now in
     let all = take (c.len-end.result - 1) c.as_bytes.result.now in
-    let end_is : c.len-end.result ≡ length text = c.len-end.ensures ∙ sym c.as_bytes.ensures.len ∙ ap length c.as_bytes.ensures.value in
-    let all_is : all ≡ take (length text - 1) text = ap (λ n. take (n - 1) c.as_bytes.result.now) end_is ∙ ap (take (length text - 1)) c.as_bytes.ensures.value in
+    let end_is : c.len-end.result ≡ length text = c.len-end.ensures ∙ sym c.as_bytes.ensures.len
+    ∙ ap length c.as_bytes.ensures.value in
+    let all_is : all ≡ take (length text - 1) text = ap (λ n. take (n - 1) c.as_bytes.result.now) end_is
+    ∙ ap (take (length text - 1)) c.as_bytes.ensures.value in
     c.truncate.ensures.bytes
     ∙ popped text c.args.start c.requires all all_is c.last_slash-slash.result c.last_slash-slash.ensures.place c.last_slash-slash.ensures.front
 

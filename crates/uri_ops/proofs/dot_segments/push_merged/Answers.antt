@@ -1,6 +1,7 @@
 use Rattle.std.proofs.Common.{◌≡◌, length, rules, string_bytes}
 use Rattle.uri_ops.proofs.Paths.LeftPaths.{front_of}
-use Rattle.uri_ops.proofs.Paths.PushedPaths.{directory_pushed, directory_removed, directory_underflows, merged_pushed, merged_underflows}
+use Rattle.uri_ops.proofs.Paths.PushedPaths.{directory_pushed, directory_removed}
+use Rattle.uri_ops.proofs.Paths.PushedPaths.{directory_underflows, merged_pushed, merged_underflows}
 use Rattle.uri_ops.proofs.dot_segments.push_merged.Goals as goal
 
 pub push_segments-requires : goal.push_segments-requires

@@ -1,6 +1,8 @@
 use Rattle.std.proofs.Common.{◌++◌, ◌||◌, drop, string_bytes, sym, ap, ◌∙◌, refl}
 use Rattle.uri_ops.specs.Models.Directories.{parent_directory}
-use Rattle.uri_ops.proofs.Paths.LeftPaths.{before_cut, before_more, front_of, kept_cut, kept_more, left_as, left_done, left_double, left_kept, left_single, some_left}
+use Rattle.uri_ops.proofs.Paths.LeftPaths.{before_cut, before_more, front_of, kept_cut, kept_more}
+use Rattle.uri_ops.proofs.Paths.LeftPaths.{left_as, left_done, left_double, left_kept, left_single}
+use Rattle.uri_ops.proofs.Paths.LeftPaths.{some_left}
 use Rattle.uri_ops.proofs.dot_segments.push_segments.Goals as goal
 
 pub loop-rest-preserved-in-SingleDot : goal.loop-rest-preserved-in-SingleDot
@@ -27,7 +29,8 @@ loop-rest-preserved-in-DoubleDot c =
     let new = string_bytes c.pop_segment-underflowed.new.out in
     let first = c.in-DoubleDot.ensures.leading in
     record {
-      before = before_cut text c.args.start absolute (parent_directory kept) new c.pop_segment-underflowed.ensures.bytes ∙ c.loop-rest.invariant.before;
+      before = before_cut text c.args.start absolute (parent_directory kept) new c.pop_segment-underflowed.ensures.bytes
+          ∙ c.loop-rest.invariant.before;
       left = left_as path _ (drop c.args.start new) _ c.range_from-rest-in-DoubleDot.result.now _ _
           (kept_cut text c.args.start absolute (parent_directory kept) new c.pop_segment-underflowed.ensures.bytes)
           (c.range_from-rest-in-DoubleDot.ensures.value ∙ first.rest)
@@ -47,7 +50,8 @@ loop-rest-preserved c =
     let grown = c.in_ok-push_str-in-Plain.ensures.bytes in
     let front = c.in-Plain.ensures.leading in
     record {
-      before = before_more text c.args.start absolute c.range.result.now new grown ∙ c.loop-rest.invariant.before;
+      before = before_more text c.args.start absolute c.range.result.now new grown
+          ∙ c.loop-rest.invariant.before;
       left = left_as path _ (drop c.args.start new) _ c.range_from-rest-in-Plain.result.now c.loop-rest.underflowed c.loop-rest.underflowed
           (kept_more text c.args.start absolute c.range.result.now new grown ∙ ap (λ t. kept ++ t) (front_of c.loop-rest.rest.now c.range.result.now c.in-Plain.next c.range.ensures.value))
           c.range_from-rest-in-Plain.ensures.value refl

@@ -1,6 +1,7 @@
 use Rattle.std.proofs.Common.{◌≡◌, ◌++◌, ap, length, rules, string_bytes, ◌∙◌}
 use Rattle.uri_ops.proofs.Paths.LeftPaths.{front_of}
-use Rattle.uri_ops.proofs.Paths.PushedPaths.{absolute_start, front_pushed, path_pushed, path_underflows, whole_plain}
+use Rattle.uri_ops.proofs.Paths.PushedPaths.{absolute_start, front_pushed, path_pushed}
+use Rattle.uri_ops.proofs.Paths.PushedPaths.{path_underflows, whole_plain}
 use Rattle.uri_ops.proofs.dot_segments.push_without_dot_segments.Goals as goal
 
 pub returns-then-plain-path-clause-text : goal.returns-then-plain-path-clause-text

@@ -17,7 +17,8 @@ returns-then-past-eq0-clause-text g c =
     let copied : string_bytes c.in_ok-copy.copy ≡ c.as_str-text.result.now = search rules in
     let none = c.past_ascii-past.ensures in
     let zero = c.if-past-eq0.true in
-    copied ∙ sym c.as_bytes-bytes.ensures.value ∙ sym (same_length bytes (omega (arith, none, zero)))
+    copied ∙ sym c.as_bytes-bytes.ensures.value
+    ∙ sym (same_length bytes (omega (arith, none, zero)))
     ∙ ap encoded_text (c.as_bytes-bytes.ensures.value ∙ c.as_str-text.ensures.text ∙ c.core-core.ensures.text)
 
 pub push_components-requires-clause-ordered : goal.push_components-requires-clause-ordered
@@ -38,7 +39,8 @@ returns-clause-at g c =
     let text = core_text c.core-core.result in
     let same = c.as_bytes-bytes.ensures.value ∙ c.as_str-text.ensures.text in
     let written : string_bytes c.in-Ok.text ≡ encoded_text c.as_bytes-bytes.result.now = search rules in
-    let places = c.in_ok-positions.ensures.places ∙ ap (λ t. positions_moved t c.positions-2.result) same in
+    let places = c.in_ok-positions.ensures.places
+    ∙ ap (λ t. positions_moved t c.positions-2.result) same in
     subst (λ p. AreAt (string_bytes c.in-Ok.text) p) (sym places)
     (subst (λ t. AreAt t (positions_moved text c.positions-2.result)) (sym (written ∙ ap encoded_text same))
     (moved_at g.R.RiMaybeRef.kind g.met.R.RiMaybeRef.component_sets text

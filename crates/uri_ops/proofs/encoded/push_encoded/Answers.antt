@@ -12,7 +12,8 @@ loop-done-preserved-then-byte-ge128 c =
     let i = c.loop-done.done in
     let out = c.loop-done.out.items in
     let octet : c.extend_from_slice.new.self.items ≡ out ++ octet_text (slice_index bytes i) =
-    c.in_ok-extend_from_slice.ensures.items ∙ ap (λ t. out ++ t) (c.as_bytes.ensures.value ∙ c.pct_encoded.ensures) in
+    c.in_ok-extend_from_slice.ensures.items
+    ∙ ap (λ t. out ++ t) (c.as_bytes.ensures.value ∙ c.pct_encoded.ensures) in
     record {
       inside = omega arith;
       total = octet_total c.args.out.now.items out c.extend_from_slice.new.self.items bytes i c.loop-done-test.true c.if-byte-ge128.true c.loop-done.invariant.total octet;

@@ -9,6 +9,7 @@ returns-then-not-has_formatting c =
     let start = c.args.start in
     let whole = string_bytes c.args.out.now in
     let text = c.range_from.result.now in
-    let place : text ≡ drop start whole = c.range_from.ensures.value ∙ ap (drop start) c.as_str.ensures.value in
+    let place : text ≡ drop start whole = c.range_from.ensures.value
+    ∙ ap (drop start) c.as_str.ensures.value in
     let stays : written_text text ≡ text = written_text-none text c.range_from.utf8 (sym c.has_formatting.ensures ∙ c.if-not-has_formatting.true) in
     sym (ap (λ x. take start whole ++ written_text x) (sym place) ∙ ap (λ x. take start whole ++ x) (stays ∙ place) ∙ take-append-drop start whole)

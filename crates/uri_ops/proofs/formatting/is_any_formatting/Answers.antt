@@ -12,8 +12,10 @@ returns-then-is_bidi_formatting c =
     let held = c.loop-ch.invariant in
     let rest = chars_rest c.next.new.self in
     let step = chars_past_char _ _ c.in-Some.ch held.0 c.in-Some.ensures.steps.0 in
-    let found : is_bidi_formatting c.in-Some.ch ≡ true = sym c.is_bidi_formatting.ensures ∙ c.if-is_bidi_formatting.true in
-    sym (ap (λ b. b || list_any is_bidi_formatting (chars rest)) found) ∙ sym (ap (list_any is_bidi_formatting) step) ∙ held.1
+    let found : is_bidi_formatting c.in-Some.ch ≡ true = sym c.is_bidi_formatting.ensures
+    ∙ c.if-is_bidi_formatting.true in
+    sym (ap (λ b. b || list_any is_bidi_formatting (chars rest)) found)
+    ∙ sym (ap (list_any is_bidi_formatting) step) ∙ held.1
 
 pub loop-ch-preserved : goal.loop-ch-preserved
 loop-ch-preserved c =
@@ -21,10 +23,13 @@ loop-ch-preserved c =
     let rest = chars_rest c.next.new.self in
     let parts = c.in-Some.ensures.steps.0 in
     let step = chars_past_char _ _ c.in-Some.ch held.0 parts in
-    let other : is_bidi_formatting c.in-Some.ch ≡ false = sym c.is_bidi_formatting.ensures ∙ c.if-is_bidi_formatting.false in (
+    let other : is_bidi_formatting c.in-Some.ch ≡ false = sym c.is_bidi_formatting.ensures
+    ∙ c.if-is_bidi_formatting.false in (
       IsUtf8-past_char _ _ c.in-Some.ch held.0 parts,
-      sym (ap (λ b. b || list_any is_bidi_formatting (chars rest)) other) ∙ sym (ap (list_any is_bidi_formatting) step) ∙ held.1,
+      sym (ap (λ b. b || list_any is_bidi_formatting (chars rest)) other)
+          ∙ sym (ap (list_any is_bidi_formatting) step) ∙ held.1,
     )
 
 pub returns : goal.returns
-returns c = sym (ap (list_any is_bidi_formatting) (no_chars _ c.in-None.ensures.steps.0.0)) ∙ c.loop-ch.invariant.1
+returns c = sym (ap (list_any is_bidi_formatting) (no_chars _ c.in-None.ensures.steps.0.0))
+    ∙ c.loop-ch.invariant.1

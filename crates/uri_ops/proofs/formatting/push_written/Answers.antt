@@ -14,10 +14,14 @@ loop-ch-preserved c =
     let parts = c.in-Some.ensures.steps.0 in
     let step = ap (flat_map written_char) (chars_past_char _ _ c.in-Some.ch held.0 parts) in (
       IsUtf8-past_char _ _ c.in-Some.ch held.0 parts,
-      ap (λ x. x ++ rest) c.in_ok-push_char.ensures ∙ append_assoc out (written_char c.in-Some.ch) rest ∙ ap (λ x. out ++ x) (sym step) ∙ held.1,
+      ap (λ x. x ++ rest) c.in_ok-push_char.ensures
+          ∙ append_assoc out (written_char c.in-Some.ch) rest ∙ ap (λ x. out ++ x) (sym step)
+          ∙ held.1,
     )
 
 pub returns : goal.returns
 returns c =
     let out = string_bytes c.loop-ch.out in
-    sym (append-nil out) ∙ ap (λ x. out ++ flat_map written_char x) (sym (no_chars _ c.in-None.ensures.steps.0.0)) ∙ c.loop-ch.invariant.1
+    sym (append-nil out)
+    ∙ ap (λ x. out ++ flat_map written_char x) (sym (no_chars _ c.in-None.ensures.steps.0.0))
+    ∙ c.loop-ch.invariant.1

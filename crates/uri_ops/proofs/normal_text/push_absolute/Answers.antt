@@ -9,7 +9,8 @@ use Rattle.uri_ops.proofs.normal_text.push_absolute.Goals as goal
 
 -- the path has no dot segment
 lacks : (g : _) (c : goal.In_ok-push_guarded g) → lacks_dot_segments (text_of c.args.path) ≡ true
-lacks g c = ap lacks_dot_segments (sym c.as_str.ensures.text) ∙ c.has_dot_segments.ensures c.if-has_dot_segments.false
+lacks g c = ap lacks_dot_segments (sym c.as_str.ensures.text)
+    ∙ c.has_dot_segments.ensures c.if-has_dot_segments.false
 
 pub returns-clause-text : goal.returns-clause-text
 returns-clause-text g c = λ authority e.

@@ -4,7 +4,8 @@ use Rattle.uri_pct.specs.EStrs.{text_of}
 use Rattle.uri_parts.specs.Components.{starts}
 use Rattle.uri_ops.proofs.Normal.NormalPieces.{kept_path, and_off, absolute_starts}
 use Rattle.uri_ops.proofs.normal_text.push_path.Goals as goal
-use Rattle.uri_ops.proofs.normal_text.push_path.Goals.{else-has_scheme-via-then-has_scheme+else-is_absolute, else-has_scheme-via-else-has_scheme}
+use Rattle.uri_ops.proofs.normal_text.push_path.Goals.{else-has_scheme-via-then-has_scheme+else-is_absolute}
+use Rattle.uri_ops.proofs.normal_text.push_path.Goals.{else-has_scheme-via-else-has_scheme}
 
 pub returns-clause-text : goal.returns-clause-text
 returns-clause-text g c = λ scheme authority s a.

@@ -6,7 +6,8 @@ use Rattle.uri_pct.specs.Reading.{read_tokens}
 use Rattle.uri_pct.specs.Tables.{set_of}
 use Rattle.uri_pct.specs.Tokens.{tokens, print}
 use Rattle.uri_ops.specs.Models.Readings.{cased}
-use Rattle.uri_ops.proofs.Meanings.WrittenFormatting.{IsUtf8-cased, written_behind, written_cased, unwritten_cased}
+use Rattle.uri_ops.proofs.Meanings.WrittenFormatting.{IsUtf8-cased, written_behind, written_cased}
+use Rattle.uri_ops.proofs.Meanings.WrittenFormatting.{unwritten_cased}
 use Rattle.uri_ops.proofs.reading.push_cased.Goals as goal
 
 pub encode_formatting-requires : goal.encode_formatting-requires

@@ -15,14 +15,20 @@ loop-ch-preserved c =
     let rest = chars_rest c.next.new.self in
     let parts = c.in-Some.ensures.steps.0 in
     let lowered : str_to_ascii_lowercase (chars_rest c.loop-ch.ch-iterator) ≡ encode_utf8 (to_ascii_lowercase ch) ++ str_to_ascii_lowercase rest =
-    ap str_to_ascii_lowercase parts ∙ map-append to_ascii_lowercase (encode_utf8 ch) rest ∙ ap (λ x. x ++ str_to_ascii_lowercase rest) (sym (lower_char ch)) in
+    ap str_to_ascii_lowercase parts ∙ map-append to_ascii_lowercase (encode_utf8 ch) rest
+    ∙ ap (λ x. x ++ str_to_ascii_lowercase rest) (sym (lower_char ch)) in
     let pushed : string_bytes c.push.new.self ≡ out ++ encode_utf8 (to_ascii_lowercase ch) =
-    c.in_ok-push.ensures.bytes ∙ ap (λ x. out ++ encode_utf8 x) c.to_ascii_lowercase.ensures.value in (
+    c.in_ok-push.ensures.bytes
+    ∙ ap (λ x. out ++ encode_utf8 x) c.to_ascii_lowercase.ensures.value in (
       IsUtf8-past_char _ _ ch held.0 parts,
-      ap (λ x. x ++ str_to_ascii_lowercase rest) pushed ∙ append_assoc out (encode_utf8 (to_ascii_lowercase ch)) (str_to_ascii_lowercase rest) ∙ ap (λ x. out ++ x) (sym lowered) ∙ held.1,
+      ap (λ x. x ++ str_to_ascii_lowercase rest) pushed
+          ∙ append_assoc out (encode_utf8 (to_ascii_lowercase ch)) (str_to_ascii_lowercase rest)
+          ∙ ap (λ x. out ++ x) (sym lowered) ∙ held.1,
     )
 
 pub returns : goal.returns
 returns c =
     let out = string_bytes c.loop-ch.out in
-    sym (append-nil out) ∙ ap (λ x. out ++ str_to_ascii_lowercase x) (sym (nil_from_length _ c.in-None.ensures.steps.0.0)) ∙ c.loop-ch.invariant.1
+    sym (append-nil out)
+    ∙ ap (λ x. out ++ str_to_ascii_lowercase x) (sym (nil_from_length _ c.in-None.ensures.steps.0.0))
+    ∙ c.loop-ch.invariant.1

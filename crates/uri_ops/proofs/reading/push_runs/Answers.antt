@@ -1,4 +1,5 @@
-use Rattle.std.proofs.Common.{◌≡◌, ◌+◌, ◌-◌, ◌++◌, ◌<◌, ◌≤◌, ◌⊎◌, inl, inr, false, true, not, eqb, get_or, length, drop, refl, sym, ap, ◌∙◌, subst, arith, string_bytes}
+use Rattle.std.proofs.Common.{◌≡◌, ◌+◌, ◌-◌, ◌++◌, ◌<◌, ◌≤◌, ◌⊎◌, inl, inr, false, true, not, eqb}
+use Rattle.std.proofs.Common.{get_or, length, drop, refl, sym, ap, ◌∙◌, subst, arith, string_bytes}
 use Rattle.std.specs.List.{position_or_len}
 use Rattle.std.proofs.lemmas.List.{length-drop}
 use Rattle.std.proofs.lemmas.Result.{on_ok_weaker}
@@ -6,16 +7,21 @@ use Rattle.std.proofs.lemmas.Str.{IsUtf8-drop, IsCharBoundary-start, IsCharBound
 use Rattle.uri_pct.specs.Sets.{is_unreserved}
 use Rattle.uri_pct.specs.Tables.{set_of}
 use Rattle.uri_ops.specs.Models.Readings.{IsFront, cased_text, text_read}
-use Rattle.uri_ops.proofs.Meanings.ReadFronts.{PlainFront, by_itself, octet_at, plain_front, kept_octet, no_front, front_more, front_written, all_written, behind_front, octet_step, lacks_past_ascii}
+use Rattle.uri_ops.proofs.Meanings.ReadFronts.{PlainFront, by_itself, octet_at, plain_front}
+use Rattle.uri_ops.proofs.Meanings.ReadFronts.{kept_octet, no_front, front_more, front_written}
+use Rattle.uri_ops.proofs.Meanings.ReadFronts.{all_written, behind_front, octet_step}
+use Rattle.uri_ops.proofs.Meanings.ReadFronts.{lacks_past_ascii}
 use Rattle.uri_ops.proofs.reading.push_runs.Goals as goal
-use Rattle.uri_ops.proofs.reading.push_runs.Goals.{else-high-ge56-via-then-high-ge56+else-not-alone, else-high-ge56-via-else-high-ge56}
+use Rattle.uri_ops.proofs.reading.push_runs.Goals.{else-high-ge56-via-then-high-ge56+else-not-alone}
+use Rattle.uri_ops.proofs.reading.push_runs.Goals.{else-high-ge56-via-else-high-ge56}
 
 pub loop-end-init : goal.loop-end-init
 loop-end-init c =
     let first = IsCharBoundary-start c.args.text.now c.utf8.text in
     record { order = omega arith; start = first; boundary = first; valid = c.requires; front = no_front c.args.lowers (set_of c.args.table.now) c.args.text.now; total = refl }
 
-plain : (c : goal.After-unencoded_len-end) → PlainFront (drop c.loop-end.end c.args.text.now) c.unencoded_len-end.result
+plain : (c : goal.After-unencoded_len-end)
+    → PlainFront (drop c.loop-end.end c.args.text.now) c.unencoded_len-end.result
 plain c =
     let held = c.loop-end.invariant in
     plain_front (drop c.loop-end.end c.args.text.now) c.unencoded_len-end.result (IsUtf8-drop c.args.text.now c.loop-end.end c.utf8.text held.boundary) held.valid
@@ -81,7 +87,8 @@ returns-then-not-alone c =
     let set = set_of c.args.table.now in
     let out = string_bytes c.loop-end.out in
     let held = c.loop-end.invariant in
-    let pushed = c.in_ok-push_plain-2.ensures ∙ ap (λ x. out ++ cased_text lowers x) c.range-then-not-alone.ensures.value in
+    let pushed = c.in_ok-push_plain-2.ensures
+    ∙ ap (λ x. out ++ cased_text lowers x) c.range-then-not-alone.ensures.value in
     let total = front_written lowers set text out (string_bytes c.push_plain-then-not-alone.new.out) (string_bytes c.args.out.now ++ text_read lowers set text) c.loop-end.done c.loop-end.end held.order held.front pushed held.total in
     on_ok_weaker c.push_parts.result
     (λ read. read ∙ ap (λ x. string_bytes c.push_plain-then-not-alone.new.out ++ text_read lowers set x) c.range_from-then-not-alone.ensures.value ∙ total)
@@ -99,7 +106,8 @@ loop-end-preserved-in-Some c =
     let whole = string_bytes c.args.out.now ++ text_read lowers set text in
     let held = c.loop-end.invariant in
     let at = octet_at c.as_bytes-bytes.result.now c.args.text.now c.loop-end.end c.as_bytes-bytes.ensures.value c.utf8.text held.boundary held.valid c.loop-end-test.true c.if-bytes-end-ne37.false in
-    let pushed = c.in_ok-push_plain.ensures ∙ ap (λ x. out ++ cased_text lowers x) c.range.ensures.value in
+    let pushed = c.in_ok-push_plain.ensures
+    ∙ ap (λ x. out ++ cased_text lowers x) c.range.ensures.value in
     let total = front_written lowers set text out front whole c.loop-end.done end held.order held.front pushed held.total in
     let either : (alone ≡ true) ⊎ (get_or c.as_bytes-bytes.result.now (end + 1) 0 < 56) = inr c.in-Some.ensures.2 in
     let itself = by_itself c.as_bytes-bytes.result.now text end at alone either in
@@ -149,7 +157,8 @@ loop-end-preserved c =
     let whole = string_bytes c.args.out.now ++ text_read lowers set text in
     let held = c.loop-end.invariant in
     let at = octet_at c.as_bytes-bytes.result.now c.args.text.now c.loop-end.end c.as_bytes-bytes.ensures.value c.utf8.text held.boundary held.valid c.loop-end-test.true c.if-bytes-end-ne37.false in
-    let pushed = c.in_ok-push_plain-3.ensures ∙ ap (λ x. out ++ cased_text lowers x) c.range-in-loop-end.ensures.value in
+    let pushed = c.in_ok-push_plain-3.ensures
+    ∙ ap (λ x. out ++ cased_text lowers x) c.range-in-loop-end.ensures.value in
     let total = front_written lowers set text out front whole c.loop-end.done end held.order held.front pushed held.total in
     let either : (alone ≡ true) ⊎ (get_or c.as_bytes-bytes.result.now (end + 1) 0 < 56) = elim c.else-high-ge56.branch [ else-high-ge56-via-then-high-ge56+else-not-alone w ↦ inl (ap not w.if-not-alone.false) | else-high-ge56-via-else-high-ge56 w ↦ inr w.if-high-ge56.false ] in
     let itself = by_itself c.as_bytes-bytes.result.now text end at alone either in

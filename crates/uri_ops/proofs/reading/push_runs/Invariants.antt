@@ -13,7 +13,8 @@ invariant-loop-end l = record {
   boundary : IsCharBoundary l.text l.end;
   valid : IsValidFor widest_set (drop l.end l.text);
   front : IsFront l.lowers (set_of l.table) (drop l.done l.text) (l.end - l.done);
-  total : string_bytes l.out ++ text_read l.lowers (set_of l.table) (drop l.done l.text) ≡ string_bytes l.fn.out ++ text_read l.lowers (set_of l.table) l.text;
+  total : string_bytes l.out ++ text_read l.lowers (set_of l.table) (drop l.done l.text)
+      ≡ string_bytes l.fn.out ++ text_read l.lowers (set_of l.table) l.text;
 }
 
 abbrev pub decreases-loop-end : goal.decreases-loop-end

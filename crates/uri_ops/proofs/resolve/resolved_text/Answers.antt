@@ -1,7 +1,8 @@
 use Rattle.std.proofs.Common.{◌≡◌, true, subst, sym}
 use Rattle.std.specs.Prelude.{is_some, string_bytes}
 use Rattle.std.proofs.lemmas.Result.{IfOk-weaker, IfErr-weaker}
-use Rattle.uri_ops.proofs.Targeting.ResolvedTexts.{target_of_kind, encoded_target, encoded_error, alike_target, alike_error}
+use Rattle.uri_ops.proofs.Targeting.ResolvedTexts.{target_of_kind, encoded_target, encoded_error}
+use Rattle.uri_ops.proofs.Targeting.ResolvedTexts.{alike_target, alike_error}
 use Rattle.uri_ops.specs.EncodedTargets.{IsTargetOfEncoded, IsErrorForEncoded}
 use Rattle.uri_ops.specs.NormalTargets.{IsTargetOfMeanings, IsErrorOfMeanings}
 use Rattle.uri_ops.specs.Resolving.{IsTarget, IsErrorFor, components_of}

@@ -13,7 +13,8 @@ use Rattle.uri_ops.proofs.target_text.push_target.Goals as goal
 pub push_guarded-requires-clause-authority : goal.push_guarded-requires-clause-authority
 push_guarded-requires-clause-authority c =
     let t = joined (components_of c.args.base.now) (components_of c.args.reference.now) in
-    c.is_some.ensures ∙ ap is_some c.authority-authority.ensures ∙ some_map (authority_at (marked_length 1 t.scheme + 2)) t.authority
+    c.is_some.ensures ∙ ap is_some c.authority-authority.ensures
+    ∙ some_map (authority_at (marked_length 1 t.scheme + 2)) t.authority
 
 pub returns-clause-text : goal.returns-clause-text
 returns-clause-text c =

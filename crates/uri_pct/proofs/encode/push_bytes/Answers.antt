@@ -19,8 +19,10 @@ loop-chunk-preserved c =
     let out = string_bytes c.loop-chunk.out in
     let mid = string_bytes c.push_text.new.out in
     let new = string_bytes c.push_octets.new.out in
-    let first : mid ≡ out ++ print (encode_text set text) = c.in_ok-push_text.ensures.ok ∙ ap (λ x. out ++ print (encode_text set x)) c.valid.ensures in
-    let then : new ≡ mid ++ print (map Octet fault) = c.in_ok-push_octets.ensures.ok ∙ ap (λ x. mid ++ print (map Octet x)) c.invalid.ensures in
+    let first : mid ≡ out ++ print (encode_text set text) = c.in_ok-push_text.ensures.ok
+    ∙ ap (λ x. out ++ print (encode_text set x)) c.valid.ensures in
+    let then : new ≡ mid ++ print (map Octet fault) = c.in_ok-push_octets.ensures.ok
+    ∙ ap (λ x. mid ++ print (map Octet x)) c.invalid.ensures in
     let pieces = chunk_pieces (utf8_chunks_rest c.loop-chunk.chunk-iterator) text fault rest steps.0 steps.3.0 steps.3.1 steps.2 in
     record {
       total = bytes_step set out mid new _ text fault rest _ (subst IsUtf8 c.valid.ensures c.valid.utf8) pieces first then c.loop-chunk.invariant.total;

@@ -1,4 +1,5 @@
-use Rattle.std.proofs.Common.{◌≡◌, ◌-◌, ◌++◌, length, take, drop, ap, ◌∙◌, arith, refl, string_bytes, take_all, map}
+use Rattle.std.proofs.Common.{◌≡◌, ◌-◌, ◌++◌, length, take, drop, ap, ◌∙◌, arith, refl}
+use Rattle.std.proofs.Common.{string_bytes, take_all, map}
 use Rattle.std.proofs.lemmas.Str.{IsCharBoundary-start}
 use Rattle.uri_pct.specs.Tables.{set_of}
 use Rattle.uri_pct.specs.Tokens.{Octet, print}
@@ -13,7 +14,8 @@ pub returns-in_err-push_octets-clause-keeps : goal.returns-in_err-push_octets-cl
 returns-in_err-push_octets-clause-keeps c =
     let old = string_bytes c.args.out.now in
     let copied : string_bytes c.push_str.new.self ≡ string_bytes c.loop-done.out ++ c.range.result.now = c.in_ok-push_str.ensures.bytes in
-    let mid = ap (take (length old)) copied ∙ kept_more old (string_bytes c.loop-done.out) c.range.result.now c.loop-done.invariant.keeps in
+    let mid = ap (take (length old)) copied
+    ∙ kept_more old (string_bytes c.loop-done.out) c.range.result.now c.loop-done.invariant.keeps in
     kept_on old (string_bytes c.push_str.new.self) (string_bytes c.push_octets.new.out) mid c.in_err-push_octets.ensures.keeps
 
 pub loop-done-preserved : goal.loop-done-preserved
@@ -27,9 +29,11 @@ loop-done-preserved c =
     let mid = string_bytes c.push_str.new.self in
     let new = string_bytes c.push_octets.new.out in
     let pushed : mid ≡ out ++ c.range.result.now = c.in_ok-push_str.ensures.bytes in
-    let copied : mid ≡ out ++ take (end - done) (drop done text) = pushed ∙ ap (λ x. out ++ x) c.range.ensures.value in
+    let copied : mid ≡ out ++ take (end - done) (drop done text) = pushed
+    ∙ ap (λ x. out ++ x) c.range.ensures.value in
     let octets : new ≡ mid ++ print (map Octet (take (next - end) (drop end text))) =
-    c.in_ok-push_octets.ensures.ok ∙ ap (λ x. mid ++ print (map Octet (take (next - end) (drop end x)))) c.as_bytes.ensures.value in
+    c.in_ok-push_octets.ensures.ok
+    ∙ ap (λ x. mid ++ print (map Octet (take (next - end) (drop end x)))) c.as_bytes.ensures.value in
     record {
       boundary = c.refused_end-next.ensures.boundary;
       total = run_step (set_of c.args.table.now) out mid new text _ done end next c.kept_end-end.ensures.kept c.refused_end-next.ensures.octets copied octets c.loop-done.invariant.total;

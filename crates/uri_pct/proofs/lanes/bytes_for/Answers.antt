@@ -1,4 +1,5 @@
-use Rattle.std.proofs.Common.{◌≡◌, ◌∙◌, ◌/◌, ◌%◌, ◌^◌, ap, subst, sym, map, replicate, length, get_or, List, ℕ, bit_and, w8}
+use Rattle.std.proofs.Common.{◌≡◌, ◌∙◌, ◌/◌, ◌%◌, ◌^◌, ap, subst, sym, map, replicate, length}
+use Rattle.std.proofs.Common.{get_or, List, ℕ, bit_and, w8}
 use Rattle.std.proofs.lemmas.Nat.{and_mask}
 use Rattle.std.proofs.lemmas.List.{length-map}
 use Rattle.std.proofs.lemmas.Simd.{zip2_splat, SwzOk, swz_l, map-map}
@@ -7,7 +8,9 @@ use Rattle.uri_pct.specs.Models.LaneMasks.{bytes_of_masks}
 use Rattle.uri_pct.proofs.LaneScans.LaneMasks.{swizzles, looked_up, byte_place, byte_there}
 use Rattle.uri_pct.proofs.lanes.bytes_for.Goals as goal
 
-places : (v : List ℕ) → length v ≡ 16 → zip2 bit_and (zip2 (λ a b. a / 2 ^ b) v (replicate 16 3)) (replicate 16 15) ≡ map (λ b. b / 8 % 16) v
+places : (v : List ℕ) → length v ≡ 16
+    → zip2 bit_and (zip2 (λ a b. a / 2 ^ b) v (replicate 16 3)) (replicate 16 15)
+    ≡ map (λ b. b / 8 % 16) v
 places v long =
     ap (λ l. zip2 bit_and l (replicate 16 15)) (zip2_splat (λ a b. a / 2 ^ b) v 16 3 long)
     ∙ zip2_splat bit_and (map (λ b. b / 8) v) 16 15 (length-map v (λ b. b / 8) ∙ long)
@@ -22,4 +25,5 @@ swizzle c =
 pub returns : goal.returns
 returns c =
     let xs = bytes_of_masks c.args.low c.args.high in
-    ap (swz_l w8 16 xs 0) (places c.args.lanes c.fits-lanes.0) ∙ looked_up xs c.args.lanes (λ b. b / 8 % 16) (λ b. get_or xs (b / 8 % 16) 0) c.fits-lanes.0 c.fits-lanes.1 (byte_there xs)
+    ap (swz_l w8 16 xs 0) (places c.args.lanes c.fits-lanes.0)
+    ∙ looked_up xs c.args.lanes (λ b. b / 8 % 16) (λ b. get_or xs (b / 8 % 16) 0) c.fits-lanes.0 c.fits-lanes.1 (byte_there xs)

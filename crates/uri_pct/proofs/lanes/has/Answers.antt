@@ -15,9 +15,11 @@ returns c =
     ap (λ n. eqb n 1) (shr_and_one mask (bit_and b 63)) ∙ elim c.if-byte-lt64.branch [
       | then-byte-lt64 w ↦
           let place : bit_and b 63 ≡ b = and_mask b 6 ∙ omega (arith, w.if-byte-lt64.true) in
-          ap (λ k. eqb (bit_at mask k) 1) place ∙ ap (λ m. eqb (bit_at m b) 1) w.mask-is ∙ sym (has_low_bit low high b w.if-byte-lt64.true)
+          ap (λ k. eqb (bit_at mask k) 1) place ∙ ap (λ m. eqb (bit_at m b) 1) w.mask-is
+          ∙ sym (has_low_bit low high b w.if-byte-lt64.true)
       | else-byte-lt64 w ↦
           let from : 64 ≤ b = omega (arith, w.if-byte-lt64.false) in
           let place : bit_and b 63 ≡ b - 64 = and_mask b 6 ∙ omega (arith, from, c.requires) in
-          ap (λ k. eqb (bit_at mask k) 1) place ∙ ap (λ m. eqb (bit_at m (b - 64)) 1) w.mask-is ∙ sym (has_high_bit low high b from c.requires)
+          ap (λ k. eqb (bit_at mask k) 1) place ∙ ap (λ m. eqb (bit_at m (b - 64)) 1) w.mask-is
+          ∙ sym (has_high_bit low high b from c.requires)
     ]

@@ -1,14 +1,21 @@
-use Rattle.std.proofs.Common.{◌≡◌, ◌+◌, ◌-◌, ◌/◌, ◌^◌, ◌≤◌, ℕ, List, length, map, not, arith, subst, sym}
+use Rattle.std.proofs.Common.{◌≡◌, ◌+◌, ◌-◌, ◌/◌, ◌^◌, ◌≤◌, ℕ, List, length, map, not, arith, subst}
+use Rattle.std.proofs.Common.{sym}
 use Rattle.std.specs.Simd.Lanes.{mask_l, chunk}
-use Rattle.uri_pct.proofs.LaneScans.LaneRuns.{LaneMarks, marks_of_load, marks_behind, goes_on, ends_there}
+use Rattle.uri_pct.proofs.LaneScans.LaneRuns.{LaneMarks, marks_of_load, marks_behind, goes_on}
+use Rattle.uri_pct.proofs.LaneScans.LaneRuns.{ends_there}
 use Rattle.uri_pct.specs.Masks.{has_bit}
 use Rattle.uri_pct.proofs.lanes.run_end.Goals as goal
 
 -- what a block's mask says, and that of the last sixteen bytes behind those that are passed
-block : (low high : ℕ) (bs : List ℕ) (i mask : ℕ) → i + 16 ≤ length bs → mask ≡ mask_l (map (λ b. not (has_bit low high b)) (chunk i 16 bs)) → LaneMarks (has_bit low high) bs i 16 mask
+block : (low high : ℕ) (bs : List ℕ) (i mask : ℕ) → i + 16 ≤ length bs
+    → mask ≡ mask_l (map (λ b. not (has_bit low high b)) (chunk i 16 bs))
+    → LaneMarks (has_bit low high) bs i 16 mask
 block low high bs i mask room e = subst (LaneMarks (has_bit low high) bs i 16) (sym e) (marks_of_load (has_bit low high) bs i 16 room)
 
-behind : (low high : ℕ) (bs : List ℕ) (i mask : ℕ) → 16 ≤ length bs → i ≤ length bs → length bs ≤ i + 16 → mask ≡ mask_l (map (λ b. not (has_bit low high b)) (chunk (length bs - 16) 16 bs)) → LaneMarks (has_bit low high) bs i (length bs - i) (mask / 2 ^ (i - (length bs - 16)))
+behind : (low high : ℕ) (bs : List ℕ) (i mask : ℕ) → 16 ≤ length bs → i ≤ length bs
+    → length bs ≤ i + 16
+    → mask ≡ mask_l (map (λ b. not (has_bit low high b)) (chunk (length bs - 16) 16 bs))
+    → LaneMarks (has_bit low high) bs i (length bs - i) (mask / 2 ^ (i - (length bs - 16)))
 behind low high bs i mask long within near e =
     let s : ℕ = i - (length bs - 16) in
     let whole : length bs - i + s ≡ 16 = omega arith in

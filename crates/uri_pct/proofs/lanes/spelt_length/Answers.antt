@@ -1,4 +1,5 @@
-use Rattle.std.proofs.Common.{◌≡◌, ◌+◌, ◌^◌, ◌<◌, ◌≤◌, ℕ, eqb, length, subst, sym, ap, arith, ◌∙◌, w64}
+use Rattle.std.proofs.Common.{◌≡◌, ◌+◌, ◌^◌, ◌<◌, ◌≤◌, ℕ, eqb, length, subst, sym, ap, arith, ◌∙◌}
+use Rattle.std.proofs.Common.{w64}
 use Rattle.std.specs.Int.{bit_at, bit_not, trailing_zeros}
 use Rattle.std.proofs.lemmas.Nat.{and_le_l}
 use Rattle.std.proofs.lemmas.Nat.Bits.{bit_at-zero}
@@ -19,7 +20,10 @@ returns-then-open-eq0-clause-spelt c =
     (λ k h. ap (λ m. eqb (bit_at m k) 1) c.if-open-eq0.true ∙ ap (λ m. eqb m 1) (bit_at-zero k)) (λ h. absurd (omega arith))
 
 -- the first lane that is open
-first : (misses begun : ℕ) → misses < 2 ^ 16 → (opened misses begun ≡ 0 → ⊥) → (trailing_zeros w64 (opened misses begun) < 16) × (bit_at (opened misses begun) (trailing_zeros w64 (opened misses begun)) ≡ 1) × ((k : ℕ) → k < trailing_zeros w64 (opened misses begun) → bit_at (opened misses begun) k ≡ 0)
+first : (misses begun : ℕ) → misses < 2 ^ 16 → (opened misses begun ≡ 0 → ⊥)
+    → (trailing_zeros w64 (opened misses begun) < 16)
+    × (bit_at (opened misses begun) (trailing_zeros w64 (opened misses begun)) ≡ 1)
+    × ((k : ℕ) → k < trailing_zeros w64 (opened misses begun) → bit_at (opened misses begun) k ≡ 0)
 first misses begun small some = first_lane (opened misses begun) (omega (arith, small, and_le_l misses (bit_not w64 (covered begun)))) some
 
 pub returns-clause-few : goal.returns-clause-few

@@ -20,5 +20,6 @@ loop-chunk-preserved g c = λ u h.
 
 pub returns : goal.returns
 returns g c =
-    let none : utf8_pieces (utf8_chunks_rest c.loop-chunk.chunk-iterator) ≡ [] = ap utf8_pieces (nil_from_length (utf8_chunks_rest c.loop-chunk.chunk-iterator) c.in-None.ensures.steps.0) ∙ nil_pieces in
+    let none : utf8_pieces (utf8_chunks_rest c.loop-chunk.chunk-iterator) ≡ [] = ap utf8_pieces (nil_from_length (utf8_chunks_rest c.loop-chunk.chunk-iterator) c.in-None.ensures.steps.0)
+    ∙ nil_pieces in
     c.loop-chunk.invariant c.loop-chunk.taker (subst (λ ps. g.T.TakeParts.took c.loop-chunk.taker (map Read ps) c.loop-chunk.taker) (sym none) (g.met.T.TakeParts.takes_nothing c.loop-chunk.taker))

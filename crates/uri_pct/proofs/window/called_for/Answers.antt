@@ -1,5 +1,6 @@
 use Rattle.std.proofs.Common.{sym, arith}
-use Rattle.uri_pct.proofs.Unicode.Unfinished.{called_for_1, called_for_2, called_for_3, called_for_none, called_for_past}
+use Rattle.uri_pct.proofs.Unicode.Unfinished.{called_for_1, called_for_2, called_for_3}
+use Rattle.uri_pct.proofs.Unicode.Unfinished.{called_for_none, called_for_past}
 use Rattle.uri_pct.proofs.window.called_for.Goals as goal
 
 pub returns-in-194-to-223 : goal.returns-in-194-to-223

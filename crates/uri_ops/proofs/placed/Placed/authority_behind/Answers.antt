@@ -13,7 +13,8 @@ moved-requires-clause-host_end c = (within c.args.self.now.text.now c.args.self.
 
 pub moved-requires-clause-end : goal.moved-requires-clause-end
 moved-requires-clause-end c =
-    (within c.args.self.now.text.now c.args.self.now.positions c.in_ok-places.places c.args.self.now.at c.args.self.now.host c.in_ok-places.was).end ∙ sym (ap length c.before_path.ensures)
+    (within c.args.self.now.text.now c.args.self.now.positions c.in_ok-places.places c.args.self.now.at c.args.self.now.host c.in_ok-places.was).end
+    ∙ sym (ap length c.before_path.ensures)
 
 pub returns : goal.returns
 returns c =

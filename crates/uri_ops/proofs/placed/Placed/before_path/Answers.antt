@@ -9,5 +9,6 @@ range-requires-clause-end_boundary c = front_cut c.as_str-text.result.now c.args
 
 pub returns : goal.returns
 returns c =
-    c.range.ensures.value ∙ front_piece c.as_str-text.result.now c.args.self.now.positions c.as_str-text.utf8 c.as_str-text.ensures.at
+    c.range.ensures.value
+    ∙ front_piece c.as_str-text.result.now c.args.self.now.positions c.as_str-text.utf8 c.as_str-text.ensures.at
     ∙ ap (λ t. front_text (components t)) c.as_str-text.ensures.text

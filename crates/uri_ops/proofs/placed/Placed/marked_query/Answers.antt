@@ -15,6 +15,7 @@ range-requires-clause-end_boundary c =
 
 pub returns : goal.returns
 returns c =
-    c.range.ensures.value ∙ ap (slice_range c.as_str-text.result.now c.args.self.now.positions.path_end) c.before_fragment.ensures
+    c.range.ensures.value
+    ∙ ap (slice_range c.as_str-text.result.now c.args.self.now.positions.path_end) c.before_fragment.ensures
     ∙ query_piece c.as_str-text.result.now c.args.self.now.positions c.as_str-text.utf8 c.as_str-text.ensures.at
     ∙ ap (λ t. marked (codes "?") (components t).query []) c.as_str-text.ensures.text

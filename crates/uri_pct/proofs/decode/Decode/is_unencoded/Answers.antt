@@ -4,4 +4,5 @@ use Rattle.uri_pct.proofs.TableSets.Percent.{lacks_unless_found}
 use Rattle.uri_pct.proofs.decode.Decode.is_unencoded.Goals as goal
 
 pub returns : goal.returns
-returns c = ap not c.contains.ensures.value ∙ lacks_unless_found 37 c.as_bytes.result.now ∙ ap is_unencoded c.as_bytes.ensures.value
+returns c = ap not c.contains.ensures.value ∙ lacks_unless_found 37 c.as_bytes.result.now
+    ∙ ap is_unencoded c.as_bytes.ensures.value

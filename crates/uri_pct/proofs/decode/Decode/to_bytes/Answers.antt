@@ -5,12 +5,14 @@ use Rattle.std.proofs.lemmas.Grind.{common_steps}
 use Rattle.uri_pct.specs.Chunks.{chunk_bytes}
 use Rattle.uri_pct.specs.Decodes.{chunks_left, decoded}
 use Rattle.uri_pct.specs.Tokens.{tokens}
-use Rattle.uri_pct.proofs.Unicode.PartPieces.{token_bytes-unencoded, chunk_bytes-chunks_of, left_decoded}
+use Rattle.uri_pct.proofs.Unicode.PartPieces.{token_bytes-unencoded, chunk_bytes-chunks_of}
+use Rattle.uri_pct.proofs.Unicode.PartPieces.{left_decoded}
 use Rattle.uri_pct.proofs.decode.Decode.to_bytes.Goals as goal
 
 pub returns-then-is_unencoded-clause-bytes : goal.returns-then-is_unencoded-clause-bytes
 returns-then-is_unencoded-clause-bytes c =
-    c.as_bytes.ensures.value ∙ sym (token_bytes-unencoded c.args.self.rest.now (subst IsUtf8 c.as_bytes.ensures.value c.as_bytes.ensures.utf8) (sym c.is_unencoded.ensures ∙ c.if-is_unencoded.true))
+    c.as_bytes.ensures.value
+    ∙ sym (token_bytes-unencoded c.args.self.rest.now (subst IsUtf8 c.as_bytes.ensures.value c.as_bytes.ensures.utf8) (sym c.is_unencoded.ensures ∙ c.if-is_unencoded.true))
 
 pub loop-chunk-init : goal.loop-chunk-init
 loop-chunk-init c =
@@ -19,7 +21,8 @@ loop-chunk-init c =
     ∙ chunk_bytes-chunks_of (tokens c.args.self.rest.now)
 
 pub returns-then-is_unencoded-clause-left : goal.returns-then-is_unencoded-clause-left
-returns-then-is_unencoded-clause-left c = returns-then-is_unencoded-clause-bytes c ∙ sym (left_decoded c.args.self)
+returns-then-is_unencoded-clause-left c = returns-then-is_unencoded-clause-bytes c
+    ∙ sym (left_decoded c.args.self)
 
 pub returns-clause-left : goal.returns-clause-left
 returns-clause-left c =

@@ -15,7 +15,8 @@ pub returns-clause-text : goal.returns-clause-text
 returns-clause-text c = taken_text c.args.self.rest.now _ c.take_parts.new.taker c.args.self.whole c.in_ok-with_capacity.ensures.bytes c.in_ok-take_parts.ensures
 
 pub returns-then-is_unencoded-clause-left : goal.returns-then-is_unencoded-clause-left
-returns-then-is_unencoded-clause-left c = returns-then-is_unencoded-clause-text c ∙ ap lossy_text (sym (left_decoded c.args.self))
+returns-then-is_unencoded-clause-left c = returns-then-is_unencoded-clause-text c
+    ∙ ap lossy_text (sym (left_decoded c.args.self))
 
 pub returns-clause-left : goal.returns-clause-left
 returns-clause-left c = returns-clause-text c ∙ ap lossy_text (sym (left_decoded c.args.self))

@@ -1,17 +1,20 @@
-use Rattle.std.proofs.Common.{◌≡◌, ◌∷◌, [], ◌+◌, ◌*◌, ℕ, List, eqb, length, get_or, drop, sym, ap, ◌∙◌, subst, arith, rules}
+use Rattle.std.proofs.Common.{◌≡◌, ◌∷◌, [], ◌+◌, ◌*◌, ℕ, List, eqb, length, get_or, drop, sym, ap}
+use Rattle.std.proofs.Common.{◌∙◌, subst, arith, rules}
 use Rattle.std.specs.Char.{digit_value, is_ascii_hexdigit}
 use Rattle.std.specs.List.{position_or_len}
 use Rattle.std.specs.Str.{IsUtf8}
 use Rattle.uri_pct.specs.Chunks.{Byte, Text, chunks, widest_set}
 use Rattle.uri_pct.specs.Tokens.{IsValidFor}
-use Rattle.uri_pct.proofs.Decodings.Decoding.{octet_of_bytes, text_of_bytes, octet_boundary, chunks-octet, chunks-nil}
+use Rattle.uri_pct.proofs.Decodings.Decoding.{octet_of_bytes, text_of_bytes, octet_boundary}
+use Rattle.uri_pct.proofs.Decodings.Decoding.{chunks-octet, chunks-nil}
 use Rattle.std.proofs.lemmas.List.{nil_from_length}
 use Rattle.std.proofs.lemmas.Bool.{eqb-true}
 use Rattle.uri_pct.proofs.decode.DecodeIterator.next.Goals as goal
 
 pub returns-then-is_empty-clause-steps : goal.returns-then-is_empty-clause-steps
 returns-then-is_empty-clause-steps c =
-    let none : chunks c.args.self.now.rest.now ≡ [] = ap chunks (sym c.as_bytes-bytes.ensures.value ∙ nil_from_length c.as_bytes-bytes.result.now (eqb-true _ 0 (sym c.is_empty.ensures ∙ c.if-is_empty.true))) ∙ chunks-nil in
+    let none : chunks c.args.self.now.rest.now ≡ [] = ap chunks (sym c.as_bytes-bytes.ensures.value ∙ nil_from_length c.as_bytes-bytes.result.now (eqb-true _ 0 (sym c.is_empty.ensures ∙ c.if-is_empty.true)))
+    ∙ chunks-nil in
     (none, none)
 
 pub bounds-bytes-1 : goal.bounds-bytes-1
@@ -29,12 +32,14 @@ bounds-bytes-2 c =
 pub octet_value-value-requires-clause-high : goal.octet_value-value-requires-clause-high
 octet_value-value-requires-clause-high c =
     let o = octet_of_bytes c.as_bytes-bytes.result.now c.args.self.now.rest.now c.as_bytes-bytes.ensures.value c.as_bytes-bytes.ensures.utf8 c.args.self.now.whole (sym c.is_empty.ensures ∙ c.if-is_empty.false) c.if-bytes-eq37.true in
-    ap (λ (x : List ℕ). is_ascii_hexdigit (get_or x 1 0)) (c.as_bytes-bytes.ensures.value ∙ o.spelt) ∙ o.high_digit
+    ap (λ (x : List ℕ). is_ascii_hexdigit (get_or x 1 0)) (c.as_bytes-bytes.ensures.value ∙ o.spelt)
+    ∙ o.high_digit
 
 pub octet_value-value-requires-clause-low : goal.octet_value-value-requires-clause-low
 octet_value-value-requires-clause-low c =
     let o = octet_of_bytes c.as_bytes-bytes.result.now c.args.self.now.rest.now c.as_bytes-bytes.ensures.value c.as_bytes-bytes.ensures.utf8 c.args.self.now.whole (sym c.is_empty.ensures ∙ c.if-is_empty.false) c.if-bytes-eq37.true in
-    ap (λ (x : List ℕ). is_ascii_hexdigit (get_or x 2 0)) (c.as_bytes-bytes.ensures.value ∙ o.spelt) ∙ o.low_digit
+    ap (λ (x : List ℕ). is_ascii_hexdigit (get_or x 2 0)) (c.as_bytes-bytes.ensures.value ∙ o.spelt)
+    ∙ o.low_digit
 
 pub range_from-self-requires : goal.range_from-self-requires
 range_from-self-requires c =
@@ -44,17 +49,23 @@ range_from-self-requires c =
 pub invariant_of-self : goal.invariant_of-self
 invariant_of-self c =
     let o = octet_of_bytes c.as_bytes-bytes.result.now c.args.self.now.rest.now c.as_bytes-bytes.ensures.value c.as_bytes-bytes.ensures.utf8 c.args.self.now.whole (sym c.is_empty.ensures ∙ c.if-is_empty.false) c.if-bytes-eq37.true in
-    let behind : c.range_from-self.result.now ≡ o.behind = c.range_from-self.ensures.value ∙ ap (drop 3) o.spelt in
+    let behind : c.range_from-self.result.now ≡ o.behind = c.range_from-self.ensures.value
+    ∙ ap (drop 3) o.spelt in
     record { whole = subst (IsValidFor widest_set) (sym behind) o.valid }
 
-octet_steps : (c : goal.After-self-1) → chunks c.args.self.now.rest.now ≡ Byte c.octet_value-value.result ∷ chunks c.range_from-self.result.now
+octet_steps : (c : goal.After-self-1)
+    → chunks c.args.self.now.rest.now
+    ≡ Byte c.octet_value-value.result ∷ chunks c.range_from-self.result.now
 octet_steps c =
     let o = octet_of_bytes c.as_bytes-bytes.result.now c.args.self.now.rest.now c.as_bytes-bytes.ensures.value c.as_bytes-bytes.ensures.utf8 c.args.self.now.whole (sym c.is_empty.ensures ∙ c.if-is_empty.false) c.if-bytes-eq37.true in
     let spelt = c.as_bytes-bytes.ensures.value ∙ o.spelt in
-    let behind : c.range_from-self.result.now ≡ o.behind = c.range_from-self.ensures.value ∙ ap (drop 3) o.spelt in
+    let behind : c.range_from-self.result.now ≡ o.behind = c.range_from-self.ensures.value
+    ∙ ap (drop 3) o.spelt in
     let value : c.octet_value-value.result ≡ 16 * digit_value o.high + digit_value o.low =
-    c.octet_value-value.ensures ∙ ap (λ (x : List ℕ). 16 * digit_value (get_or x 1 0) + digit_value (get_or x 2 0)) spelt in
-    chunks-octet c.args.self.now.rest.now o ∙ ap (λ v. Byte v ∷ chunks o.behind) (sym value) ∙ ap (λ x. Byte c.octet_value-value.result ∷ chunks x) (sym behind)
+    c.octet_value-value.ensures
+    ∙ ap (λ (x : List ℕ). 16 * digit_value (get_or x 1 0) + digit_value (get_or x 2 0)) spelt in
+    chunks-octet c.args.self.now.rest.now o ∙ ap (λ v. Byte v ∷ chunks o.behind) (sym value)
+    ∙ ap (λ x. Byte c.octet_value-value.result ∷ chunks x) (sym behind)
 
 pub returns-then-bytes-eq37-clause-steps : goal.returns-then-bytes-eq37-clause-steps
 returns-then-bytes-eq37-clause-steps c = octet_steps c
@@ -72,10 +83,13 @@ invariant_of-self-2 c =
     let t = text_of_bytes c.as_bytes-bytes.result.now c.args.self.now.rest.now c.unencoded_len.result c.as_bytes-bytes.ensures.value c.as_bytes-bytes.ensures.utf8 c.args.self.now.whole (sym c.is_empty.ensures ∙ c.if-is_empty.false) c.if-bytes-eq37.false (c.unencoded_len.ensures ∙ ap (position_or_len (λ b. eqb b 37)) (sym c.as_bytes-bytes.ensures.value)) in
     record { whole = subst (IsValidFor widest_set) (sym c.split_at.ensures.back) t.0.valid }
 
-text_steps : (c : goal.After-text-2-1) → chunks c.args.self.now.rest.now ≡ Text c.split_at.result.0.now ∷ chunks c.split_at.result.1.now
+text_steps : (c : goal.After-text-2-1)
+    → chunks c.args.self.now.rest.now
+    ≡ Text c.split_at.result.0.now ∷ chunks c.split_at.result.1.now
 text_steps c =
     let t = text_of_bytes c.as_bytes-bytes.result.now c.args.self.now.rest.now c.unencoded_len.result c.as_bytes-bytes.ensures.value c.as_bytes-bytes.ensures.utf8 c.args.self.now.whole (sym c.is_empty.ensures ∙ c.if-is_empty.false) c.if-bytes-eq37.false (c.unencoded_len.ensures ∙ ap (position_or_len (λ b. eqb b 37)) (sym c.as_bytes-bytes.ensures.value)) in
-    t.0.first ∙ ap (λ x. Text x ∷ chunks (drop c.unencoded_len.result c.args.self.now.rest.now)) (sym c.split_at.ensures.front)
+    t.0.first
+    ∙ ap (λ x. Text x ∷ chunks (drop c.unencoded_len.result c.args.self.now.rest.now)) (sym c.split_at.ensures.front)
     ∙ ap (λ x. Text c.split_at.result.0.now ∷ chunks x) (sym c.split_at.ensures.back)
 
 pub returns-clause-steps : goal.returns-clause-steps

@@ -3,7 +3,8 @@ use Rattle.std.proofs.lemmas.List.{take_all}
 use Rattle.std.proofs.lemmas.List.Folds.{list_any_more}
 use Rattle.uri_pct.specs.Sets.{is_one_of}
 use Rattle.uri_pct.specs.Masks.{has_bit}
-use Rattle.uri_pct.proofs.TableSets.Masks.{percent_bit, has_no_bits, has_bit_set_low, has_bit_set_high}
+use Rattle.uri_pct.proofs.TableSets.Masks.{percent_bit, has_no_bits, has_bit_set_low}
+use Rattle.uri_pct.proofs.TableSets.Masks.{has_bit_set_high}
 use Rattle.uri_pct.proofs.TableSets.Tables.{not_one_of, plain_bytes}
 use Rattle.uri_pct.proofs.table.Table.new.Goals as goal
 use Rattle.uri_pct.proofs.table.Table.new.Goals.{then-byte-lt64, else-byte-lt64}
@@ -16,7 +17,8 @@ loop-byte-preserved c = λ code.
     let here = get_or c.args.bytes.now c.loop-byte.byte-index 0 in
     let step : has_bit c.if-byte-lt64.low c.if-byte-lt64.high code ≡ (has_bit c.loop-byte.low c.loop-byte.high code || eqb here code) =
     elim c.if-byte-lt64.branch [
-      | then-byte-lt64 w ↦ (λ i. has_bit (w.low-is i) (w.high-is i) code) ∙ has_bit_set_low c.loop-byte.low c.loop-byte.high here code w.if-byte-lt64.true
+      | then-byte-lt64 w ↦ (λ i. has_bit (w.low-is i) (w.high-is i) code)
+          ∙ has_bit_set_low c.loop-byte.low c.loop-byte.high here code w.if-byte-lt64.true
       | else-byte-lt64 w ↦
           (λ i. has_bit (w.low-is i) (w.high-is i) code)
           ∙ has_bit_set_high c.loop-byte.low c.loop-byte.high here code w.if-byte-lt64.false (plain_bytes c.args.bytes.now c.requires c.loop-byte.byte-index 0 c.loop-byte-test.true).0
@@ -29,6 +31,7 @@ invariant_of-result c =
     let all : take c.loop-byte.byte-index c.args.bytes.now ≡ c.args.bytes.now = take_all c.loop-byte.byte-index c.args.bytes.now c.loop-byte-test.false in
     record {
       lacks_percent =
-          sym (percent_bit c.loop-byte.low c.loop-byte.high) ∙ c.loop-byte.invariant 37 ∙ ap (λ bs. is_one_of bs 37) all
+          sym (percent_bit c.loop-byte.low c.loop-byte.high) ∙ c.loop-byte.invariant 37
+          ∙ ap (λ bs. is_one_of bs 37) all
           ∙ not_one_of c.args.bytes.now 37 (λ k d within. (plain_bytes c.args.bytes.now c.requires k d within).1);
     }

@@ -29,7 +29,8 @@ loop-i-preserved c =
     let low : slice_index c.words-words.result 0 ≡ c.masks-low.result.0 = c.words-words.ensures.low in
     let high : slice_index c.words-words.result 1 ≡ c.masks-low.result.1 = c.words-words.ensures.high in
     let held : has_bit c.masks-low.result.0 c.masks-low.result.1 (get_or bs i 0) ≡ true = cc in
-    let allowed : has_bit table.low table.high (get_or bs i 0) ≡ true = sym (ap (λ f. f (get_or bs i 0)) c.masks-low.ensures) ∙ held in
+    let allowed : has_bit table.low table.high (get_or bs i 0) ≡ true = sym (ap (λ f. f (get_or bs i 0)) c.masks-low.ensures)
+    ∙ held in
     let below : get_or bs i 0 < 128 = bit_ascii _ _ _ allowed in
     let e = front-char (set_of table) (lacks_percent table) bs i (omega arith) below allowed in
     record { from = omega arith; boundary = IsCharBoundary-after_ascii bs i c.as_bytes-bytes.ensures.utf8 (omega arith) below; total = omega arith }

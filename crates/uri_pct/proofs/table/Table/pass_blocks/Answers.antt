@@ -11,9 +11,12 @@ use Rattle.uri_pct.proofs.ValidTexts.SpeltRuns.{spelt_read}
 use Rattle.uri_pct.proofs.table.Table.pass_blocks.Goals as goal
 
 -- one block further
-step : (t : Table) (low high : ℕ) (bs : List ℕ) (start i n : ℕ) → has_bit low high ≡ has_bit t.low t.high → t.pct_encoded ≡ true → IsUtf8 bs → IsCharBoundary bs i → i + 16 ≤ length bs → n ≤ 16 → AreSpelt (has_bit low high) bs i n
+step : (t : Table) (low high : ℕ) (bs : List ℕ) (start i n : ℕ)
+    → has_bit low high ≡ has_bit t.low t.high → t.pct_encoded ≡ true → IsUtf8 bs
+    → IsCharBoundary bs i → i + 16 ≤ length bs → n ≤ 16 → AreSpelt (has_bit low high) bs i n
     → i + front (set_of t) (drop i bs) ≡ start + front (set_of t) (drop start bs)
-    → (i + n + front (set_of t) (drop (i + n) bs) ≡ start + front (set_of t) (drop start bs)) × IsCharBoundary bs (i + n)
+    → (i + n + front (set_of t) (drop (i + n) bs) ≡ start + front (set_of t) (drop start bs))
+    × IsCharBoundary bs (i + n)
 step t low high bs start i n masks pct u here room few spelt before =
     let r = spelt_read (set_of t) (lacks_percent t) pct (bit_ascii t.low t.high) bs i n (omega arith) u here (subst (λ f. AreSpelt f bs i n) masks spelt) in
     (r.0 ∙ before, r.1)

@@ -8,7 +8,8 @@ abbrev pub invariant-loop-i : goal.invariant-loop-i
 invariant-loop-i l = record {
   from : l.initial.i ≤ l.i;
   boundary : IsCharBoundary l.bytes l.i;
-  total : l.i + front (set_of l.fn.self) (drop l.i l.bytes) ≡ l.initial.i + front (set_of l.fn.self) (drop l.initial.i l.bytes);
+  total : l.i + front (set_of l.fn.self) (drop l.i l.bytes)
+      ≡ l.initial.i + front (set_of l.fn.self) (drop l.initial.i l.bytes);
 }
 
 abbrev pub decreases-loop-i : goal.decreases-loop-i

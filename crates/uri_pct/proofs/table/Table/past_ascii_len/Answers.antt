@@ -9,7 +9,9 @@ use Rattle.uri_pct.proofs.ValidTexts.Fronts.{front-past-at}
 use Rattle.uri_pct.proofs.TableSets.LeadBytes.{two_read, three_read, char_read, lead_range}
 use Rattle.uri_pct.proofs.table.Table.past_ascii_len.Goals as goal
 
-two : (c : goal.Then-byte-lt224) → (front (set_of c.args.self.now) (drop c.args.index c.args.text.now) ≡ front (set_of c.args.self.now) (drop (c.args.index + 2) c.args.text.now) + 2) × IsCharBoundary c.args.text.now (c.args.index + 2)
+two : (c : goal.Then-byte-lt224)
+    → (front (set_of c.args.self.now) (drop c.args.index c.args.text.now) ≡ front (set_of c.args.self.now) (drop (c.args.index + 2) c.args.text.now) + 2)
+    × IsCharBoundary c.args.text.now (c.args.index + 2)
 two c =
     let text = c.args.text.now in
     let i = c.args.index in
@@ -24,7 +26,9 @@ returns-then-byte-lt224-clause-boundary c = (two c).1
 pub returns-then-byte-lt224-clause-allowed : goal.returns-then-byte-lt224-clause-allowed
 returns-then-byte-lt224-clause-allowed c = λ _. (two c).0
 
-three : (c : goal.Else-byte-lt224) → (front (set_of c.args.self.now) (drop c.args.index c.args.text.now) ≡ front (set_of c.args.self.now) (drop (c.args.index + 3) c.args.text.now) + 3) × IsCharBoundary c.args.text.now (c.args.index + 3)
+three : (c : goal.Else-byte-lt224)
+    → (front (set_of c.args.self.now) (drop c.args.index c.args.text.now) ≡ front (set_of c.args.self.now) (drop (c.args.index + 3) c.args.text.now) + 3)
+    × IsCharBoundary c.args.text.now (c.args.index + 3)
 three c =
     let text = c.args.text.now in
     let i = c.args.index in
@@ -44,7 +48,9 @@ returns-then-not-allows_past_ascii-clause-refused c = λ _.
     front-past-at (set_of c.args.self.now) c.args.text.now c.args.index c.char_at-ch.result c.utf8.text c.requires.here c.char_at-ch.ensures c.requires.past
     ∙ cond-false _ _ _ (sym c.allows_past_ascii.ensures ∙ c.if-not-allows_past_ascii.true)
 
-read_char : (c : goal.After-len_utf8) → (front (set_of c.args.self.now) (drop c.args.index c.args.text.now) ≡ front (set_of c.args.self.now) (drop (c.args.index + c.len_utf8.result) c.args.text.now) + c.len_utf8.result) × IsCharBoundary c.args.text.now (c.args.index + c.len_utf8.result)
+read_char : (c : goal.After-len_utf8)
+    → (front (set_of c.args.self.now) (drop c.args.index c.args.text.now) ≡ front (set_of c.args.self.now) (drop (c.args.index + c.len_utf8.result) c.args.text.now) + c.len_utf8.result)
+    × IsCharBoundary c.args.text.now (c.args.index + c.len_utf8.result)
 read_char c =
     char_read (set_of c.args.self.now) c.args.text.now _ c.args.index c.char_at-ch.result c.len_utf8.result c.utf8.text c.requires.here c.requires.inside c.requires.past c.char_at-ch.ensures
     (sym c.allows_past_ascii.ensures ∙ c.if-not-allows_past_ascii.false) (sym c.len_utf8.ensures.value)

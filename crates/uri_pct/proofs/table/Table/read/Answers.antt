@@ -4,7 +4,8 @@ use Rattle.uri_pct.specs.Tables.{set_of}
 use Rattle.uri_pct.proofs.ValidTexts.Fronts.{front-end, front-done}
 use Rattle.uri_pct.proofs.TableSets.Percent.{lacks_percent}
 use Rattle.uri_pct.proofs.table.Table.read.Goals as goal
-use Rattle.uri_pct.proofs.table.Table.read.Goals.{then-i-bytes-via-then-i-bytes, then-i-bytes-via-else-i-bytes+then-not-may_go_on}
+use Rattle.uri_pct.proofs.table.Table.read.Goals.{then-i-bytes-via-then-i-bytes}
+use Rattle.uri_pct.proofs.table.Table.read.Goals.{then-i-bytes-via-else-i-bytes+then-not-may_go_on}
 
 pub returns-then-start-bytes-clause-end : goal.returns-then-start-bytes-clause-end
 returns-then-start-bytes-clause-end c =

@@ -1,4 +1,5 @@
-use Rattle.std.proofs.Common.{◌≡◌, ◌+◌, ◌<◌, true, false, length, drop, get_or, arith, rules, ◌&&◌, sym, ◌∙◌, ap}
+use Rattle.std.proofs.Common.{◌≡◌, ◌+◌, ◌<◌, true, false, length, drop, get_or, arith, rules, ◌&&◌}
+use Rattle.std.proofs.Common.{sym, ◌∙◌, ap}
 use Rattle.std.proofs.lemmas.Bool.{and_left, and_right, ne_eqb}
 use Rattle.std.proofs.lemmas.Str.{IsCharBoundary-after_ascii}
 use Rattle.uri_pct.specs.Models.Fronts.{front}
@@ -8,7 +9,8 @@ use Rattle.uri_pct.proofs.ValidTexts.Fronts.{front-end, front-char, front-stop, 
 use Rattle.uri_pct.proofs.TableSets.Percent.{lacks_percent}
 use Rattle.uri_pct.proofs.ValidTexts.SpeltRuns.{octet_read}
 use Rattle.uri_pct.proofs.table.Table.read_on.Goals as goal
-use Rattle.uri_pct.proofs.table.Table.read_on.Goals.{then-not-allows_pct_encoded-via-then-not-allows_pct_encoded, then-not-allows_pct_encoded-via-else-not-allows_pct_encoded+then-not-begins_octet}
+use Rattle.uri_pct.proofs.table.Table.read_on.Goals.{then-not-allows_pct_encoded-via-then-not-allows_pct_encoded}
+use Rattle.uri_pct.proofs.table.Table.read_on.Goals.{then-not-allows_pct_encoded-via-else-not-allows_pct_encoded+then-not-begins_octet}
 
 pub past_ascii_len-length-requires-clause-past : goal.past_ascii_len-length-requires-clause-past
 past_ascii_len-length-requires-clause-past c = rw (← c.as_bytes-bytes.ensures.value) c.if-byte-ge128.true
@@ -56,7 +58,8 @@ loop-i-preserved c =
     let i = c.loop-i.i in
     let end = c.pass_plain-i.result in
     let same : bs ≡ c.args.text.now = c.as_bytes-bytes.ensures.value in
-    let inside : set.ascii (get_or bs i 0) ≡ true = sym (ap (λ f. f (get_or bs i 0)) c.masks-low.ensures) ∙ sym c.has.ensures ∙ c.if-not-has.false in
+    let inside : set.ascii (get_or bs i 0) ≡ true = sym (ap (λ f. f (get_or bs i 0)) c.masks-low.ensures)
+    ∙ sym c.has.ensures ∙ c.if-not-has.false in
     let e : front set (drop i bs) ≡ front set (drop (i + 1) bs) + 1 = front-char set (lacks_percent c.args.self) bs i c.loop-i-test.true (omega (arith, c.if-byte-ge128.false)) inside in
     let more : end + front set (drop end bs) ≡ i + 1 + front set (drop (i + 1) bs) = rw same c.pass_plain-i.ensures.total in
     record { boundary = rw same c.pass_plain-i.ensures.boundary; total = omega (arith, more, e, c.loop-i.invariant.total) }
@@ -94,6 +97,7 @@ returns-then-not-has-clause-end c =
     let set = set_of c.args.self in
     let bs = c.as_bytes-bytes.result.now in
     let i = c.loop-i.i in
-    let outside : set.ascii (get_or bs i 0) ≡ false = sym (ap (λ f. f (get_or bs i 0)) c.masks-low.ensures) ∙ sym c.has.ensures ∙ c.if-not-has.true in
+    let outside : set.ascii (get_or bs i 0) ≡ false = sym (ap (λ f. f (get_or bs i 0)) c.masks-low.ensures)
+    ∙ sym c.has.ensures ∙ c.if-not-has.true in
     let none : front set (drop i bs) ≡ 0 = front-stop set bs i c.loop-i-test.true (omega (arith, c.if-byte-ge128.false)) (ne_eqb _ _ c.if-byte-eq37.false) outside in
     rw (← c.as_bytes-bytes.ensures.value) (omega (arith, c.loop-i.invariant.total, none))

@@ -7,7 +7,8 @@ use Rattle.uri_pct.proofs.table.Table.read_on.Given as goal
 abbrev pub invariant-loop-i : goal.invariant-loop-i
 invariant-loop-i l = record {
   boundary : IsCharBoundary l.bytes l.i;
-  total : l.i + front (set_of l.self) (drop l.i l.bytes) ≡ l.initial.i + front (set_of l.self) (drop l.initial.i l.bytes);
+  total : l.i + front (set_of l.self) (drop l.i l.bytes)
+      ≡ l.initial.i + front (set_of l.self) (drop l.initial.i l.bytes);
 }
 
 abbrev pub decreases-loop-i : goal.decreases-loop-i

@@ -12,7 +12,8 @@ invariant_of-result c =
     let t = c.args.other.now in
     record {
       lacks_percent =
-          sym (percent_bit _ _) ∙ has_bit_without s.low s.high t.low t.high 37 (omega arith) (omega arith)
+          sym (percent_bit _ _)
+          ∙ has_bit_without s.low s.high t.low t.high 37 (omega arith) (omega arith)
           ∙ and_left (has_bit s.low s.high 37) (not (has_bit t.low t.high 37)) (lacks_percent s);
     }
 

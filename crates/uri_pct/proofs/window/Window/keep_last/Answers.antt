@@ -17,5 +17,6 @@ pub returns : goal.returns
 returns c =
     let w = c.args.self.now in
     let whole : length (take w.len w.bytes) ≡ w.len = omega (arith, length-take w.len w.bytes, w.fits) in
-    ap (take c.args.kept) c.copy_within.ensures.after ∙ moved w.bytes w.len c.args.kept (omega arith) (omega (arith, w.fits))
+    ap (take c.args.kept) c.copy_within.ensures.after
+    ∙ moved w.bytes w.len c.args.kept (omega arith) (omega (arith, w.fits))
     ∙ ap (λ n. drop (n - c.args.kept) (take w.len w.bytes)) (sym whole)

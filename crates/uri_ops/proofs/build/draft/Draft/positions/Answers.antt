@@ -1,6 +1,7 @@
 use Rattle.std.proofs.Common.{◌+◌, ◌≤◌, length, sym, subst, ◌∙◌}
 use Rattle.uri_ops.specs.Models.DraftPlaces.{span}
-use Rattle.uri_ops.proofs.Builders.DraftPositions.{host_ends_inside, host_starts_inside, positions_placed, spans_inside}
+use Rattle.uri_ops.proofs.Builders.DraftPositions.{host_ends_inside, host_starts_inside}
+use Rattle.uri_ops.proofs.Builders.DraftPositions.{positions_placed, spans_inside}
 use Rattle.uri_ops.proofs.build.draft.Draft.positions.Goals as goal
 
 pub positions_by-requires-clause-inside : goal.positions_by-requires-clause-inside
@@ -15,4 +16,5 @@ pub positions_by-requires-clause-host_end : goal.positions_by-requires-clause-ho
 positions_by-requires-clause-host_end c = host_ends_inside c.args.self.now c.requires.whole c.requires.host
 
 pub returns : goal.returns
-returns c = c.positions_by.ensures ∙ positions_placed c.args.self.now c.requires.whole c.requires.host
+returns c = c.positions_by.ensures
+    ∙ positions_placed c.args.self.now c.requires.whole c.requires.host
