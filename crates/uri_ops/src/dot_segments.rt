@@ -209,6 +209,7 @@ fn is_first_double_dot(path: &[u8]) -> bool
 }
 
 /// What a path begins with. Segments that can't be dot segments are taken together.
+#[inline(always)]
 fn leading_part(path: &str) -> Leading
     requires { 0 < length path.now }
     ensures leading { IsLeading path.now result }
