@@ -27,11 +27,7 @@ pub trait TakeParts {
     /// Takes an ASCII character that an octet spells.
     fn take_ascii(&mut self, byte: u8) -> Result<(), AllocError>
         requires { byte < 128 }
-        ensures { OnOk result (took self.old (map Read (utf8_pieces (byte ∷ []))) self.new) }
-    {
-        let bytes = [byte];
-        self.take_well_formed(unsafe { str::from_utf8_unchecked(&bytes) })
-    }
+        ensures { OnOk result (took self.old (map Read (utf8_pieces (byte ∷ []))) self.new) };
 
     /// Takes a maximal ill-formed part of a run of octets.
     fn take_ill_formed(&mut self, bytes: &[u8]) -> Result<(), AllocError>
