@@ -5,3 +5,6 @@ pub mod NormalPieces
 pub mod NormalForms
 pub mod WrittenPlaces
 pub mod NormalPlaces
+pub mod UnchangedBytes
+pub mod UnchangedParts
+pub mod UnchangedTexts

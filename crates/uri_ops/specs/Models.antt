@@ -5,4 +5,5 @@ pub mod EncodedPlaces
 pub mod LeadingSegments
 pub mod Places
 pub mod Readings
+pub mod Unchanged
 pub mod Written

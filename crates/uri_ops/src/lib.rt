@@ -34,3 +34,4 @@ pub mod swap;
 #[doc(hidden)]
 pub mod target_text;
 pub mod traits;
+mod unchanged;

@@ -101,7 +101,7 @@ pub fn push_host<U: Encoder, R: Encoder>(
 }
 
 /// Whether the host is an address in brackets.
-fn is_bracketed(host: &str) -> bool
+pub(crate) fn is_bracketed(host: &str) -> bool
     ensures { result ≡ starts left_bracket host.now }
 {
     matches!(host.as_bytes(), [b'[', ..])

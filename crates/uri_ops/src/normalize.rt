@@ -3,6 +3,7 @@
 ghost use Rattle.std.specs.Prelude.{◌≡◌, IfOk, IfErr, true, false, string_bytes};
 ghost use Rattle.std.specs.Str.{IsUtf8};
 ghost use Rattle.uri_parts.specs.CoreTexts.{core_text};
+ghost use Rattle.uri_parts.specs.Grammar.{IsOfKind};
 ghost use Rattle.uri_parts.specs.Positions.{AreAt};
 ghost use Rattle.uri_parts.specs.SchemePorts.{default_port};
 ghost use Rattle.uri_ops.specs.ComponentSets.{HasComponentSets};
@@ -13,6 +14,7 @@ ghost use Rattle.uri_ops.specs.declared.normalize.NormalizeError.TheVariants.{Pa
 use crate::default_port::{DefaultPort, SchemeDefaults};
 use crate::normal_text::push_normal;
 use crate::traits::RiMaybeRef;
+use crate::unchanged::{copied, is_unchanged};
 use std::alloc::{AllocError, Global};
 use thiserror::Error;
 use uri_parts::core_text::Core;
@@ -67,15 +69,14 @@ pub(crate) struct Normalized {
     pub(crate) underflows: bool,
 }
 
-/// The normal text of a text of a kind.
+/// The normal text of a text of a kind, of which each component is written as it is read.
 #[tactic(auto, unfolding(crate::specs::Normalizers::text_underflows))]
-pub(crate) fn normal_form<K: Kind, P: DefaultPort>(
+fn written_form<K: Kind, P: DefaultPort>(
     alloc: Global,
     core: Core<K, &str>,
     ports: &P,
 ) -> Result<Normalized, AllocError>
     requires { HasComponentSets K.kind }
-    ensures utf8 { IsUtf8 (core_text core.entry) }
     ensures text { IfOk result (λ made.
         HasNormalText K.kind (P.port_of ports.now) (core_text core.entry)
         (string_bytes made.text)) }
@@ -91,6 +92,54 @@ pub(crate) fn normal_form<K: Kind, P: DefaultPort>(
         positions,
         underflows,
     })
+}
+
+/// The normal text of a text of a kind. Where it is the text, that is copied.
+pub(crate) fn normal_form<K: Kind, P: DefaultPort>(
+    alloc: Global,
+    core: Core<K, &str>,
+    ports: &P,
+) -> Result<Normalized, AllocError>
+    requires { HasComponentSets K.kind }
+    ensures utf8 { IsUtf8 (core_text core.entry) }
+    ensures text { IfOk result (λ made.
+        HasNormalText K.kind (P.port_of ports.now) (core_text core.entry)
+        (string_bytes made.text)) }
+    ensures at { IfOk result (λ made. AreAt (string_bytes made.text) made.positions) }
+    ensures underflow { IfOk result (λ made.
+        made.underflows ≡ text_underflows (core_text core.entry)) }
+{
+    if is_unchanged(core) {
+        return copied(alloc, core);
+    }
+    written_form(alloc, core, ports)
+}
+
+/// The normal text of a text of a kind whose components lie so. Where it is the text, that is kept.
+pub(crate) fn normal_form_of<K: Kind, P: DefaultPort>(
+    alloc: Global,
+    text: String,
+    positions: Positions,
+    ports: &P,
+) -> Result<Normalized, AllocError>
+    requires sets { HasComponentSets K.kind }
+    requires of_kind { IsOfKind K.kind (string_bytes text) }
+    requires at { AreAt (string_bytes text) positions }
+    ensures utf8 { IsUtf8 (string_bytes text) }
+    ensures text { IfOk result (λ made.
+        HasNormalText K.kind (P.port_of ports.now) (string_bytes text)
+        (string_bytes made.text)) }
+    ensures at { IfOk result (λ made. AreAt (string_bytes made.text) made.positions) }
+{
+    let core = Core::<K, &str>::new(text.as_str(), positions);
+    if is_unchanged(core) {
+        return Ok(Normalized {
+            text,
+            positions,
+            underflows: false,
+        });
+    }
+    written_form(alloc, core, ports)
 }
 
 impl Normalizer<SchemeDefaults> {

@@ -13,13 +13,12 @@ ghost use Rattle.uri_ops.specs.Target.{resolution_of_texts};
 ghost use Rattle.uri_ops.specs.Texts.{IsTextOf};
 
 use crate::default_port::DefaultPort;
-use crate::normalize::{Normalizer, normal_form};
+use crate::normalize::{Normalizer, normal_form_of};
 use crate::placed::Placed;
 use crate::target_text::{Target, target_text};
 use crate::traits::{RefOf, Ri, RiMaybeRef};
 use std::alloc::{AllocError, Global};
 use thiserror::Error;
-use uri_parts::core_text::Core;
 
 /// Why a reference was not resolved against a base.
 ///
@@ -269,8 +268,12 @@ impl<R: Ri> Resolver<R> {
             (R.text (base_of self.now)) (Q.text reference.now)) }
     {
         let target = resolved_text(alloc, &self.base, reference, true)?;
-        let core = Core::<R::Kind, &str>::new(target.text.as_str(), target.positions);
-        let made = normal_form(alloc, core, &normalizer.ports)?;
+        let made = normal_form_of::<R::Kind, P>(
+            alloc,
+            target.text,
+            target.positions,
+            &normalizer.ports,
+        )?;
         Ok(R::make_owned(made.text, made.positions))
     }
 }

@@ -41,7 +41,7 @@ use Rattle.uri_ops.proofs.Meanings.Cased.{print_cased}
 use Rattle.uri_ops.proofs.Meanings.ReadParts.{no_run, parts_of_run}
 
 -- characters
-read_chars : (set : TableSet) (cs : List ℕ) (us : List Token)
+pub read_chars : (set : TableSet) (cs : List ℕ) (us : List Token)
     → read_tokens set (map Char cs ++ us) ≡ map Char cs ++ read_tokens set us
 unfolding read_from
 read_chars set [] us = refl

@@ -1,8 +1,6 @@
-use Rattle.std.proofs.Common.{sym, ap, subst, string_bytes, ◌∙◌}
+use Rattle.std.proofs.Common.{refl, sym, ap, subst, string_bytes}
 use Rattle.std.specs.Prelude.{is_ok}
-use Rattle.uri_parts.specs.CoreTexts.{core_text}
 use Rattle.uri_parts.specs.Grammar.{IsOfKind}
-use Rattle.uri_parts.specs.Positions.{AreAt}
 use Rattle.uri_ops.specs.Normalizers.{ports_of}
 use Rattle.uri_ops.specs.NormalTargets.{IsNormalTarget, IsRefusedAlike}
 use Rattle.uri_ops.specs.Resolvers.{base_of}
@@ -23,13 +21,9 @@ returns-in_err-target-clause-refusal g c =
     c.resolved_text.ensures.base c.resolved_text.ensures.reference c.in_err-target.field-0.0 c.in_err-target.ensures.error))
     c.from_residual.ensures.1
 
-pub new-core-requires-clause-of_kind : goal.new-core-requires-clause-of_kind
-new-core-requires-clause-of_kind g c =
-    subst (λ k. IsOfKind k c.as_str.result.now) (sym g.met.R.RiMaybeRef.kind_is_its_own)
-    (subst (IsOfKind g.R.RiMaybeRef.kind) (sym c.as_str.ensures.value) c.in_ok-target.ensures.of_kind.grammar)
-
-pub new-core-requires-clause-at : goal.new-core-requires-clause-at
-new-core-requires-clause-at g c = subst (λ t. AreAt t c.in_ok-target.target.positions) (sym c.as_str.ensures.value) c.in_ok-target.ensures.at
+pub normal_form_of-requires-clause-of_kind : goal.normal_form_of-requires-clause-of_kind
+normal_form_of-requires-clause-of_kind g c =
+    subst (λ k. IsOfKind k (string_bytes c.in_ok-target.target.text)) (sym g.met.R.RiMaybeRef.kind_is_its_own) c.in_ok-target.ensures.of_kind.grammar
 
 pub returns-in_err-made-clause-refusal : goal.returns-in_err-made-clause-refusal
 returns-in_err-made-clause-refusal g c =
@@ -46,8 +40,8 @@ returns-in_err-made-clause-refusal g c =
 pub make_owned-requires-clause-of_kind : goal.make_owned-requires-clause-of_kind
 make_owned-requires-clause-of_kind g c =
     (normal_is_of_kind g.R.RiMaybeRef.kind g.R.Kind.Kind.kind g.met.R.RiMaybeRef.kind_is_its_own g.met.R.RiMaybeRef.component_sets (g.P.DefaultPort.port_of (ports_of c.args.normalizer.now))
-    (core_text c.new-core.result) (string_bytes c.in_ok-target.target.text) (string_bytes c.in_ok-made.made.text)
-    (c.new-core.ensures ∙ c.as_str.ensures.value) c.normal_form.ensures.utf8 c.in_ok-target.ensures.of_kind.grammar c.in_ok-made.ensures.text).grammar
+    (string_bytes c.in_ok-target.target.text) (string_bytes c.in_ok-target.target.text) (string_bytes c.in_ok-made.made.text)
+    refl c.normal_form_of.ensures.utf8 c.in_ok-target.ensures.of_kind.grammar c.in_ok-made.ensures.text).grammar
 
 pub returns-clause-normal : goal.returns-clause-normal
 returns-clause-normal g c =
@@ -59,5 +53,5 @@ returns-clause-normal g c =
     (normal_target kind g.Q.RiMaybeRef.kind g.met.R.RiMaybeRef.component_sets g.met.R.Ri.needs_scheme g.met.Q.RefOf.same_tables ports base reference
     c.resolved_text.ensures.base c.resolved_text.ensures.reference (string_bytes c.in_ok-target.target.text) (string_bytes c.in_ok-made.made.text) c.in_ok-target.ensures.target.0
     (normal_form kind g.R.Kind.Kind.kind g.met.R.RiMaybeRef.kind_is_its_own g.met.R.RiMaybeRef.component_sets ports
-    (core_text c.new-core.result) (string_bytes c.in_ok-target.target.text) (string_bytes c.in_ok-made.made.text)
-    (c.new-core.ensures ∙ c.as_str.ensures.value) c.normal_form.ensures.utf8 c.in_ok-target.ensures.of_kind.grammar c.in_ok-made.ensures.text))
+    (string_bytes c.in_ok-target.target.text) (string_bytes c.in_ok-target.target.text) (string_bytes c.in_ok-made.made.text)
+    refl c.normal_form_of.ensures.utf8 c.in_ok-target.ensures.of_kind.grammar c.in_ok-made.ensures.text))

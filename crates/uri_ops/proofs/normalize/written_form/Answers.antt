@@ -3,7 +3,7 @@ use Rattle.std.specs.Str.{IsUtf8}
 use Rattle.uri_ops.specs.Meaning.{meaning_of}
 use Rattle.uri_ops.specs.Normal.{normal_text}
 use Rattle.uri_ops.proofs.Normal.NormalPlaces.{normal_at}
-use Rattle.uri_ops.proofs.normalize.normal_form.Goals as goal
+use Rattle.uri_ops.proofs.normalize.written_form.Goals as goal
 
 pub returns-clause-at : goal.returns-clause-at
 returns-clause-at g c =
