@@ -9,6 +9,12 @@ use Rattle.fluent_uri.specs.Sets.{data_set}
 use Rattle.fluent_uri.specs.Tokens.{print, token_bytes, tokens}
 use Rattle.calling.specs.declared.pairs.Pair.{Pair}
 
+abbrev pub ampersand : ℕ
+ampersand = 38
+
+abbrev pub equals_sign : ℕ
+equals_sign = 61
+
 -- a name and a value
 abbrev pub Texts : Type 0
 Texts = List ℕ × List ℕ
@@ -23,11 +29,11 @@ read_text piece = lossy_text (token_bytes (tokens piece))
 -- what stands before the first `=` of a piece, and what stands behind it
 unfoldable pub name_part : List ℕ → List ℕ
 name_part [] = []
-name_part (b ∷ bs) = if b == 61 then [] else b ∷ name_part bs
+name_part (b ∷ bs) = if b == equals_sign then [] else b ∷ name_part bs
 
 unfoldable pub value_part : List ℕ → List ℕ
 value_part [] = []
-value_part (b ∷ bs) = if b == 61 then bs else value_part bs
+value_part (b ∷ bs) = if b == equals_sign then bs else value_part bs
 
 abbrev pub read_pair : List ℕ → Texts
 read_pair piece = (read_text (name_part piece), read_text (value_part piece))
@@ -37,7 +43,7 @@ abbrev pub read_pieces : List (List ℕ) → List Texts
 read_pieces pieces = map read_pair (filter (λ piece. not (is_empty piece)) pieces)
 
 abbrev pub read_pairs : List ℕ → List Texts
-read_pairs query = read_pieces (slice_split (λ b. b == 38) query)
+read_pairs query = read_pieces (slice_split (λ b. b == ampersand) query)
 
 -- a text as data
 abbrev pub data_text : List ℕ → List ℕ

@@ -1,5 +1,5 @@
 //! What texts and bytes are encoded as, at the encoders of the components and at a caller's own.
-ghost use Rattle.std.specs.Prelude.{◌≡◌, ◌∷◌, [], true};
+ghost use Rattle.std.specs.Prelude.{◌≡◌, ◌∷◌, [], refl, true};
 ghost use Rattle.fluent_uri.specs.Sets.{plain, difference, is_one_of, path_set};
 
 use checks::{equal, prints};
@@ -17,6 +17,8 @@ impl Encoder for Nothing {
     fn table() -> Table {
         Table::new(b"")
     }
+
+    ghost lacks_percent = { refl };
 }
 
 /// Octets alone.
@@ -28,6 +30,8 @@ impl Encoder for Octets {
     fn table() -> Table {
         Nothing::table().or_pct_encoded()
     }
+
+    ghost lacks_percent = { refl };
 }
 
 /// The characters of `iprivate` alone.
@@ -39,6 +43,8 @@ impl Encoder for Private {
     fn table() -> Table {
         Nothing::table().or_iprivate()
     }
+
+    ghost lacks_percent = { refl };
 }
 
 /// A path without `/`.
@@ -50,6 +56,8 @@ impl Encoder for Segment {
     fn table() -> Table {
         Path::table().sub(&Table::new(b"/"))
     }
+
+    ghost lacks_percent = { refl };
 }
 
 /// The value where there is one, which the test asks for.

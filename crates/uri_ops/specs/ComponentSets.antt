@@ -2,6 +2,7 @@
 -- and 3, and RFC 3987, section 2.2.
 use Rattle.std.specs.Prelude.{◌≡◌, true, false, List, ℕ, codes}
 use Rattle.std.specs.List.{list_any}
+use Rattle.uri_pct.specs.Delimiters.{slash}
 use Rattle.uri_pct.specs.Sets.{TableSet, LacksPercent, IsSubset, unreserved_set}
 use Rattle.uri_parts.specs.Grammar.{Kind}
 
@@ -17,7 +18,7 @@ pub record HasComponentSets (kind : Kind) : Type 0 where
   pub userinfo : IsComponentSet (codes "/?#[]@") kind.userinfo
   pub reg_name : IsComponentSet (codes "/?#[]@:") kind.reg_name
   pub path : IsComponentSet (codes "?#[]") kind.path
-  pub slash : kind.path.ascii 47 ≡ true
+  pub slash : kind.path.ascii slash ≡ true
   pub query : IsComponentSet (codes "#[]") kind.query
   pub fragment : IsComponentSet (codes "#[]") kind.fragment
 

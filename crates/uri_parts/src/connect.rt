@@ -111,8 +111,6 @@ fn decoded_name<'a, R: Encoder>(alloc: Global, name: EStr<'a, R>) -> Result<CowS
     ensures refused { IfErr result (IsNameRefusal (text_of name.entry)) }
     ensures borrows { IsTrue (is_unencoded (text_of name.entry)) → IsOkAnd result IsBorrowedText }
 {
-    // No table has `%`, so that it stands in octets alone.
-    let _table = R::table();
     match Decode::of_text(name.as_str()).to_string(alloc) {
         Ok(text) => Ok(text),
         Err(DecodeError::NotUtf8(_)) => Err(SocketError::NameNotUtf8),

@@ -3,6 +3,7 @@ ghost use Rattle.std.specs.Prelude.{◌≡◌, ◌≤◌, ◌<◌, ◌+◌, ◌+
 ghost use Rattle.std.specs.Prelude.{length, take, option_map, string_bytes};
 ghost use Rattle.std.specs.Str.{IsCharBoundary};
 ghost use Rattle.std.specs.String.{string_capacity};
+ghost use Rattle.uri_pct.specs.Delimiters.{number_sign};
 ghost use Rattle.uri_parts.specs.Appending.{Pushes};
 ghost use Rattle.uri_parts.specs.Fragments.{IsWithFragment, StaysOfKind};
 ghost use Rattle.uri_parts.specs.Positions.{AreAt};
@@ -15,7 +16,7 @@ use uri_pct::pct_enc::EStr;
 
 /// Appends a `#` and the fragment.
 fn push_fragment(text: &mut String, fragment: &str) -> Result<(), AllocError>
-    ensures text { OnOk result (Pushes text.old text.new (35 ∷ fragment.now)) }
+    ensures text { OnOk result (Pushes text.old text.new (number_sign ∷ fragment.now)) }
     ensures full { OnErr result
         (string_capacity text.old < length (string_bytes text.old) + (length fragment.now + 1)) }
 {
@@ -40,7 +41,8 @@ fn make_room(text: &mut String, place: usize, len: usize) -> Result<(), AllocErr
 fn replace_end(text: &mut String, place: usize, fragment: &str)
     requires boundary { IsCharBoundary (string_bytes text.old) place }
     requires room { place + (length fragment.now + 1) ≤ string_capacity text.old }
-    ensures { string_bytes text.new ≡ take place (string_bytes text.old) ++ (35 ∷ fragment.now) }
+    ensures { string_bytes text.new
+        ≡ take place (string_bytes text.old) ++ (number_sign ∷ fragment.now) }
 {
     text.truncate(place);
     let Ok(()) = push_fragment(text, fragment) else {

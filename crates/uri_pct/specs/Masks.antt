@@ -1,6 +1,7 @@
 -- Two words as a set of ASCII characters.
 use Rattle.std.specs.Prelude.{ℕ, ◌-◌, Bool, not, ◌&&◌, ◌==◌, nat_lt, if◌then◌else◌}
 use Rattle.std.specs.Int.{bit_at}
+use Rattle.uri_pct.specs.Delimiters.{percent_sign}
 
 -- bit n of `low` is character n, and bit n of `high` is character 64 + n
 unfoldable pub has_bit : ℕ → ℕ → ℕ → Bool
@@ -9,4 +10,4 @@ has_bit low high c =
 
 -- an ASCII character other than `%`
 abbrev pub is_plain_ascii : ℕ → Bool
-is_plain_ascii c = nat_lt c 128 && not (c == 37)
+is_plain_ascii c = nat_lt c 128 && not (c == percent_sign)

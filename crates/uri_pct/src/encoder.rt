@@ -1,18 +1,19 @@
 //! The encoders of the components of URIs and IRIs: which characters and octets each consists of.
-ghost use Rattle.std.specs.Prelude.{◌≡◌};
+ghost use Rattle.std.specs.Prelude.{◌≡◌, refl};
 
 use crate::table::{self, Table};
 
 /// Which characters stand for themselves, and whether percent-encoded octets stand beside them.
 ///
 /// `set` names the set once and for all: whoever implements the trait chooses it, and `table`
-/// answers it.
+/// answers it. It lacks `%`, as `lacks_percent` says: that begins an octet and stands for nothing
+/// else (RFC 3986, section 2.1). Of a set that is written out `refl` proves it.
 ///
 /// # Examples
 ///
 /// `Query::table()` allows `a` and `?`, and not `#`.
 pub trait Encoder {
-    ghost use Rattle.uri_pct.specs.Sets.{TableSet};
+    ghost use Rattle.uri_pct.specs.Sets.{LacksPercent, TableSet};
     ghost use Rattle.uri_pct.specs.Tables.{set_of};
 
     ghost set: { TableSet };
@@ -20,6 +21,8 @@ pub trait Encoder {
     /// The table of the set.
     fn table() -> Table
         ensures { set_of result ≡ set };
+
+    ghost lacks_percent: { LacksPercent set };
 }
 
 /// An encoder of paths.
@@ -46,6 +49,8 @@ impl Encoder for Userinfo {
     fn table() -> Table {
         table::USERINFO
     }
+
+    ghost lacks_percent = { refl };
 }
 
 /// The encoder of a URI's registered name (RFC 3986, section 3.2.2).
@@ -65,6 +70,8 @@ impl Encoder for RegName {
     fn table() -> Table {
         table::REG_NAME
     }
+
+    ghost lacks_percent = { refl };
 }
 
 /// The encoder of a port (RFC 3986, section 3.2.3): decimal digits alone.
@@ -84,6 +91,8 @@ impl Encoder for Port {
     fn table() -> Table {
         table::DIGIT
     }
+
+    ghost lacks_percent = { refl };
 }
 
 /// The encoder of a URI's path (RFC 3986, section 3.3).
@@ -103,6 +112,8 @@ impl Encoder for Path {
     fn table() -> Table {
         table::PATH
     }
+
+    ghost lacks_percent = { refl };
 }
 
 impl PathEncoder for Path {}
@@ -124,6 +135,8 @@ impl Encoder for Query {
     fn table() -> Table {
         table::QUERY
     }
+
+    ghost lacks_percent = { refl };
 }
 
 /// The encoder of a URI's fragment (RFC 3986, section 3.5).
@@ -143,6 +156,8 @@ impl Encoder for Fragment {
     fn table() -> Table {
         table::FRAGMENT
     }
+
+    ghost lacks_percent = { refl };
 }
 
 /// The encoder of an IRI's userinfo (RFC 3987, section 2.2).
@@ -162,6 +177,8 @@ impl Encoder for IUserinfo {
     fn table() -> Table {
         table::IUSERINFO
     }
+
+    ghost lacks_percent = { refl };
 }
 
 /// The encoder of an IRI's registered name (RFC 3987, section 2.2).
@@ -181,6 +198,8 @@ impl Encoder for IRegName {
     fn table() -> Table {
         table::IREG_NAME
     }
+
+    ghost lacks_percent = { refl };
 }
 
 /// The encoder of an IRI's path (RFC 3987, section 2.2).
@@ -200,6 +219,8 @@ impl Encoder for IPath {
     fn table() -> Table {
         table::IPATH
     }
+
+    ghost lacks_percent = { refl };
 }
 
 impl PathEncoder for IPath {}
@@ -221,6 +242,8 @@ impl Encoder for IQuery {
     fn table() -> Table {
         table::IQUERY
     }
+
+    ghost lacks_percent = { refl };
 }
 
 /// The encoder of an IRI's fragment (RFC 3987, section 2.2).
@@ -240,6 +263,8 @@ impl Encoder for IFragment {
     fn table() -> Table {
         table::IFRAGMENT
     }
+
+    ghost lacks_percent = { refl };
 }
 
 /// The encoder of data that goes into a URI (RFC 3986, section 2.4): unreserved characters and
@@ -260,6 +285,8 @@ impl Encoder for Data {
     fn table() -> Table {
         table::UNRESERVED.or_pct_encoded()
     }
+
+    ghost lacks_percent = { refl };
 }
 
 /// The encoder of data that goes into an IRI (RFC 3987, section 2.2): as `Data`, with the
@@ -279,4 +306,6 @@ impl Encoder for IData {
     fn table() -> Table {
         Data::table().or_ucschar()
     }
+
+    ghost lacks_percent = { refl };
 }

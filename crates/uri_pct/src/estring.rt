@@ -40,7 +40,6 @@ impl<E: Encoder> EString<E> {
         ensures text { owned_text result ≡ string_bytes text }
         ensures capacity { owned_capacity result ≡ string_capacity text }
     {
-        let _table = E::table();
         EString {
             text,
             encoder: PhantomData,

@@ -8,6 +8,7 @@ ghost use Rattle.std.specs.Fmt.{digit_glyph};
 ghost use Rattle.std.specs.List.{list_all, list_any};
 ghost use Rattle.std.specs.Str.{IsUtf8};
 ghost use Rattle.std.specs.Str.Lossy.{utf8_lossy};
+ghost use Rattle.uri_pct.specs.Delimiters.{percent_sign};
 ghost use Rattle.uri_pct.specs.Encoding.{encode_text, encode_bytes};
 ghost use Rattle.uri_pct.specs.Sets.{TableSet, LacksPercent, IsSubset, unreserved_set};
 ghost use Rattle.uri_pct.specs.Tokens.{Token, Char, Octet, tokens, token_bytes, print};
@@ -41,8 +42,8 @@ pub fn what_is_printed_is_read_back()
 #[tactic(auto, using(crate::proofs::Decodings::OctetDigits::tokens_of_octet))]
 pub fn octets_are_read_in_either_case()
     ensures { (upper : Bool) (value : ℕ) (rest : List ℕ) → value < 256
-        → tokens (37 ∷ digit_glyph upper (value / 16) ∷ digit_glyph upper (value % 16) ∷ rest)
-        ≡ Octet value ∷ tokens rest }
+        → tokens (percent_sign ∷ digit_glyph upper (value / 16)
+        ∷ digit_glyph upper (value % 16) ∷ rest) ≡ Octet value ∷ tokens rest }
 {}
 
 /// What is encoded is read back as the same tokens, these decode to the text or the bytes that were

@@ -35,7 +35,8 @@ pub trait TakeParts {
 
     ghost takes_nothing: { (s : Self) → took s [] s };
 
-    ghost takes_on: { (s t u : Self) (ps qs : List Part) → took s ps t → took t qs u → took s (ps ++ qs) u };
+    ghost takes_on: { (s t u : Self) (ps qs : List Part)
+        → took s ps t → took t qs u → took s (ps ++ qs) u };
 }
 
 /// Hands over characters, where there are some.
