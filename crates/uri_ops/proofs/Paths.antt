@@ -6,6 +6,7 @@ pub mod SlashedSegments
 pub mod DotLaws
 pub mod DotRuns
 pub mod DotStarts
+pub mod DotLengths
 pub mod TakenSegments
 pub mod LastSlashes
 pub mod LeftPaths

@@ -10,6 +10,7 @@ pub mod convert;
 pub mod default_port;
 #[doc(hidden)]
 pub mod dot_segments;
+mod dots;
 #[doc(hidden)]
 pub mod encoded;
 #[doc(hidden)]

@@ -20,7 +20,7 @@ pub record IsDot (text : List ℕ) : Type 0 where
   pub spelt : (text ≡ codes ".") ⊎ ((text ≡ codes "%2E") ⊎ (text ≡ codes "%2e"))
 
 -- a test that one of the dots passes
-some_dot : (test : List ℕ → Bool) → list_any test dots ≡ true
+pub some_dot : (test : List ℕ → Bool) → list_any test dots ≡ true
     → (dot : List ℕ) × (IsDot dot × (test dot ≡ true))
 some_dot test e = ⊎_elim
     (λ h. (codes ".", (record { spelt = inl refl }, h)))
@@ -33,7 +33,7 @@ some_dot test e = ⊎_elim
     (or_cases (test (codes ".")) _ e)
 
 -- what holds of each dot
-each_dot : (P : List ℕ → Type 0) → P (codes ".") → P (codes "%2E") → P (codes "%2e")
+pub each_dot : (P : List ℕ → Type 0) → P (codes ".") → P (codes "%2E") → P (codes "%2e")
     → (dot : List ℕ) → IsDot dot → P dot
 each_dot P one upper lower dot d = ⊎_elim (λ e. subst P (sym e) one) (λ f. ⊎_elim (λ e. subst P (sym e) upper) (λ e. subst P (sym e) lower) f) d.spelt
 

@@ -1,18 +1,24 @@
--- A path in which neither `.` nor `%` stands first or behind a `/` has no dot segment.
+-- A path in which neither `.` nor `%` stands behind a `/` has no dot segment, but for its first.
 use Rattle.std.proofs.Common.{◌≤◌, ◌-◌, inl, inr, subst, drop, ⊎_elim, ◌≡◌, ℕ, zero, suc, ◌+◌, ◌<◌}
+use Rattle.std.proofs.Common.{append_assoc, rules}
+use Rattle.std.specs.Prelude.{codes}
 use Rattle.std.proofs.Common.{Bool, true, false, not, List, [], ◌∷◌, ◌++◌, length, take, get_or}
 use Rattle.std.proofs.Common.{refl, sym, ap, ◌∙◌, ◌&&◌, ◌||◌, arith}
 use Rattle.std.specs.Prelude.{◌==◌}
 use Rattle.std.proofs.Math.Seq.{take-suc}
-use Rattle.std.proofs.lemmas.List.{drop_all}
+use Rattle.std.proofs.lemmas.List.{append-nil, drop_all, drop_at, take-append-drop, take_at}
+use Rattle.std.proofs.lemmas.Bool.{false≢true}
+use Rattle.uri_parts.specs.Components.{IsRooted}
 use Rattle.std.proofs.lemmas.Str.{IsCharBoundary-after_ascii}
 use Rattle.std.specs.Str.{IsCharBoundary, IsUtf8}
 use Rattle.uri_ops.specs.Models.Directories.{IsClosed}
 use Rattle.std.proofs.lemmas.Bool.{cases_lt, and_from, or_from, or_parts}
 use Rattle.std.proofs.lemmas.Bool.Decides.{nat_tests}
-use Rattle.uri_ops.specs.Dots.{is_dot_segment, lacks_dot_segments, segments}
-use Rattle.uri_ops.specs.Models.LeadingSegments.{IsBeforeDots, begins_at, begins_with_dot}
+use Rattle.uri_ops.specs.Dots.{has_slash, is_dot_segment, segments}
+use Rattle.uri_ops.specs.Models.LeadingSegments.{IsBeforeDots, IsNoDots, IsPlainFront}
+use Rattle.uri_ops.specs.Models.LeadingSegments.{begins_at, begins_with_dot}
 use Rattle.uri_ops.proofs.Paths.Segments.{Passes, is_plain}
+use Rattle.uri_ops.proofs.Paths.SlashedSegments.{NoSlashes, any_slash, first_lacks, segments_lack}
 use Rattle.uri_ops.proofs.Paths.SlashedSegments.{slashed, slashed_segments}
 
 -- what each dot segment begins with
@@ -50,9 +56,38 @@ plain_all b (s ∷ rest) e =
     let more = behind true s (slashed rest) first in
     and_from _ _ (plain_first s (slashed rest) first) (plain_all more.behind rest more.none)
 
-pub lacks_from : (text : List ℕ) → dots_begin true text ≡ false → lacks_dot_segments text ≡ true
-unfolding dots_begin
-lacks_from text e = plain_all false (segments text) (ap (dots_begin false) (slashed_segments text) ∙ e)
+-- the first segment of a path is that of its front, behind which another segment begins
+rooted_behind : (s : List ℕ) (rest : List (List ℕ)) (front back : List ℕ)
+    → front ≡ s ++ slashed rest → has_slash s ≡ false → IsClosed front back
+    → IsRooted (slashed rest ++ back)
+unfolding slashed
+rooted_behind s (t ∷ rest) front back e free closed = inr (search rules)
+rooted_behind s [] front back e free (inl none) = inl none
+rooted_behind s [] front back e free (inr ends) =
+    absurd (false≢true (sym free ∙ ap has_slash (sym (append-nil s) ∙ sym e ∙ ends.1) ∙ any_slash ends.0 (codes "/") refl))
+
+first_of : (path front back s : List ℕ) (rest : List (List ℕ)) → path ≡ front ++ back
+    → front ≡ s ++ slashed rest → has_slash s ≡ false → IsClosed front back → IsNoDots path
+    → is_plain s ≡ true
+first_of path front back s rest e f free closed h =
+    let whole : path ≡ s ++ (slashed rest ++ back) = e ∙ ap (λ t. t ++ back) f
+    ∙ append_assoc s (slashed rest) back in
+    let segment : take (length s) path ≡ s = ap (take (length s)) whole
+    ∙ take_at s (slashed rest ++ back) (length s) refl in
+    let behind : drop (length s) path ≡ slashed rest ++ back = ap (drop (length s)) whole
+    ∙ drop_at s (slashed rest ++ back) (length s) refl in
+    ap not (ap is_dot_segment (sym segment)
+    ∙ h (length s) (ap has_slash segment ∙ free) (subst IsRooted (sym behind) (rooted_behind s rest front back f free closed)))
+
+plain_segments : (segs : List (List ℕ)) (text : List ℕ) → slashed segs ≡ 47 ∷ text
+    → dots_begin false text ≡ false
+    → ((s : List ℕ) (rest : List (List ℕ)) → segs ≡ s ∷ rest → is_plain s ≡ true)
+    → Passes is_plain segs
+unfolding slashed
+plain_segments [] text e none first = refl
+plain_segments (s ∷ rest) text e none first =
+    let more = behind false s (slashed rest) (ap (λ t. dots_begin false (drop 1 t)) e ∙ none) in
+    and_from _ _ (first s rest refl) (plain_all more.behind rest more.none)
 
 -- a `/` stands last, or before the text where that is empty
 unfoldable pub ends_behind : Bool → List ℕ → Bool
@@ -80,37 +115,36 @@ one_more bytes i within = let next : i + 1 ≡ suc i = omega arith in ap (λ n. 
 
 -- as a text is read byte by byte
 module _ (bytes : List ℕ) (i : ℕ) (within : i < length bytes) where
-  pub next_plain : dots_begin true (take i bytes) ≡ false
-      → (ends_behind true (take i bytes) && is_dot_start (get_or bytes i 0)) ≡ false
-      → dots_begin true (take (i + 1) bytes) ≡ false
-  next_plain e f = ap (dots_begin true) (one_more bytes i within)
-      ∙ begin_more true (take i bytes) (get_or bytes i 0) e f
+  next_plain : dots_begin false (take i bytes) ≡ false
+      → (ends_behind false (take i bytes) && is_dot_start (get_or bytes i 0)) ≡ false
+      → dots_begin false (take (i + 1) bytes) ≡ false
+  next_plain e f = ap (dots_begin false) (one_more bytes i within)
+      ∙ begin_more false (take i bytes) (get_or bytes i 0) e f
 
-  pub next_ends : (get_or bytes i 0 == 47) ≡ ends_behind true (take (i + 1) bytes)
-  next_ends = sym (ap (ends_behind true) (one_more bytes i within) ∙ ends_more true (take i bytes) (get_or bytes i 0))
+  next_ends : (get_or bytes i 0 == 47) ≡ ends_behind false (take (i + 1) bytes)
+  next_ends = sym (ap (ends_behind false) (one_more bytes i within) ∙ ends_more false (take i bytes) (get_or bytes i 0))
 
-pub one_further : (bytes : List ℕ) (i : ℕ) → i + 1 < length bytes
-    → dots_begin true (take (i + 1) bytes) ≡ false → begins_at bytes i ≡ false
-    → dots_begin true (take (i + 1 + 1) bytes) ≡ false
+one_further : (bytes : List ℕ) (i : ℕ) → i + 1 < length bytes
+    → dots_begin false (take (i + 1) bytes) ≡ false → begins_at bytes i ≡ false
+    → dots_begin false (take (i + 1 + 1) bytes) ≡ false
 one_further bytes i within plain e =
     next_plain bytes (i + 1) within plain (ap (λ b. b && is_dot_start (get_or bytes (i + 1) 0)) (sym (next_ends bytes i (omega (arith, within)))) ∙ e)
 
-pub some_further : (bytes : List ℕ) (i n : ℕ) → i + n < length bytes
-    → dots_begin true (take (i + 1) bytes) ≡ false
+some_further : (bytes : List ℕ) (i n : ℕ) → i + n < length bytes
+    → dots_begin false (take (i + 1) bytes) ≡ false
     → ((k : ℕ) → k < n → begins_at bytes (i + k) ≡ false)
-    → dots_begin true (take (i + n + 1) bytes) ≡ false
-some_further bytes i zero within plain none = ap (λ m. dots_begin true (take m bytes)) (omega arith)
+    → dots_begin false (take (i + n + 1) bytes) ≡ false
+some_further bytes i zero within plain none = ap (λ m. dots_begin false (take m bytes)) (omega arith)
     ∙ plain
 some_further bytes i (suc n) within plain none =
     let next : i + suc n + 1 ≡ i + n + 1 + 1 = omega arith in
-    ap (λ m. dots_begin true (take m bytes)) next
+    ap (λ m. dots_begin false (take m bytes)) next
     ∙ one_further bytes (i + n) (omega (arith, within)) (some_further bytes i n (omega (arith, within)) plain (λ k h. none k (omega (arith, h)))) (none n (omega arith))
 
-pub first_plain : (bytes : List ℕ) → begins_with_dot bytes ≡ false
-    → dots_begin true (take 1 bytes) ≡ false
+first_plain : (bytes : List ℕ) → dots_begin false (take 1 bytes) ≡ false
 unfolding dots_begin
-first_plain [] e = refl
-first_plain (c ∷ rest) e = or_from (is_dot_start c) false e refl
+first_plain [] = refl
+first_plain (c ∷ rest) = refl
 
 -- a window that begins no later than what was passed over ends
 pub in_window : (bytes : List ℕ) (i at n : ℕ) → at ≤ i
@@ -125,17 +159,16 @@ in_window bytes i at n from passed window k to = ⊎_elim
     (cases_lt k at)
 
 -- what is known of the text up to such a place
-module _ (bytes : List ℕ) (n : ℕ) (starts : begins_with_dot bytes ≡ false)
-    (h : IsBeforeDots bytes n) where
-  pub lacks_before : lacks_dot_segments (take n bytes) ≡ true
-  lacks_before =
+module _ (bytes : List ℕ) (n : ℕ) (h : IsBeforeDots bytes n) where
+  none_before : dots_begin false (take n bytes) ≡ false
+  none_before =
       let some = h.some in
       let within = h.within in
       let end : 0 + (n - 1) + 1 ≡ n = omega (arith, some) in
-      ap (λ m. lacks_dot_segments (take m bytes)) (sym end)
-      ∙ lacks_from (take (0 + (n - 1) + 1) bytes) (some_further bytes 0 (n - 1) (omega (arith, some, within)) (first_plain bytes starts) (λ k to. ap (begins_at bytes) (omega arith) ∙ h.none k (omega (arith, to))))
+      ap (λ m. dots_begin false (take m bytes)) (sym end)
+      ∙ some_further bytes 0 (n - 1) (omega (arith, some, within)) (first_plain bytes) (λ k to. ap (begins_at bytes) (omega arith) ∙ h.none k (omega (arith, to)))
 
-  pub closed_before : IsClosed (take n bytes) (drop n bytes)
+  closed_before : IsClosed (take n bytes) (drop n bytes)
   closed_before = ⊎_elim
       (λ (more : n < length bytes).
       let some = h.some in
@@ -143,6 +176,16 @@ module _ (bytes : List ℕ) (n : ℕ) (starts : begins_with_dot bytes ≡ false)
       inr (take (n - 1) bytes, ap (λ m. take m bytes) (sym end) ∙ one_more bytes (n - 1) (omega (arith, more)) ∙ ap (λ c. take (n - 1) bytes ++ c ∷ []) (h.ends more)))
       (λ (all : length bytes ≤ n). inl (drop_all n bytes all))
       (cases_lt n (length bytes))
+
+  pub front_before : IsNoDots bytes → IsPlainFront bytes n
+  unfolding slashed
+  front_before first =
+      let front = take n bytes in
+      record {
+        plain = plain_segments (segments front) front (slashed_segments front) none_before
+            (λ s rest e. first_of bytes front (drop n bytes) s rest (sym (take-append-drop n bytes)) (ap (drop 1) (sym (slashed_segments front) ∙ ap slashed e)) (first_lacks s rest (subst NoSlashes e (segments_lack front))).0 closed_before first);
+        closed = closed_before;
+      }
 
   pub boundary_before : IsUtf8 bytes → IsCharBoundary bytes n
   boundary_before u =
@@ -153,3 +196,9 @@ module _ (bytes : List ℕ) (n : ℕ) (starts : begins_with_dot bytes ≡ false)
       (λ (more : n < length bytes). subst (IsCharBoundary bytes) end (IsCharBoundary-after_ascii bytes (n - 1) u (omega (arith, more)) (omega (arith, h.ends more))))
       (λ (all : length bytes ≤ n). (within, λ more. absurd (omega (arith, more, all))))
       (cases_lt n (length bytes))
+
+-- a path that begins with neither has no dots first
+pub no_dots : (path : List ℕ) → begins_with_dot path ≡ false → IsNoDots path
+no_dots path e zero free rooted = refl
+no_dots [] e (suc end) free rooted = refl
+no_dots (c ∷ rest) e (suc end) free rooted = plain_start c (take end rest) e

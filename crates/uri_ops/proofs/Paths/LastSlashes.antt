@@ -1,14 +1,13 @@
 -- The cut at the last `/` of what stands in a text from a place on.
 use Rattle.std.proofs.Common.{◌≡◌, ℕ, suc, ◌+◌, ◌-◌, ◌<◌, ◌≤◌, true, false, eqb, List, [], ◌∷◌}
 use Rattle.std.proofs.Common.{◌++◌, length, take, drop, get_or, refl, sym, ap, subst, ◌∙◌, arith}
-use Rattle.std.proofs.Common.{append_assoc, ◌||◌, add-zero, drop-cons, cond, inl, inr, ⊎_elim}
+use Rattle.std.proofs.Common.{append_assoc, add-zero, drop-cons, cond, inl, inr, ⊎_elim}
 use Rattle.std.proofs.Common.{rules, tests}
-use Rattle.std.specs.List.{before_first, position_or_len}
 use Rattle.std.proofs.Math.Seq.{take-add}
 use Rattle.std.proofs.lemmas.List.{append-nil, take-append-drop, drop-drop, take_at, drop_at}
 use Rattle.std.proofs.lemmas.List.{take-append-le, length-append, length-drop, length-take}
 use Rattle.std.proofs.lemmas.List.{length-take-le, get_or-drop, get_or-take}
-use Rattle.std.proofs.lemmas.Bool.{cases_Bool, cond-false, cond-true, or_parts, eqb-true, ne_eqb}
+use Rattle.std.proofs.lemmas.Bool.{cond-false, cond-true, or_parts, eqb-true, ne_eqb}
 use Rattle.std.proofs.lemmas.Bool.{false≢true}
 use Rattle.std.proofs.lemmas.Bool.Decides.{nat_tests}
 use Rattle.std.proofs.lemmas.Str.{IsCharBoundary-after_ascii}
@@ -232,15 +231,3 @@ slash_behind path end h within = ⊎_elim
 pub root_directory : directory (codes "/") ≡ codes "/"
 unfolding directory
 root_directory = refl
-
--- before the first slash there is none
-pub none_before_first : (path : List ℕ) → has_slash (before_first (λ c. eqb c 47) path) ≡ false
-none_before_first [] = refl
-none_before_first (c ∷ rest) =
-    let n = position_or_len (λ c. eqb c 47) rest in
-    let next : 1 + n ≡ suc n = omega arith in
-    ⊎_elim
-    (λ e. rw e refl)
-    (λ e. rw e (ap (λ k. has_slash (take k (c ∷ rest))) next
-    ∙ ap (λ b. b || has_slash (take n rest)) e ∙ none_before_first rest))
-    (cases_Bool (eqb c 47))

@@ -9,10 +9,10 @@ use Rattle.std.proofs.Math.Bool.{or-false, or_assoc}
 use Rattle.std.proofs.lemmas.List.{append-nil, take-append-drop, drop_at, take_at, drop-append-le}
 use Rattle.std.proofs.lemmas.List.{take-append-le, length-drop, length-take-le}
 use Rattle.std.proofs.lemmas.List.Folds.{list_all-append}
-use Rattle.std.proofs.lemmas.Bool.{and_parts, and_from, cases_Bool, false≢true, not_from_false}
+use Rattle.std.proofs.lemmas.Bool.{and_parts, and_from, cases_Bool, false≢true}
 use Rattle.std.proofs.lemmas.Bool.{or_right}
 use Rattle.uri_parts.specs.Components.{IsRooted}
-use Rattle.uri_ops.specs.Dots.{is_single_dot, is_double_dot, is_dot_segment, is_empty}
+use Rattle.uri_ops.specs.Dots.{is_single_dot, is_double_dot, is_empty}
 use Rattle.uri_ops.specs.Dots.{before_last_slash, has_slash, lacks_dot_segments, segments}
 use Rattle.uri_ops.specs.Dots.{remove_dot_segments, underflows, IsAbsolute}
 use Rattle.uri_ops.specs.Models.Directories.{IsPlainDirectory, IsClosed, parent_directory}
@@ -24,8 +24,7 @@ use Rattle.uri_ops.proofs.Paths.SlashedSegments.{before_slashed, empty_slashed, 
 use Rattle.uri_ops.proofs.Paths.DotLaws.{by_closed, rooted, behind, behind_lacks, closed_lacks}
 use Rattle.uri_ops.proofs.Paths.DotLaws.{plain_segments, absolute_slashed, removed_of_plain}
 use Rattle.uri_ops.proofs.Paths.DotLaws.{underflows_of_plain}
-use Rattle.uri_ops.proofs.Paths.TakenSegments.{absolute_is, removed_dot, underflows_dot}
-use Rattle.uri_ops.proofs.Paths.TakenSegments.{segments_last, segments_next}
+use Rattle.uri_ops.proofs.Paths.TakenSegments.{removed_dot, underflows_dot}
 use Rattle.uri_ops.proofs.Targeting.Targets.{absolute_append}
 use Rattle.uri_pct.proofs.Tests.{true_of}
 
@@ -177,22 +176,6 @@ drops_double = by_directory (Drops is_double_dot parent_directory (λ k. is_empt
               ∙ ap (λ t. is_empty (before_last_slash (slashed (xs ++ [] ∷ []))) || underflows (t ++ drop 1 rest)) parent;
           directory = subst IsPlainDirectory (parent_slashed xs e) (directory_slashed (pop xs) (pop_passes lacks_slash xs e) (pop_passes is_plain xs f));
         }
-
--- what is kept of a segment that is none of dots, with the `/` behind it
-pub lone_plain : (s rest : List ℕ) → has_slash s ≡ false → is_dot_segment s ≡ false → IsRooted rest
-    → lacks_dot_segments (s ++ take 1 rest) ≡ true
-lone_plain s rest free other = rooted (λ rest. lacks_dot_segments (s ++ take 1 rest) ≡ true)
-    (ap (list_all is_plain) (segments_last s free) ∙ and_from (is_plain s) true (not_from_false _ other) refl)
-    (λ rest h. ap (λ t. lacks_dot_segments (s ++ take 1 t)) (absolute_is rest h) ∙ ap (list_all is_plain) (segments_next s [] free) ∙ and_from (is_plain s) true (not_from_false _ other) refl)
-    rest
-
-pub lone_closed : (path : List ℕ) (end next : ℕ) → IsRooted (drop end path)
-    → take next path ≡ take end path ++ take 1 (drop end path)
-    → drop next path ≡ drop 1 (drop end path) → IsClosed (take next path) (drop next path)
-lone_closed path end next h front rest = ⊎_elim
-    (λ e. inl (rest ∙ ap (drop 1) e))
-    (λ e. inr (take end path, front ∙ ap (λ t. take end path ++ take 1 t) (absolute_is (drop end path) e)))
-    h
 
 -- one step further
 module _ (path kept rest : List ℕ) (underflowed : Bool) (h : IsLeft path kept rest underflowed)

@@ -1,18 +1,37 @@
 -- What a path begins with: a dot segment, or segments that are none.
 use Rattle.std.specs.Prelude.{◌≡◌, ◌<◌, ◌≤◌, ◌+◌, ◌-◌, ◌&&◌, ◌||◌, ◌==◌, ℕ, Bool, true, false}
-use Rattle.std.specs.Prelude.{List, [], ◌∷◌, length, take, drop, slice_index}
+use Rattle.std.specs.Prelude.{List, [], ◌∷◌, length, take, drop, slice_index, if◌then◌else◌}
 use Rattle.std.specs.Str.{IsCharBoundary}
 use Rattle.uri_pct.specs.Delimiters.{slash}
 use Rattle.uri_parts.specs.Components.{IsRooted}
-use Rattle.uri_ops.specs.declared.dot_segments.Leading.{Leading}
-use Rattle.uri_ops.specs.declared.dot_segments.Leading.TheVariants.{SingleDot, DoubleDot, Plain}
-use Rattle.uri_ops.specs.Dots.{has_slash, is_double_dot, is_single_dot, lacks_dot_segments}
+use Rattle.uri_ops.specs.declared.dots.Leading.{Leading}
+use Rattle.uri_ops.specs.declared.dots.Leading.TheVariants.{SingleDot, DoubleDot, Plain}
+use Rattle.uri_ops.specs.Dots.{has_slash, is_dot_segment, is_double_dot, is_single_dot}
+use Rattle.uri_ops.specs.Dots.{lacks_dot_segments}
 use Rattle.uri_ops.specs.Models.Directories.{IsClosed}
 
 -- the path begins with a dot or an octet
 abbrev pub begins_with_dot : List ℕ → Bool
 begins_with_dot [] = false
 begins_with_dot (c ∷ rest) = c == 46 || c == 37
+
+-- how many bytes the dot takes that a text begins with
+abbrev pub dot_len : List ℕ → ℕ
+dot_len text =
+    if slice_index text 0 == 46 then 1
+    else (if slice_index text 0 == 37 && (slice_index text 1 == 50
+    && (slice_index text 2 == 69 || slice_index text 2 == 101)) then 3 else 0)
+
+-- the text is empty or begins with `/`
+abbrev pub ends_segment : List ℕ → Bool
+ends_segment [] = true
+ends_segment (c ∷ rest) = c == slash
+
+-- the first segment of the path is no dot segment
+abbrev pub IsNoDots : List ℕ → Type 0
+IsNoDots path =
+    (end : ℕ) → has_slash (take end path) ≡ false → IsRooted (drop end path)
+    → is_dot_segment (take end path) ≡ false
 
 -- a `/` stands at the place, and a dot or the `%` of an octet behind it
 abbrev pub begins_at : List ℕ → ℕ → Bool

@@ -1,8 +1,15 @@
 use Rattle.std.proofs.Common.{◌≡◌, ◌++◌, ap, length, rules, string_bytes, ◌∙◌}
+use Rattle.uri_ops.proofs.Paths.DotStarts.{no_dots}
 use Rattle.uri_ops.proofs.Paths.LeftPaths.{front_of}
 use Rattle.uri_ops.proofs.Paths.PushedPaths.{absolute_start, front_pushed, path_pushed}
 use Rattle.uri_ops.proofs.Paths.PushedPaths.{path_underflows, whole_plain}
 use Rattle.uri_ops.proofs.dot_segments.push_without_dot_segments.Goals as goal
+
+pub plain_len-plain-requires-clause-some : goal.plain_len-plain-requires-clause-some
+plain_len-plain-requires-clause-some c = (absolute_start c.args.path.now c.requires).1
+
+pub plain_len-plain-requires-clause-first : goal.plain_len-plain-requires-clause-first
+plain_len-plain-requires-clause-first c = no_dots c.args.path.now (absolute_start c.args.path.now c.requires).0
 
 pub returns-then-plain-path-clause-text : goal.returns-then-plain-path-clause-text
 returns-then-plain-path-clause-text c =
@@ -10,24 +17,22 @@ returns-then-plain-path-clause-text c =
     let n = c.plain_len-plain.result in
     c.in_ok-push_str.ensures.bytes
     ∙ ap (λ t. string_bytes c.args.out.now ++ t)
-    (whole_plain path c.range.result.now n c.requires c.if-plain-path.true c.plain_len-plain.ensures.plain (front_of path c.range.result.now n c.range.ensures.value)).0
+    (whole_plain path c.range.result.now n c.requires c.if-plain-path.true c.plain_len-plain.ensures.plain.plain (front_of path c.range.result.now n c.range.ensures.value)).0
 
 pub returns-then-plain-path-clause-underflow : goal.returns-then-plain-path-clause-underflow
 returns-then-plain-path-clause-underflow c =
     let path = c.args.path.now in
     let n = c.plain_len-plain.result in
-    (whole_plain path c.range.result.now n c.requires c.if-plain-path.true c.plain_len-plain.ensures.plain (front_of path c.range.result.now n c.range.ensures.value)).1
+    (whole_plain path c.range.result.now n c.requires c.if-plain-path.true c.plain_len-plain.ensures.plain.plain (front_of path c.range.result.now n c.range.ensures.value)).1
 
 pub push_segments-requires : goal.push_segments-requires
 push_segments-requires c =
     let at : c.len-start.result ≡ length (string_bytes c.args.out.now) = search rules in
     let path = c.args.path.now in
     let n = c.plain_len-plain.result in
-    let begins = absolute_start path c.requires in
-    let some = c.plain_len-plain.ensures.some begins.0 begins.1 in
     front_pushed (string_bytes c.args.out.now) c.len-start.result at (string_bytes c.push_str.new.self)
     path c.requires n c.range.result.now (front_of path c.range.result.now n c.range.ensures.value) c.in_ok-push_str.ensures.bytes
-    some c.plain_len-plain.ensures.place.0 c.if-plain-path.false c.plain_len-plain.ensures.plain (c.plain_len-plain.ensures.closed some)
+    c.plain_len-plain.ensures.some c.plain_len-plain.ensures.place.0 c.if-plain-path.false c.plain_len-plain.ensures.plain.plain c.plain_len-plain.ensures.plain.closed
 
 pub returns-clause-text : goal.returns-clause-text
 returns-clause-text c =

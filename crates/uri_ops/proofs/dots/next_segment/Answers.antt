@@ -1,7 +1,11 @@
-use Rattle.std.proofs.Common.{arith}
+use Rattle.std.proofs.Common.{arith, sym}
+use Rattle.std.proofs.lemmas.List.{drop-drop}
 use Rattle.std.proofs.lemmas.Str.{IsCharBoundary-after_ascii}
 use Rattle.uri_ops.proofs.Paths.LastSlashes.{slash_behind}
-use Rattle.uri_ops.proofs.dot_segments.next_segment.Goals as goal
+use Rattle.uri_ops.proofs.dots.next_segment.Goals as goal
+
+pub returns-then-end-path-clause-rest : goal.returns-then-end-path-clause-rest
+returns-then-end-path-clause-rest c = sym (drop-drop 1 c.args.end c.args.path.now)
 
 pub returns-then-end-path-clause-place : goal.returns-then-end-path-clause-place
 returns-then-end-path-clause-place c =

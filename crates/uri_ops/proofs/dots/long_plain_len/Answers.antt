@@ -1,6 +1,6 @@
 use Rattle.std.proofs.Common.{◌≡◌, ◌+◌, ◌-◌, ap, arith, get_or, length, ◌∙◌}
 use Rattle.uri_ops.proofs.Paths.DotStarts.{in_window}
-use Rattle.uri_ops.proofs.dot_segments.long_plain_len.Goals as goal
+use Rattle.uri_ops.proofs.dots.long_plain_len.Goals as goal
 
 pub returns-then-plain-lt-LANES : goal.returns-then-plain-lt-LANES
 returns-then-plain-lt-LANES c =

@@ -1,0 +1,9 @@
+use Rattle.std.proofs.Common.{sym, ap, ◌∙◌}
+use Rattle.uri_ops.specs.Models.LeadingSegments.{begins_with_dot}
+use Rattle.uri_ops.proofs.Paths.DotStarts.{no_dots}
+use Rattle.uri_ops.proofs.dots.leading_part.Goals as goal
+
+pub plain_len-requires-clause-first : goal.plain_len-requires-clause-first
+plain_len-requires-clause-first c =
+    no_dots c.args.path.now (ap begins_with_dot (sym c.as_bytes-bytes.ensures.value)
+    ∙ sym c.begins_with_dot.ensures ∙ c.if-begins_with_dot.false)
