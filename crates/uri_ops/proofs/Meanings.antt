@@ -11,7 +11,9 @@ pub mod HostMeanings
 pub mod AuthorityMeanings
 pub mod ReadParts
 pub mod Cased
+pub mod LowerRuns
 pub mod ReadFronts
+pub mod UnreservedCodes
 pub mod WrittenFormatting
 pub mod TakenReadings
 pub mod Decodable

@@ -10,19 +10,29 @@ ghost use Rattle.uri_ops.specs.Models.Readings.{cased, cased_text};
 
 use crate::reading::push_lower;
 use std::alloc::AllocError;
-use uri_pct::lanes::has;
 use uri_pct::octet::{octet_value, pct_encoded};
-use uri_pct::table::UNRESERVED;
 
-/// Whether the character is unreserved (RFC 3986, section 2.3).
-#[tactic(auto, using(uri_pct::proofs::TableSets::Constants::unreserved_table))]
+/// The code of each character of ASCII where it is unreserved (RFC 3986, section 2.3), and else 128.
+const UNRESERVED: &[u8; 128] = &[
+    128, 128, 128, 128, 128, 128, 128, 128, 128, 128, 128, 128, 128, 128, 128, 128, // 00
+    128, 128, 128, 128, 128, 128, 128, 128, 128, 128, 128, 128, 128, 128, 128, 128, // 10
+    128, 128, 128, 128, 128, 128, 128, 128, 128, 128, 128, 128, 128, 45, 46, 128, // 20
+    48, 49, 50, 51, 52, 53, 54, 55, 56, 57, 128, 128, 128, 128, 128, 128, // 30
+    128, 65, 66, 67, 68, 69, 70, 71, 72, 73, 74, 75, 76, 77, 78, 79, // 40
+    80, 81, 82, 83, 84, 85, 86, 87, 88, 89, 90, 128, 128, 128, 128, 95, // 50
+    128, 97, 98, 99, 100, 101, 102, 103, 104, 105, 106, 107, 108, 109, 110, 111, // 60
+    112, 113, 114, 115, 116, 117, 118, 119, 120, 121, 122, 128, 128, 128, 126, 128, // 70
+];
+
+/// The unreserved character of this code, if there is one.
 #[inline(always)]
-fn is_unreserved(byte: u8) -> bool
-    requires { byte < 128 }
-    ensures { result ≡ is_unreserved byte }
+fn unreserved(value: u8) -> Option<u8>
+    requires { value < 128 }
+    ensures { MatchOption result (is_unreserved value ≡ false)
+        (λ ch. (ch ≡ value) × (is_unreserved value ≡ true)) }
 {
-    let (low, high) = UNRESERVED.masks();
-    has(low, high, byte)
+    let ch = UNRESERVED[usize::from(value)];
+    if ch.is_ascii() { Some(ch) } else { None }
 }
 
 /// The unreserved character that the octet with these digits spells, if it spells one.
@@ -37,12 +47,8 @@ pub(crate) fn spelt(high: u8, low: u8) -> Option<u8>
     if high >= b'8' {
         return None;
     }
-    let value = octet_value(high, low);
-    if is_unreserved(value) {
-        Some(value)
-    } else {
-        None
-    }
+    let ch = unreserved(octet_value(high, low))?;
+    Some(ch)
 }
 
 /// Whether both hexadecimal digits are in upper case.
@@ -109,9 +115,8 @@ pub(crate) fn push_alone(lowers: bool, value: u8, out: &mut String) -> Result<()
     ensures { OnOk result
         (Pushes out.old out.new (print (cased lowers (read_alone (Octet value) ∷ [])))) }
 {
-    if is_unreserved(value) {
-        push_letter(lowers, value, out)
-    } else {
-        push_octet(value, out)
+    match unreserved(value) {
+        Some(ch) => push_letter(lowers, ch, out),
+        None => push_octet(value, out),
     }
 }

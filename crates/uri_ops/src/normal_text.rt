@@ -148,8 +148,7 @@ fn push_cleaned<E: Encoder>(
         (guarded authority (print (read E.set (remove_dot_segments (text_of path.entry)))))) }
     ensures underflow { IfOk result (λ underflowed. underflowed ≡ underflows (text_of path.entry)) }
 {
-    let mut plain = String::new(alloc);
-    plain.reserve(path.len())?;
+    let mut plain = String::with_capacity(alloc, path.len())?;
     let underflowed = push_without_dot_segments(path.as_str(), &mut plain)?;
     push_guarded::<E>(alloc, has_authority, plain.as_str(), out)?;
     Ok(underflowed)

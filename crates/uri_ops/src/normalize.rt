@@ -84,8 +84,7 @@ fn written_form<K: Kind, P: DefaultPort>(
     ensures underflow { IfOk result (λ made.
         made.underflows ≡ text_underflows (core_text core.entry)) }
 {
-    let mut text = String::new(alloc);
-    text.reserve(core.as_str().len())?;
+    let mut text = String::with_capacity(alloc, core.as_str().len())?;
     let (positions, underflows) = push_normal(alloc, core, ports, &mut text)?;
     Ok(Normalized {
         text,

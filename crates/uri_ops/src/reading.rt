@@ -1,8 +1,11 @@
 //! Components as they are read (RFC 3986, sections 6.2.2.1 and 6.2.2.2; RFC 3987, sections 4.1 and
 //! 5.3.2.3).
-ghost use Rattle.std.specs.Prelude.{◌≡◌, ◌&&◌, OnOk, map};
+ghost use Rattle.std.specs.Prelude.{◌≡◌, ◌==◌, ◌&&◌, OnOk, map};
+ghost use Rattle.std.specs.Char.{is_ascii_uppercase};
+ghost use Rattle.std.specs.List.{position_or_len};
 ghost use Rattle.std.specs.Str.{str_to_ascii_lowercase};
 ghost use Rattle.uri_pct.specs.Chunks.{widest_set};
+ghost use Rattle.uri_pct.specs.Delimiters.{percent_sign};
 ghost use Rattle.uri_pct.specs.EStrs.{text_of};
 ghost use Rattle.uri_pct.specs.Reading.{read, read_tokens, lower_token};
 ghost use Rattle.uri_pct.specs.Tables.{set_of};
@@ -11,7 +14,7 @@ ghost use Rattle.uri_parts.specs.Appending.{Pushes};
 ghost use Rattle.uri_ops.specs.Models.Readings.{cased};
 
 use crate::formatting::encode_formatting;
-use crate::fronts::{are_upper, push_alone, push_letter, push_octet, push_plain, spelt};
+use crate::fronts::{are_upper, push_alone, push_letter, push_octet, push_plain, push_some, spelt};
 use std::alloc::{AllocError, Global};
 use std::mem;
 use uri_pct::decode::{Decode, unencoded_len};
@@ -99,7 +102,7 @@ fn push_parts(
 
 /// Appends what is read of the tokens of the text, with its letters lowered where that is asked:
 /// runs of what is read as it stands, and between them what octets by themselves are read as. Only
-/// an octet past ASCII of an IRI is not read by itself.
+/// an octet past ASCII of an IRI is not read by itself. The first octet has been found.
 ///
 /// It stands apart, since most texts have no octet.
 #[inline(never)]
@@ -108,16 +111,18 @@ fn push_runs(
     table: &Table,
     lowers: bool,
     text: &str,
+    first: usize,
     out: &mut String,
 ) -> Result<(), AllocError>
-    requires { IsValidFor widest_set text.now }
+    requires valid { IsValidFor widest_set text.now }
+    requires first { first ≡ position_or_len (λ b. b == percent_sign) text.now }
     ensures { OnOk result (Pushes out.old out.new
         (print (cased lowers (read_tokens (set_of table.now) (tokens text.now))))) }
 {
     let alone = !table.allows_some_past_ascii();
     let bytes = text.as_bytes();
     let mut done = 0;
-    let mut end = 0;
+    let mut end = first;
     while end < bytes.len() {
         if bytes[end] != b'%' {
             end += unencoded_len(&text[end..]);
@@ -160,10 +165,11 @@ fn push_tokens(
     ensures { OnOk result (Pushes out.old out.new
         (print (cased lowers (read_tokens (set_of table.now) (tokens text.now))))) }
 {
-    if Decode::of_text(text).is_unencoded() {
+    let first = unencoded_len(text);
+    if first == text.len() {
         return push_plain(lowers, text, out);
     }
-    push_runs(alloc, table, lowers, text, out)
+    push_runs(alloc, table, lowers, text, first, out)
 }
 
 /// Appends what is read of the text, with its letters lowered where that is asked.
@@ -237,23 +243,33 @@ pub fn push_read_host(
     push_cased(alloc, table, true, text, out)
 }
 
-/// Appends the text with its ASCII letters in lower case.
+/// How far the text has no ASCII letter in upper case.
+#[inline(always)]
+fn lower_len(text: &str) -> usize
+    ensures { result ≡ position_or_len is_ascii_uppercase text.now }
+{
+    let bytes = text.as_bytes();
+    bytes
+        .iter()
+        .position(|byte| byte.is_ascii_uppercase())
+        .unwrap_or(bytes.len())
+}
+
+/// Appends the text with its ASCII letters in lower case: runs without upper case as they stand,
+/// and between them a letter.
 #[doc(hidden)]
 pub fn push_lower(text: &str, out: &mut String) -> Result<(), AllocError>
     ensures { OnOk result (Pushes out.old out.new (str_to_ascii_lowercase text.now)) }
 {
-    if text.as_bytes().iter().any(|byte| byte.is_ascii_uppercase()) {
-        return push_lowered(text, out);
+    let mut rest = text;
+    loop {
+        let len = lower_len(rest);
+        push_some(&rest[..len], out)?;
+        if len == rest.len() {
+            return Ok(());
+        }
+        let letter = rest.as_bytes()[len];
+        out.push(char::from(letter.to_ascii_lowercase()))?;
+        rest = &rest[len + 1..];
     }
-    out.push_str(text)
-}
-
-/// Appends the text character by character, the ASCII letters in lower case.
-fn push_lowered(text: &str, out: &mut String) -> Result<(), AllocError>
-    ensures { OnOk result (Pushes out.old out.new (str_to_ascii_lowercase text.now)) }
-{
-    for ch in text.chars() {
-        out.push(ch.to_ascii_lowercase())?;
-    }
-    Ok(())
 }

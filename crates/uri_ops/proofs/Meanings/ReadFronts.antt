@@ -368,13 +368,10 @@ unfolding tokens_of chars read_from
 nothing_read true set = ap (λ ts. print (map lower_token ts)) (no_run set)
 nothing_read false set = ap print (no_run set)
 
--- a text without octets
-pub unencoded_read : (lowers : Bool) (set : TableSet) (text : List ℕ) → IsUtf8 text
-    → lacks 37 text ≡ true → text_read lowers set text ≡ cased_text lowers text
-unencoded_read lowers set text u e =
-    ap (text_read lowers set) (sym (append-nil text)) ∙ plain_read lowers set text [] u e
-    ∙ ap (λ x. cased_text lowers text ++ x) (nothing_read lowers set)
-    ∙ append-nil (cased_text lowers text)
+-- a front of the whole text
+pub whole_front : (lowers : Bool) (set : TableSet) (text : List ℕ) (n : ℕ)
+    → IsFront lowers set text n → IsFront lowers set (drop 0 text) (n - 0)
+whole_front lowers set text n = subst (IsFront lowers set text) (omega arith)
 
 -- what is left to write at the end
 pub all_written : (lowers : Bool) (set : TableSet) (text out new whole : List ℕ) (done end : ℕ)

@@ -9,7 +9,7 @@ use Rattle.uri_pct.specs.Tables.{set_of}
 use Rattle.uri_ops.specs.Models.Readings.{IsFront, cased_text, text_read}
 use Rattle.uri_ops.proofs.Meanings.ReadFronts.{PlainFront, by_itself, octet_at, plain_front}
 use Rattle.uri_ops.proofs.Meanings.ReadFronts.{kept_octet, no_front, front_more, front_written}
-use Rattle.uri_ops.proofs.Meanings.ReadFronts.{all_written, behind_front, octet_step}
+use Rattle.uri_ops.proofs.Meanings.ReadFronts.{all_written, behind_front, octet_step, whole_front}
 use Rattle.uri_ops.proofs.Meanings.ReadFronts.{lacks_past_ascii}
 use Rattle.uri_ops.proofs.reading.push_runs.Goals as goal
 use Rattle.uri_ops.proofs.reading.push_runs.Goals.{else-high-ge56-via-then-high-ge56+else-not-alone}
@@ -17,8 +17,17 @@ use Rattle.uri_ops.proofs.reading.push_runs.Goals.{else-high-ge56-via-else-high-
 
 pub loop-end-init : goal.loop-end-init
 loop-end-init c =
-    let first = IsCharBoundary-start c.args.text.now c.utf8.text in
-    record { order = omega arith; start = first; boundary = first; valid = c.requires; front = no_front c.args.lowers (set_of c.args.table.now) c.args.text.now; total = refl }
+    let text = c.args.text.now in
+    let set = set_of c.args.table.now in
+    let p = plain_front text c.args.first c.utf8.text c.requires.valid c.requires.first in
+    record {
+      order = omega arith;
+      start = IsCharBoundary-start text c.utf8.text;
+      boundary = p.boundary;
+      valid = p.valid;
+      front = whole_front c.args.lowers set text c.args.first (p.front c.args.lowers set);
+      total = refl;
+    }
 
 plain : (c : goal.After-unencoded_len-end)
     → PlainFront (drop c.loop-end.end c.args.text.now) c.unencoded_len-end.result
