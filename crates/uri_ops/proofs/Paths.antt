@@ -11,6 +11,7 @@ pub mod TakenSegments
 pub mod LastSlashes
 pub mod LeftPaths
 pub mod PushedPaths
+pub mod Seams
 pub mod DotBytes
 pub mod SegmentMaps
 pub mod ReadPaths

@@ -1,19 +1,17 @@
 //! The removal of dot segments (RFC 3986, section 5.2.4).
-ghost use Rattle.std.specs.Prelude.{◌≡◌, ◌≤◌, ◌<◌, ◌==◌, ◌||◌, ◌++◌, ◌+◌, IfOk, false, true, OnOk};
-ghost use Rattle.std.specs.Prelude.{◌&&◌, length, drop, take, slice_index, string_bytes};
+ghost use Rattle.std.specs.Prelude.{◌≡◌, ◌≤◌, ◌<◌, ◌++◌, ◌+◌, IfOk, OnOk, false, true, length};
+ghost use Rattle.std.specs.Prelude.{drop, take, string_bytes};
 ghost use Rattle.std.specs.Str.{IsCharBoundary};
 ghost use Rattle.uri_parts.specs.Appending.{Pushes};
 ghost use Rattle.uri_parts.specs.Components.{IsRooted};
-ghost use Rattle.uri_ops.specs.Models.Directories.{IsClosed, IsPlainDirectory, parent_directory};
-ghost use Rattle.uri_ops.specs.Models.LeadingSegments.{IsBeforeDots, IsLeading, IsPart};
-ghost use Rattle.uri_ops.specs.Models.LeadingSegments.{begins_with_dot};
+ghost use Rattle.uri_ops.specs.Models.Directories.{IsLeft, IsPlainDirectory, parent_directory};
 ghost use Rattle.uri_ops.specs.Models.Places.{IsSlashOrAt};
-ghost use Rattle.uri_ops.specs.Dots.{EndsInSlash, IsAbsolute, before_last_slash, directory, has_slash};
-ghost use Rattle.uri_ops.specs.Dots.{is_double_dot, is_empty, is_single_dot, lacks_dot_segments};
+ghost use Rattle.uri_ops.specs.Dots.{EndsInSlash, IsAbsolute, before_last_slash, directory};
+ghost use Rattle.uri_ops.specs.Dots.{has_slash, is_double_dot, is_empty, lacks_dot_segments};
 ghost use Rattle.uri_ops.specs.Dots.{remove_dot_segments, underflows};
 ghost use Rattle.uri_ops.specs.Target.{merged};
 
-use crate::dots::{Leading, is_double_dot, leading_part, plain_len};
+use crate::dots::{Leading, begins_with_dot, is_double_dot, leading_part, plain_len};
 use std::alloc::AllocError;
 
 /// Where the last `/` stands that is not before `start`, or `start` if there is none.
@@ -125,6 +123,8 @@ fn directory_end(path: &str) -> usize
     ensures text { remove_dot_segments (take result path.now)
         ≡ remove_dot_segments (directory path.now) }
     ensures underflow { underflows (take result path.now) ≡ underflows (directory path.now) }
+    ensures closed { EndsInSlash (take result path.now)
+        → take result path.now ≡ directory path.now }
     ensures absolute { 0 < result }
     ensures place { IsCharBoundary path.now result }
 {
@@ -144,6 +144,65 @@ fn root_or(path: &str) -> &str
     if path.is_empty() { "/" } else { path }
 }
 
+/// Whether a path is a directory without dot segments, as a look at where segments begin tells.
+fn is_plain_directory(path: &str) -> bool
+    requires { IsAbsolute path.now }
+    ensures { result ≡ true → IsPlainDirectory path.now }
+{
+    path.as_bytes()[path.len() - 1] == b'/' && plain_len(path) == path.len()
+}
+
+/// The directory that a directory stands in, which is `/` for `/` too.
+fn parent(directory: &str) -> &str
+    requires { IsPlainDirectory directory.now }
+    ensures { result.now ≡ parent_directory directory.now }
+{
+    let end = directory.len() - 1;
+    let slash = last_slash(&directory.as_bytes()[..end], 0);
+    &directory[..slash + 1]
+}
+
+/// What is left of a directory where the dot segments that a reference begins with lead from it,
+/// what is left of the reference, and whether a double dot had nothing left to remove.
+#[inline(always)]
+fn seam<'a>(directory: &'a str, reference: &'a str) -> (&'a str, &'a str, bool)
+    requires { IsPlainDirectory directory.now }
+    ensures kept { IsPlainDirectory result.0.now }
+    ensures left { IsLeft (directory.now ++ reference.now) result.0.now result.1.now result.2 }
+{
+    let mut kept = directory;
+    let mut rest = reference;
+    let mut underflowed = false;
+    while begins_with_dot(rest.as_bytes()) {
+        match leading_part(rest) {
+            Leading::SingleDot(next) => rest = &rest[next..],
+            Leading::DoubleDot(next) => {
+                underflowed |= kept.len() == 1;
+                kept = parent(kept);
+                rest = &rest[next..];
+            }
+            Leading::Plain(_) => return (kept, rest, underflowed),
+        }
+    }
+    (kept, rest, underflowed)
+}
+
+/// Appends a reference's path behind a directory without dot segments like `push_merged`. What the
+/// dot segments at its beginning remove of the directory is not appended.
+fn push_behind(directory: &str, reference: &str, out: &mut String) -> Result<bool, AllocError>
+    requires { IsPlainDirectory directory.now }
+    ensures text { OnOk result (Pushes out.old out.new
+        (remove_dot_segments (directory.now ++ reference.now))) }
+    ensures underflow { IfOk result (λ underflowed. underflowed
+        ≡ underflows (directory.now ++ reference.now)) }
+{
+    let (kept, rest, underflowed) = seam(directory, reference);
+    let start = out.len();
+    out.push_str(kept)?;
+    let of_rest = push_segments(rest, start, out)?;
+    Ok(underflowed | of_rest)
+}
+
 /// Appends a reference's path behind the directory of a base's path (RFC 3986, section 5.2.3),
 /// without dot segments, and answers whether a double dot had nothing left to remove. The two are
 /// read one after the other, and never joined.
@@ -154,9 +213,13 @@ pub(crate) fn push_merged(base: &str, reference: &str, out: &mut String) -> Resu
     ensures underflow { IfOk result (λ underflowed. underflowed
         ≡ underflows (merged base.now reference.now)) }
 {
-    let start = out.len();
     let base = root_or(base);
-    let of_base = push_without_dot_segments(&base[..directory_end(base)], out)?;
+    let directory = &base[..directory_end(base)];
+    if is_plain_directory(directory) {
+        return push_behind(directory, reference, out);
+    }
+    let start = out.len();
+    let of_base = push_without_dot_segments(directory, out)?;
     let of_reference = push_segments(reference, start, out)?;
     Ok(of_base | of_reference)
 }

@@ -1,10 +1,9 @@
 //! What a path begins with: dot segments, told by their bytes, or segments that are none
 //! (RFC 3986, section 3.3).
-ghost use Rattle.std.specs.Prelude.{◌≡◌, ◌≤◌, ◌<◌, ◌==◌, ◌||◌, ◌++◌, ◌+◌, false};
-ghost use Rattle.std.specs.Prelude.{◌&&◌, length, drop, take, slice_index};
+ghost use Rattle.std.specs.Prelude.{◌≡◌, ◌≤◌, ◌<◌, ◌==◌, ◌||◌, ◌+◌, ◌&&◌, length, drop};
+ghost use Rattle.std.specs.Prelude.{slice_index};
 ghost use Rattle.std.specs.Str.{IsCharBoundary};
 ghost use Rattle.uri_parts.specs.Components.{IsRooted};
-ghost use Rattle.uri_ops.specs.Models.Directories.{IsClosed};
 ghost use Rattle.uri_ops.specs.Models.LeadingSegments.{IsBeforeDots, IsLeading, IsNoDots, IsPart};
 ghost use Rattle.uri_ops.specs.Models.LeadingSegments.{IsPlainFront, begins_with_dot, dot_len};
 ghost use Rattle.uri_ops.specs.Models.LeadingSegments.{ends_segment};
@@ -46,7 +45,7 @@ pub(crate) fn is_double_dot(segment: &str) -> bool
 
 /// Whether a path begins with a dot or an octet, as each dot segment does.
 #[inline(always)]
-fn begins_with_dot(path: &[u8]) -> bool
+pub(crate) fn begins_with_dot(path: &[u8]) -> bool
     ensures { result ≡ begins_with_dot path.now }
 {
     matches!(path, [b'.' | b'%', ..])

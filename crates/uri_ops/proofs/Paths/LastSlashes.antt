@@ -145,18 +145,25 @@ module _ (path : List ℕ) (slash : ℕ) (absolute : IsAbsolute path) (place : I
       ∙ closing_dots (take slash path) (drop (slash + 1) path) (subst IsAbsolute (cut path slash absolute place) absolute) last e
       ∙ ap remove_dot_segments (up_to_end e)
 
+  pub open_dots : is_double_dot (drop (slash + 1) path) ≡ true → EndsInSlash path → ⊥
+  open_dots e ends =
+      let segment : last_segment path ≡ drop (slash + 1) path = ap last_segment (cut path slash absolute place)
+      ∙ last_of (take slash path) (drop (slash + 1) path) last in
+      let none : last_segment path ≡ [] = ap last_segment ends.1 ∙ last_of ends.0 [] refl in
+      false≢true (ap is_double_dot (sym none ∙ segment) ∙ e)
+
 -- the last segment of a directory is cut off
-before_closed : (path : List ℕ) → (d : EndsInSlash path) → before_last_slash path ≡ d.0
+pub before_closed : (path : List ℕ) → (d : EndsInSlash path) → before_last_slash path ≡ d.0
 before_closed path d = ap before_last_slash d.1 ∙ before_slash d.0 [] refl
 
-length_closed : (path : List ℕ) → (d : EndsInSlash path) → length path ≡ length d.0 + 1
+pub length_closed : (path : List ℕ) → (d : EndsInSlash path) → length path ≡ length d.0 + 1
 length_closed path d = ap length d.1 ∙ length-append d.0 (codes "/")
 
 pub first_slash : (path : List ℕ) → IsAbsolute path → get_or path 0 0 ≡ 47
 first_slash [] h = absurd (false≢true (true_of _ h))
 first_slash (c ∷ path) h = eqb-true c 47 (true_of _ h)
 
-empty_length : (text : List ℕ) (n m : ℕ) → n ≡ m + length text → eqb n m ≡ is_empty text
+pub empty_length : (text : List ℕ) (n m : ℕ) → n ≡ m + length text → eqb n m ≡ is_empty text
 empty_length [] n m e = grind (arith, nat_tests)
 empty_length (c ∷ text) n m e = ne_eqb n m (λ f. omega (arith, e, f))
 

@@ -15,7 +15,7 @@ use Rattle.uri_parts.specs.Components.{IsRooted}
 use Rattle.uri_ops.specs.Dots.{is_single_dot, is_double_dot, is_empty}
 use Rattle.uri_ops.specs.Dots.{before_last_slash, has_slash, lacks_dot_segments, segments}
 use Rattle.uri_ops.specs.Dots.{remove_dot_segments, underflows, IsAbsolute}
-use Rattle.uri_ops.specs.Models.Directories.{IsPlainDirectory, IsClosed, parent_directory}
+use Rattle.uri_ops.specs.Models.Directories.{IsPlainDirectory, IsClosed, IsLeft, parent_directory}
 use Rattle.uri_ops.proofs.Paths.Segments.{pop, is_none, turn, step_of, sunk, Passes, is_plain}
 use Rattle.uri_ops.proofs.Paths.Segments.{pop_push, pop_passes, append_passes, none_push}
 use Rattle.uri_ops.proofs.Paths.Segments.{single_only}
@@ -27,14 +27,6 @@ use Rattle.uri_ops.proofs.Paths.DotLaws.{underflows_of_plain}
 use Rattle.uri_ops.proofs.Paths.TakenSegments.{removed_dot, underflows_dot}
 use Rattle.uri_ops.proofs.Targeting.Targets.{absolute_append}
 use Rattle.uri_pct.proofs.Tests.{true_of}
-
--- what was kept, and what is left of a path
-pub record IsLeft (path kept rest : List ℕ) (underflowed : Bool) : Type 0 where
-  pub removed : remove_dot_segments (kept ++ rest) ≡ remove_dot_segments path
-  pub underflow : (underflowed || underflows (kept ++ rest)) ≡ underflows path
-  pub absolute : IsAbsolute kept
-  pub plain : lacks_dot_segments kept ≡ true
-  pub closed : IsClosed kept rest
 
 pub left_first : (kept rest : List ℕ) → IsPlainDirectory kept
     → IsLeft (kept ++ rest) kept rest false

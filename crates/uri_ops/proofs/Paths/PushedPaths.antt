@@ -15,7 +15,7 @@ use Rattle.uri_ops.specs.Dots.{IsAbsolute, EndsInSlash}
 use Rattle.uri_ops.specs.Models.Directories.{IsClosed, IsPlainDirectory}
 use Rattle.uri_ops.specs.Models.LeadingSegments.{begins_with_dot}
 use Rattle.uri_ops.specs.Target.{merged}
-use Rattle.uri_ops.proofs.Paths.LeftPaths.{IsLeft}
+use Rattle.uri_ops.specs.Models.Directories.{IsLeft}
 use Rattle.uri_ops.proofs.Paths.DotLaws.{directory_absolute, directory_ends, removed_absolute}
 use Rattle.uri_ops.proofs.Paths.DotLaws.{removed_directory, removed_in_pieces, removed_lacks}
 use Rattle.uri_ops.proofs.Paths.DotLaws.{removed_of_plain, underflows_in_pieces}
@@ -62,10 +62,10 @@ whole_plain path front n absolute end plain is =
 
 -- behind what stood there
 module _ (old : List ℕ) (start : ℕ) (at : start ≡ length old) (mid : List ℕ) where
-  behind_old : (text : List ℕ) → mid ≡ old ++ text → drop start mid ≡ text
+  pub behind_old : (text : List ℕ) → mid ≡ old ++ text → drop start mid ≡ text
   behind_old text e = ap (drop start) e ∙ drop_at old text start (sym at)
 
-  whole : (text new kept : List ℕ) → mid ≡ old ++ text → take start new ≡ take start mid
+  pub whole : (text new kept : List ℕ) → mid ≡ old ++ text → take start new ≡ take start mid
       → drop start new ≡ kept → new ≡ old ++ kept
   whole text new kept e before is =
       sym (take-append-drop start new)

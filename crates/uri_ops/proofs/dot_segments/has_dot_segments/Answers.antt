@@ -4,7 +4,8 @@ use Rattle.std.specs.Str.{IsCharBoundary}
 use Rattle.std.proofs.lemmas.List.{drop-drop}
 use Rattle.std.proofs.lemmas.Str.{IsCharBoundary-from_rest}
 use Rattle.uri_pct.proofs.Unicode.Pieces.{take_two}
-use Rattle.uri_ops.proofs.Paths.LeftPaths.{IsLeft, left_as, left_kept}
+use Rattle.uri_ops.specs.Models.Directories.{IsLeft}
+use Rattle.uri_ops.proofs.Paths.LeftPaths.{left_as, left_kept}
 use Rattle.uri_ops.proofs.Paths.PushedPaths.{root_left, root_place}
 use Rattle.uri_ops.proofs.dot_segments.has_dot_segments.Goals as goal
 

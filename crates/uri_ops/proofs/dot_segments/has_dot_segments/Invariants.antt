@@ -1,6 +1,6 @@
 use Rattle.std.proofs.Common.{◌-◌, length, take, drop, false}
 use Rattle.std.specs.Str.{IsCharBoundary}
-use Rattle.uri_ops.proofs.Paths.LeftPaths.{IsLeft}
+use Rattle.uri_ops.specs.Models.Directories.{IsLeft}
 use Rattle.uri_ops.proofs.dot_segments.has_dot_segments.Given as goal
 
 abbrev pub invariant-loop-done : goal.invariant-loop-done

@@ -1,5 +1,5 @@
 use Rattle.std.proofs.Common.{◌≡◌, ◌++◌, length, take, drop, string_bytes}
-use Rattle.uri_ops.proofs.Paths.LeftPaths.{IsLeft}
+use Rattle.uri_ops.specs.Models.Directories.{IsLeft}
 use Rattle.uri_ops.proofs.dot_segments.push_segments.Given as goal
 use denote.Shadow.{shadow}
 use denote.Text.{Utf8}

@@ -4,6 +4,7 @@ use Rattle.uri_ops.proofs.Paths.DotLengths.{dot_behind, double_told, end_behind,
 use Rattle.uri_ops.proofs.Paths.DotLengths.{none_told, single_told}
 use Rattle.uri_ops.proofs.dots.leading_segment.Goals as goal
 use Rattle.uri_ops.proofs.dots.leading_segment.Goals.{then-end-eq0-via-then-end-eq0}
+use Rattle.uri_ops.proofs.dots.leading_segment.Goals.{}
 use Rattle.uri_ops.proofs.dots.leading_segment.Goals.{then-end-eq0-via-else-end-eq0+then-not-ends_segment}
 
 pub plain_len-requires-clause-first : goal.plain_len-requires-clause-first
