@@ -105,6 +105,15 @@ impl<'a> Placed<'a> {
         &text[..self.positions.path_start]
     }
 
+    /// The query and the fragment with their marks: what stands behind the path.
+    pub(crate) fn behind_path(&self) -> &'a str
+        ensures { let p = components_of self.now in result.now
+            ≡ marked (codes "?") p.query [] ++ marked (codes "#") p.fragment [] }
+    {
+        let text = self.as_str();
+        &text[self.positions.path_end..]
+    }
+
     /// The query with its `?`, or no text.
     pub(crate) fn marked_query(&self) -> &'a str
         ensures { result.now ≡ marked (codes "?") (components_of self.now).query [] }

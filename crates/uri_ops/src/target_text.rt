@@ -148,11 +148,11 @@ fn push_guarded(
     ensures underflow { let t = joined (components_of base.now) (components_of reference.now) in
         IfOk result (λ underflowed. underflowed ≡ cleaning_underflows t.path) }
 {
-    if follows_authority {
-        return push_path(base, reference, out);
-    }
     let start = out.len();
     let underflowed = push_path(base, reference, out)?;
+    if follows_authority {
+        return Ok(underflowed);
+    }
     if begins_with_two_slashes(&out.as_bytes()[start..]) {
         out.insert_str(start, "/.")?;
     }
@@ -185,22 +185,46 @@ fn push_marked_fragment(source: &Placed<'_>, out: &mut String) -> Result<(), All
     Ok(())
 }
 
-/// Appends the target's query with its `?`, where it is present, and answers where it ends.
-fn push_query(
+/// Appends the query and the fragment of a text with their marks, and answers where the query ends,
+/// if there is one.
+fn push_behind_path(source: &Placed<'_>, out: &mut String) -> Result<Option<usize>, AllocError>
+    ensures text { let p = components_of source.now in OnOk result (Pushes out.old out.new
+        (marked (codes "?") p.query [] ++ marked (codes "#") p.fragment [])) }
+    ensures end { IfOk result (λ end. end
+        ≡ option_map (λ q. length (string_bytes out.old) + 1 + length q)
+        (components_of source.now).query) }
+{
+    let behind = source.behind_path();
+    if behind.is_empty() {
+        return Ok(None);
+    }
+    out.push_str(behind)?;
+    if source.has_query() {
+        return Ok(Some(out.len() - source.marked_fragment().len()));
+    }
+    Ok(None)
+}
+
+/// Appends the target's query and fragment with their marks, and answers where the query ends, if
+/// there is one.
+fn push_end(
     base: &Placed<'_>,
     reference: &Placed<'_>,
     out: &mut String,
 ) -> Result<Option<usize>, AllocError>
     ensures text { let t = joined (components_of base.now) (components_of reference.now) in
-        OnOk result (Pushes out.old out.new (marked (codes "?") t.query [])) }
+        OnOk result (Pushes out.old out.new
+        (marked (codes "?") t.query [] ++ marked (codes "#") t.fragment [])) }
     ensures end { let t = joined (components_of base.now) (components_of reference.now) in
         IfOk result (λ end. end
         ≡ option_map (λ q. length (string_bytes out.old) + 1 + length q) t.query) }
 {
     if is_fragment_only(reference) {
-        return push_marked_query(base, out);
+        let query_end = push_marked_query(base, out)?;
+        push_marked_fragment(reference, out)?;
+        return Ok(query_end);
     }
-    push_marked_query(reference, out)
+    push_behind_path(reference, out)
 }
 
 /// Appends a target to what is empty, and answers where its components lie, and whether the removal
@@ -225,8 +249,7 @@ fn push_target(
     let path_start = out.len();
     let underflowed = push_guarded(base, reference, authority.is_some(), out)?;
     let path_end = out.len();
-    let query_end = push_query(base, reference, out)?;
-    push_marked_fragment(reference, out)?;
+    let query_end = push_end(base, reference, out)?;
     let positions = Positions {
         scheme_end: scheme_end(base, reference),
         authority,

@@ -1,6 +1,6 @@
 -- What a target has of a base and a reference (section 5.2.2), by what the reference has.
 use Rattle.std.proofs.Common.{◌≡◌, ℕ, ◌+◌, true, false, cond, List, [], ◌∷◌, ◌++◌, length, refl}
-use Rattle.std.proofs.Common.{sym, ap, ◌∙◌, arith, ◌&&◌, append_assoc, length-append, option_map}
+use Rattle.std.proofs.Common.{sym, ap, ◌∙◌, arith, ◌-◌, ◌&&◌, append_assoc, length-append, option_map}
 use Rattle.std.specs.Prelude.{codes, Option, Some, None, is_none, is_some, ◌==◌}
 use Rattle.std.proofs.lemmas.Bool.{cond-true, cond-false, cond_both, false≢true, ne_eqb}
 use Rattle.uri_parts.specs.declared.positions.AuthorityPositions.{AuthorityPositions}
@@ -111,6 +111,16 @@ pub query_ends : (query : Option (List ℕ)) (o3 o4 : List ℕ) (end : ℕ) → 
 query_ends None o3 o4 end some e n = absurd (false≢true some)
 query_ends (Some q) o3 o4 end some e n =
     ap Some (omega (arith, n, ap length e, length-append o3 (codes "?" ++ q ++ []), length-append (codes "?" ++ q) [], length-append (codes "?") q))
+
+-- and one that a fragment may follow
+pub query_ends_before : (query fragment : Option (List ℕ)) (o3 o4 behind last : List ℕ) (end : ℕ)
+    → is_some query ≡ true
+    → behind ≡ marked (codes "?") query [] ++ marked (codes "#") fragment []
+    → last ≡ marked (codes "#") fragment [] → o4 ≡ o3 ++ behind → end ≡ length o4
+    → Some (end - length last) ≡ option_map (λ q. length o3 + 1 + length q) query
+query_ends_before None fragment o3 o4 behind last end some b l e n = absurd (false≢true some)
+query_ends_before (Some q) fragment o3 o4 behind last end some b l e n =
+    ap Some (omega (arith, n, ap length e, length-append o3 behind, ap length b, length-append (marked (codes "?") (Some q) []) (marked (codes "#") fragment []), ap length l, length-append (codes "?" ++ q) [], length-append (codes "?") q))
 
 pub empty_by_length : (text : List ℕ) → (length text == 0) ≡ is_empty text
 empty_by_length [] = refl

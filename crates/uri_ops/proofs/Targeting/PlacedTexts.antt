@@ -151,3 +151,15 @@ module _ (text : List ℕ) (p : Positions) (utf8 : IsUtf8 text) (at : AreAt text
       ap (λ k. drop k text) (ap before_fragment at ∙ sym (length-before_hash c))
       ∙ ap (drop (length (before_hash c))) (before_hash-append text c (IsSplitOf-components text))
       ∙ drop-append_seam (before_hash c) (fragment_text c.fragment)
+
+  pub behind_piece : drop p.path_end text
+      ≡ marked (codes "?") (components text).query [] ++ marked (codes "#") (components text).fragment []
+  behind_piece =
+      let c = components text in
+      let front = front_text c ++ c.path in
+      let behind = marked (codes "?") c.query [] ++ marked (codes "#") c.fragment [] in
+      let n : p.path_end ≡ length front = omega (arith, length-append (front_text c) c.path, length-front c, ap (λ (q : Positions). q.path_end) at) in
+      let whole : front ++ behind ≡ text = append_assoc (front_text c) c.path behind
+      ∙ append_assoc (marked [] c.scheme (codes ":")) (marked (codes "//") c.authority []) (c.path ++ behind)
+      ∙ recompose-components text in
+      ap (λ k. drop k text) n ∙ ap (drop (length front)) (sym whole) ∙ drop-append_seam front behind
