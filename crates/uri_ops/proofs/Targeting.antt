@@ -9,3 +9,4 @@ pub mod ResolvedTexts
 pub mod NormalTargets
 pub mod JoinedPieces
 pub mod PlacedTexts
+pub mod PlainTargets

@@ -4,6 +4,7 @@ pub mod DraftPlaces
 pub mod EncodedPlaces
 pub mod LeadingSegments
 pub mod Places
+pub mod PlainFronts
 pub mod Readings
 pub mod Unchanged
 pub mod Written

@@ -25,6 +25,7 @@ pub mod normal_text;
 pub mod normalize;
 #[doc(hidden)]
 pub mod placed;
+mod plain_front;
 #[doc(hidden)]
 pub mod reading;
 pub mod resolve;

@@ -22,6 +22,9 @@ pub struct Placed<'a> {
 }
 
 impl<'a> Placed<'a> {
+    ghost use Rattle.std.specs.Prelude.{take};
+    ghost use Rattle.uri_ops.specs.Dots.{IsAbsolute};
+    ghost use Rattle.uri_ops.specs.Models.Places.{IsSlashOrAt};
     ghost use Rattle.uri_ops.specs.Resolving.{components_of};
 
     /// The text of a value of a kind.
@@ -103,6 +106,18 @@ impl<'a> Placed<'a> {
     {
         let text = self.as_str();
         &text[..self.positions.path_start]
+    }
+
+    /// The text up to the last `/` of its path, and with it.
+    pub(crate) fn through_slash(&self, slash: usize) -> &'a str
+        requires absolute { IsAbsolute (components_of self.now).path }
+        requires place { IsSlashOrAt (components_of self.now).path 0 slash }
+        ensures { let p = components_of self.now in
+            result.now ≡ (marked [] p.scheme (codes ":") ++ marked (codes "//") p.authority [])
+            ++ take (slash + 1) p.path }
+    {
+        let text = self.as_str();
+        &text[..self.positions.path_start + slash + 1]
     }
 
     /// The query and the fragment with their marks: what stands behind the path.

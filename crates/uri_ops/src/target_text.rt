@@ -5,12 +5,14 @@ ghost use Rattle.uri_parts.specs.Appending.{Pushes};
 ghost use Rattle.uri_parts.specs.Components.{marked, recompose, starts};
 ghost use Rattle.uri_parts.specs.Positions.{AreAt, positions_of};
 ghost use Rattle.uri_ops.specs.Dots.{is_empty};
+ghost use Rattle.uri_ops.specs.Models.PlainFronts.{front_of};
 ghost use Rattle.uri_ops.specs.Resolving.{IsErrorFor, IsTarget, components_of, finished};
 ghost use Rattle.uri_ops.specs.Target.{cleaned_path, cleaning_underflows, is_fragment_only};
 ghost use Rattle.uri_ops.specs.Target.{is_refused_as_opaque, joined};
 
 use crate::dot_segments::{push_merged, push_without_dot_segments};
 use crate::placed::Placed;
+use crate::plain_front::plain_front;
 use crate::resolve::ResolveError;
 use crate::slashes::{begins_with_slash, begins_with_two_slashes};
 use std::alloc::{AllocError, Global};
@@ -227,6 +229,36 @@ fn push_end(
     push_behind_path(reference, out)
 }
 
+/// Appends a target up to the end of its path to what is empty, and answers where the path begins,
+/// and whether the removal of its dot segments underflows.
+fn push_to_path_end(
+    base: &Placed<'_>,
+    reference: &Placed<'_>,
+    follows_authority: bool,
+    out: &mut String,
+) -> Result<(usize, bool), AllocError>
+    requires refused { is_refused_as_opaque (components_of base.now) (components_of reference.now)
+        ≡ false }
+    requires authority { let t = joined (components_of base.now) (components_of reference.now) in
+        follows_authority ≡ is_some t.authority }
+    ensures text { let t = joined (components_of base.now) (components_of reference.now) in
+        OnOk result (Pushes out.old out.new (front_of t ++ (finished t).path)) }
+    ensures start { let t = joined (components_of base.now) (components_of reference.now) in
+        string_bytes out.old ≡ [] → IfOk result (λ written. written.0 ≡ length (front_of t)) }
+    ensures underflow { let t = joined (components_of base.now) (components_of reference.now) in
+        IfOk result (λ written. written.1 ≡ cleaning_underflows t.path) }
+{
+    if let Some(front) = plain_front(base, reference) {
+        out.push_str(front)?;
+        out.push_str(reference.path())?;
+        return Ok((base.before_path().len(), false));
+    }
+    push_front(base, reference, out)?;
+    let path_start = out.len();
+    let underflowed = push_guarded(base, reference, follows_authority, out)?;
+    Ok((path_start, underflowed))
+}
+
 /// Appends a target to what is empty, and answers where its components lie, and whether the removal
 /// of its dot segments underflows.
 fn push_target(
@@ -245,9 +277,7 @@ fn push_target(
         IfOk result (λ written. written.1 ≡ cleaning_underflows t.path) }
 {
     let authority = authority(base, reference);
-    push_front(base, reference, out)?;
-    let path_start = out.len();
-    let underflowed = push_guarded(base, reference, authority.is_some(), out)?;
+    let (path_start, underflowed) = push_to_path_end(base, reference, authority.is_some(), out)?;
     let path_end = out.len();
     let query_end = push_end(base, reference, out)?;
     let positions = Positions {

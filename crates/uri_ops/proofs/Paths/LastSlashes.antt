@@ -92,9 +92,16 @@ module _ (path : List ℕ) (slash : ℕ) (absolute : IsAbsolute path)
   pub behind_slash : IsUtf8 path → IsCharBoundary path (slash + 1)
   behind_slash u = let at = at_slash path slash absolute place in IsCharBoundary-after_ascii path slash u at.0 (omega (arith, at.1))
 
-  cut : path ≡ take slash path ++ 47 ∷ drop (slash + 1) path
+  pub cut : path ≡ take slash path ++ 47 ∷ drop (slash + 1) path
   cut = let at = at_slash path slash absolute place in sym (take-append-drop slash path)
       ∙ ap (λ t. take slash path ++ t) (rest_at path slash at.0 at.1)
+
+  pub taken_slash : take (slash + 1) path ≡ take slash path ++ codes "/"
+  taken_slash = let at = at_slash path slash absolute place in one_more path slash at.0
+      ∙ ap (λ c. take slash path ++ c ∷ []) at.1
+
+  pub length_before : slash ≡ length (take slash path)
+  length_before = let at = at_slash path slash absolute place in sym (length-take-le slash path (omega (arith, at.0)))
 
   directory_cut : has_slash (drop (slash + 1) path) ≡ false
       → directory path
@@ -127,9 +134,7 @@ module _ (path : List ℕ) (slash : ℕ) (absolute : IsAbsolute path) (place : I
     (last : has_slash (drop (slash + 1) path) ≡ false) where
   pub up_to_slash : is_double_dot (drop (slash + 1) path) ≡ false
       → take (slash + 1) path ≡ directory path
-  up_to_slash e =
-      let at = at_slash path slash absolute place in
-      one_more path slash at.0 ∙ ap (λ c. take slash path ++ c ∷ []) at.1
+  up_to_slash e = taken_slash path slash absolute place
       ∙ sym (directory_plain path slash absolute place last e)
 
   up_to_end : is_double_dot (drop (slash + 1) path) ≡ true

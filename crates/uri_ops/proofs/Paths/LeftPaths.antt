@@ -83,6 +83,14 @@ plain_slashed : (xs : List (List ℕ)) → NoSlashes xs → Passes is_plain xs
     → lacks_dot_segments (slashed xs) ≡ true
 plain_slashed xs e f = ap (list_all is_plain) (segments_slashed xs e) ∙ and_from _ _ refl f
 
+-- a path behind one
+pub plain_behind : (kept path : List ℕ) → IsPlainDirectory kept → lacks_dot_segments path ≡ true
+    → lacks_dot_segments (kept ++ path) ≡ true
+plain_behind kept path d plain =
+    by_directory (λ k. lacks_dot_segments (k ++ path) ≡ true)
+    (λ xs e f. ap lacks_dot_segments (behind xs path) ∙ plain_slashed (xs ++ segments path) (behind_lacks xs path e) (append_passes is_plain xs (segments path) f plain))
+    kept d
+
 directory_slashed : (xs : List (List ℕ)) → NoSlashes xs → Passes is_plain xs
     → IsPlainDirectory (slashed (xs ++ [] ∷ []))
 directory_slashed xs e f = record {
@@ -209,9 +217,7 @@ module _ (path kept rest : List ℕ) (underflowed : Bool) (h : IsLeft path kept 
         removed = ap remove_dot_segments whole ∙ h.removed;
         underflow = ap (λ t. underflowed || underflows t) whole ∙ h.underflow;
         absolute = absolute_append kept (take n rest) h.absolute;
-        plain = by_directory (λ k. lacks_dot_segments (k ++ take n rest) ≡ true)
-            (λ xs e f. ap lacks_dot_segments (behind xs (take n rest)) ∙ plain_slashed (xs ++ segments (take n rest)) (behind_lacks xs (take n rest) e) (append_passes is_plain xs (segments (take n rest)) f plain))
-            kept (directory_of_left path kept rest underflowed h some);
+        plain = plain_behind kept (take n rest) (directory_of_left path kept rest underflowed h some) plain;
         closed = ⊎_elim inl (λ e. inr (kept ++ e.0, ap (λ t. kept ++ t) e.1 ∙ sym (append_assoc kept e.0 (codes "/")))) closed;
       }
 

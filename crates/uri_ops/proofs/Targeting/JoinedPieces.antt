@@ -7,6 +7,7 @@ use Rattle.uri_parts.specs.declared.positions.AuthorityPositions.{AuthorityPosit
 use Rattle.uri_parts.specs.Components.{Components, IsRooted, components, marked, recompose, starts}
 use Rattle.uri_parts.specs.Positions.{authority_at, positions_of}
 use Rattle.uri_parts.proofs.Splitting.Recompose.{IsSplitOf-components}
+use Rattle.uri_ops.specs.Models.PlainFronts.{front_of}
 use Rattle.uri_ops.specs.Dots.{directory, is_empty, remove_dot_segments, underflows}
 use Rattle.uri_ops.specs.Target.{cleaned_path, cleaning_underflows, guarded, is_fragment_only}
 use Rattle.uri_ops.specs.Target.{is_refused_as_opaque, joined, merged}
@@ -39,10 +40,14 @@ authority_beside b r scheme places s a e h =
 -- a reference's path behind the base's directory
 module _ (b r : Components) (s : is_some r.scheme ≡ false) (a : is_some r.authority ≡ false)
     (e : is_empty r.path ≡ false) (n : starts 47 r.path ≡ false) where
-  pub joined_merged : (joined b r).path ≡ merged b.path r.path
-  joined_merged =
-      ap (λ (t : Components). t.path) (cond-false (is_some r.scheme) r _ s ∙ cond-false (is_some r.authority) (record r { scheme = b.scheme }) _ a
-      ∙ cond-false (is_empty r.path) _ _ e ∙ cond-false (starts 47 r.path) _ _ n)
+  pub joined_behind : joined b r
+      ≡ record b { path = merged b.path r.path; query = r.query; fragment = r.fragment }
+  joined_behind =
+      cond-false (is_some r.scheme) r _ s ∙ cond-false (is_some r.authority) (record r { scheme = b.scheme }) _ a
+      ∙ cond-false (is_empty r.path) _ _ e ∙ cond-false (starts 47 r.path) _ _ n
+
+  joined_merged : (joined b r).path ≡ merged b.path r.path
+  joined_merged = ap (λ (t : Components). t.path) joined_behind
 
   merged_starts : IsRooted b.path → starts 47 (merged b.path r.path) ≡ true
   merged_starts rooted = true_of _ (absolute_append (directory b.path) r.path (directory_absolute b.path rooted))
@@ -89,20 +94,15 @@ joined_fragment b r =
     (λ _. cond_both (starts 47 r.path) _ _ (λ (t : Components). t.fragment ≡ r.fragment) (λ _. refl) (λ _. refl))))
 
 -- pieces that are written one after the other
-pub written_pieces : (t : Components) (o0 o1 o2 o3 o4 : List ℕ)
-    → o1 ≡ o0 ++ (marked [] t.scheme (codes ":") ++ marked (codes "//") t.authority [])
-    → o2 ≡ o1 ++ t.path → o3 ≡ o2 ++ marked (codes "?") t.query []
-    → o4 ≡ o3 ++ marked (codes "#") t.fragment [] → o4 ≡ o0 ++ recompose t
-written_pieces t o0 o1 o2 o3 o4 e1 e2 e3 e4 =
-    let front = marked [] t.scheme (codes ":") in
+pub written_pieces : (t : Components) (o0 o1 o2 : List ℕ) → o1 ≡ o0 ++ (front_of t ++ t.path)
+    → o2 ≡ o1 ++ (marked (codes "?") t.query [] ++ marked (codes "#") t.fragment [])
+    → o2 ≡ o0 ++ recompose t
+written_pieces t o0 o1 o2 e1 e2 =
+    let scheme = marked [] t.scheme (codes ":") in
     let authority = marked (codes "//") t.authority [] in
-    let query = marked (codes "?") t.query [] in
-    let fragment = marked (codes "#") t.fragment [] in
-    e4 ∙ ap (λ x. x ++ fragment) (e3 ∙ ap (λ x. x ++ query) (e2 ∙ ap (λ x. x ++ t.path) e1))
-    ∙ append_assoc ((o0 ++ (front ++ authority)) ++ t.path) query fragment
-    ∙ append_assoc (o0 ++ (front ++ authority)) t.path (query ++ fragment)
-    ∙ append_assoc o0 (front ++ authority) (t.path ++ (query ++ fragment))
-    ∙ ap (λ x. o0 ++ x) (append_assoc front authority (t.path ++ (query ++ fragment)))
+    let behind = marked (codes "?") t.query [] ++ marked (codes "#") t.fragment [] in
+    e2 ∙ ap (λ x. x ++ behind) e1 ∙ append_assoc o0 (front_of t ++ t.path) behind
+    ∙ ap (λ x. o0 ++ x) (append_assoc (front_of t) t.path behind ∙ append_assoc scheme authority (t.path ++ behind))
 
 -- a query that is written behind its mark ends the text
 pub query_ends : (query : Option (List ℕ)) (o3 o4 : List ℕ) (end : ℕ) → is_some query ≡ true

@@ -17,10 +17,13 @@ use Rattle.uri_parts.proofs.Splitting.Marks.{fragment_text}
 use Rattle.uri_parts.proofs.Splitting.Places.{after_mark, before_hash, before_hash-append}
 use Rattle.uri_parts.proofs.Splitting.Places.{length-before_hash, path_place, range-between}
 use Rattle.uri_parts.proofs.Splitting.Recompose.{IsSplitOf-components, recompose-components}
+use Rattle.uri_ops.specs.Dots.{IsAbsolute}
+use Rattle.uri_ops.specs.Models.Places.{IsSlashOrAt}
 use Rattle.uri_ops.specs.Texts.{IsTextOf}
 use Rattle.uri_ops.proofs.Normal.NormalTexts.{parts_of}
 use Rattle.uri_ops.proofs.Normal.WrittenPlaces.{front_text, length-before, length-behind}
 use Rattle.uri_ops.proofs.Normal.WrittenPlaces.{length-front}
+use Rattle.uri_ops.proofs.Paths.LastSlashes.{cut, length_before, taken_slash}
 
 -- a host ends in its authority
 pub host_within : (kind : Kind) (text : List ℕ) → IsTextOf kind text → (a : List ℕ)
@@ -96,6 +99,24 @@ scheme_at text (Some s) rest whole utf8 end e =
           ∙ take-append_seam (s ++ codes ":") rest;
     }
 
+-- a `/` in the middle of a text
+slash_seam : (text front path behind left right : List ℕ) (start slash : ℕ)
+    → text ≡ front ++ (path ++ behind) → start ≡ length front → path ≡ left ++ 47 ∷ right
+    → slash ≡ length left → IsUtf8 text
+    → IsCharBoundary text (start + slash + 1)
+    × (take (start + slash + 1) text ≡ front ++ (left ++ codes "/"))
+slash_seam text front path behind left right start slash whole n e m utf8 =
+    let joined : text ≡ (front ++ left) ++ 47 ∷ (right ++ behind) = whole ∙ ap (λ t. front ++ (t ++ behind)) e
+    ∙ ap (λ t. front ++ t) (append_assoc left (47 ∷ right) behind) ∙ sym (append_assoc front left (47 ∷ (right ++ behind))) in
+    let k : start + slash + 1 ≡ length (front ++ left) + 1 = omega (arith, n, m, length-append front left) in
+    let l : start + slash + 1 ≡ length ((front ++ left) ++ codes "/") = omega (arith, k, length-append (front ++ left) (codes "/")) in (
+      subst (IsCharBoundary text) (sym k) (subst (λ t. IsCharBoundary t (length (front ++ left) + 1)) (sym joined) (after_mark (front ++ left) (right ++ behind) 47 (omega arith) (subst IsUtf8 joined utf8))),
+      ap (take (start + slash + 1)) (joined ∙ sym (append_assoc (front ++ left) (codes "/") (right ++ behind)))
+          ∙ ap (λ j. take j (((front ++ left) ++ codes "/") ++ (right ++ behind))) l
+          ∙ take-append_seam ((front ++ left) ++ codes "/") (right ++ behind)
+          ∙ append_assoc front left (codes "/"),
+    )
+
 module _ (text : List ℕ) (p : Positions) (utf8 : IsUtf8 text) (at : AreAt text p) where
   pub scheme_piece : (end : ℕ) → p.scheme_end ≡ Some end
       → HasScheme text (components text).scheme end
@@ -152,6 +173,12 @@ module _ (text : List ℕ) (p : Positions) (utf8 : IsUtf8 text) (at : AreAt text
       ∙ ap (drop (length (before_hash c))) (before_hash-append text c (IsSplitOf-components text))
       ∙ drop-append_seam (before_hash c) (fragment_text c.fragment)
 
+  whole_text : text
+      ≡ front_text (components text) ++ ((components text).path ++ (marked (codes "?") (components text).query [] ++ marked (codes "#") (components text).fragment []))
+  whole_text =
+      let c = components text in
+      sym (append_assoc (marked [] c.scheme (codes ":")) (marked (codes "//") c.authority []) (c.path ++ (marked (codes "?") c.query [] ++ marked (codes "#") c.fragment [])) ∙ recompose-components text)
+
   pub behind_piece : drop p.path_end text
       ≡ marked (codes "?") (components text).query [] ++ marked (codes "#") (components text).fragment []
   behind_piece =
@@ -159,7 +186,16 @@ module _ (text : List ℕ) (p : Positions) (utf8 : IsUtf8 text) (at : AreAt text
       let front = front_text c ++ c.path in
       let behind = marked (codes "?") c.query [] ++ marked (codes "#") c.fragment [] in
       let n : p.path_end ≡ length front = omega (arith, length-append (front_text c) c.path, length-front c, ap (λ (q : Positions). q.path_end) at) in
-      let whole : front ++ behind ≡ text = append_assoc (front_text c) c.path behind
-      ∙ append_assoc (marked [] c.scheme (codes ":")) (marked (codes "//") c.authority []) (c.path ++ behind)
-      ∙ recompose-components text in
-      ap (λ k. drop k text) n ∙ ap (drop (length front)) (sym whole) ∙ drop-append_seam front behind
+      ap (λ k. drop k text) n
+      ∙ ap (drop (length front)) (whole_text ∙ sym (append_assoc (front_text c) c.path behind))
+      ∙ drop-append_seam front behind
+
+  pub through_slash : (slash : ℕ) → IsAbsolute (components text).path
+      → IsSlashOrAt (components text).path 0 slash
+      → IsCharBoundary text (p.path_start + slash + 1)
+      × (take (p.path_start + slash + 1) text ≡ front_text (components text) ++ take (slash + 1) (components text).path)
+  through_slash slash absolute place =
+      let c = components text in
+      let seam = slash_seam text (front_text c) c.path _ (take slash c.path) (drop (slash + 1) c.path) p.path_start slash whole_text
+      (ap (λ (q : Positions). q.path_start) at ∙ sym (length-front c)) (cut c.path slash absolute place) (length_before c.path slash absolute place) utf8 in
+      (seam.0, seam.1 ∙ ap (λ t. front_text c ++ t) (sym (taken_slash c.path slash absolute place)))

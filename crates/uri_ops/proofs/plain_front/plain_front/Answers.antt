@@ -1,0 +1,23 @@
+use Rattle.std.proofs.Common.{rules, ◌≡◌, ap, false, is_some, sym, true, ◌∙◌}
+use Rattle.std.proofs.lemmas.Option.{IfSome_then}
+use Rattle.uri_parts.specs.Components.{starts}
+use Rattle.uri_ops.specs.Dots.{is_empty, lacks_dot_segments}
+use Rattle.uri_ops.specs.Resolving.{components_of}
+use Rattle.uri_ops.proofs.Targeting.JoinedPieces.{empty_by_length}
+use Rattle.uri_ops.proofs.Targeting.PlainTargets.{plain_target}
+use Rattle.uri_ops.proofs.plain_front.plain_front.Goals as goal
+
+pub returns-then-is_plain : goal.returns-then-is_plain
+returns-then-is_plain c =
+    let b = components_of c.args.base.now in
+    let r = components_of c.args.reference.now in
+    let s : is_some r.scheme ≡ false = sym c.has_scheme.ensures ∙ c.if-has_scheme.false in
+    let a : is_some r.authority ≡ false = sym c.has_authority.ensures ∙ c.if-has_authority.false in
+    let e : is_empty r.path ≡ false = sym (ap is_empty c.path-path.ensures)
+    ∙ sym (empty_by_length c.path-path.result.now) ∙ sym c.is_empty.ensures
+    ∙ c.if-is_empty.false in
+    let n : starts 47 r.path ≡ false = ap (starts 47) (sym (c.as_bytes.ensures.value ∙ c.path-path.ensures))
+    ∙ sym c.begins_with_slash.ensures ∙ c.if-begins_with_slash.false in
+    let plain : lacks_dot_segments r.path ≡ true = ap lacks_dot_segments (sym c.path-path.ensures)
+    ∙ c.is_plain.ensures c.if-is_plain.true in
+    IfSome_then c.plain_directory.result c.plain_directory.ensures (λ front. plain_target b r front.now s a e n plain)
