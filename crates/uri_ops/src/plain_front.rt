@@ -9,8 +9,7 @@ use crate::dot_segments::{is_double_dot, last_slash, plain_len};
 use crate::placed::Placed;
 use crate::slashes::begins_with_slash;
 
-/// Whether no segment of a path but the first one begins with a dot or an octet, as each dot
-/// segment does, and the first one doesn't either.
+/// Whether no segment of a path begins with a dot or an octet, as each dot segment does.
 fn is_plain(path: &str) -> bool
     ensures { result ≡ true → lacks_dot_segments path.now ≡ true }
 {
