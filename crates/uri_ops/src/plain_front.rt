@@ -1,25 +1,27 @@
 //! Targets whose path is the reference's behind the base's directory as the two stand (RFC 3986,
 //! section 5.2.3), since neither has dot segments.
-ghost use Rattle.std.specs.Prelude.{◌≡◌, IfSome, true};
+ghost use Rattle.std.specs.Prelude.{◌≡◌, ◌<◌, IfSome, length, true};
 ghost use Rattle.uri_ops.specs.Dots.{lacks_dot_segments};
-ghost use Rattle.uri_ops.specs.Models.PlainFronts.{IsPlainFront, IsPlainTarget};
+ghost use Rattle.uri_ops.specs.Models.PlainFronts.{IsPlainTarget, IsUpToDirectory};
 ghost use Rattle.uri_ops.specs.Resolving.{components_of};
 
-use crate::dot_segments::{is_double_dot, last_slash, plain_len};
+use crate::dot_segments::last_slash;
+use crate::dots::{begins_with_dot, is_double_dot, plain_len};
 use crate::placed::Placed;
 use crate::slashes::begins_with_slash;
 
 /// Whether no segment of a path begins with a dot or an octet, as each dot segment does.
 fn is_plain(path: &str) -> bool
+    requires { 0 < length path.now }
     ensures { result ≡ true → lacks_dot_segments path.now ≡ true }
 {
-    plain_len(path) == path.len()
+    !begins_with_dot(path.as_bytes()) && plain_len(path) == path.len()
 }
 
 /// The text of a base up to the directory of its path, and with it, where it has an authority and
 /// the directory has no dot segments.
 fn plain_directory<'a>(base: &Placed<'a>) -> Option<&'a str>
-    ensures { IfSome result (λ front. IsPlainFront (components_of base.now) front.now) }
+    ensures { IfSome result (λ front. IsUpToDirectory (components_of base.now) front.now) }
 {
     let path = base.path();
     let bytes = path.as_bytes();

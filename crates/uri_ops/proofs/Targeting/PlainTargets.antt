@@ -8,7 +8,7 @@ use Rattle.uri_ops.specs.Dots.{IsAbsolute, directory, has_slash, is_double_dot, 
 use Rattle.uri_ops.specs.Dots.{lacks_dot_segments, underflows}
 use Rattle.uri_ops.specs.Models.Directories.{IsPlainDirectory}
 use Rattle.uri_ops.specs.Models.Places.{IsSlashOrAt}
-use Rattle.uri_ops.specs.Models.PlainFronts.{IsPlainFront, IsPlainTarget, front_of}
+use Rattle.uri_ops.specs.Models.PlainFronts.{IsUpToDirectory, IsPlainTarget, front_of}
 use Rattle.uri_ops.specs.Target.{cleaned_path, cleaning_underflows, guarded, joined, merged}
 use Rattle.uri_ops.proofs.Paths.DotLaws.{directory_absolute, directory_ends, removed_of_plain}
 use Rattle.uri_ops.proofs.Paths.DotLaws.{underflows_of_plain}
@@ -23,7 +23,7 @@ pub plain_front : (b : Components) (slash : ℕ) (front : List ℕ) → IsAbsolu
     → IsSlashOrAt b.path 0 slash → has_slash (drop (slash + 1) b.path) ≡ false
     → is_double_dot (drop (slash + 1) b.path) ≡ false
     → lacks_dot_segments (take (slash + 1) b.path) ≡ true → is_some b.authority ≡ true
-    → front ≡ front_of b ++ take (slash + 1) b.path → IsPlainFront b front
+    → front ≡ front_of b ++ take (slash + 1) b.path → IsUpToDirectory b front
 plain_front b slash front absolute place last dots plain some text =
     let taken = up_to_slash b.path slash absolute place last dots in
     record {
@@ -45,7 +45,7 @@ kept_path authority path some absolute plain =
 
 pub plain_target : (b r : Components) (front : List ℕ) → is_some r.scheme ≡ false
     → is_some r.authority ≡ false → is_empty r.path ≡ false → starts 47 r.path ≡ false
-    → lacks_dot_segments r.path ≡ true → IsPlainFront b front → IsPlainTarget b r front
+    → lacks_dot_segments r.path ≡ true → IsUpToDirectory b front → IsPlainTarget b r front
 plain_target b r front s a e n plain f =
     let t = joined_behind b r s a e n in
     let path = merged b.path r.path in

@@ -11,7 +11,7 @@ abbrev pub front_of : Components → List ℕ
 front_of p = marked [] p.scheme (codes ":") ++ marked (codes "//") p.authority []
 
 -- a base with an authority, up to the directory of its path, which has no dot segments
-pub record IsPlainFront (base : Components) (front : List ℕ) : Type 0 where
+pub record IsUpToDirectory (base : Components) (front : List ℕ) : Type 0 where
   pub authority : is_some base.authority ≡ true
   pub plain : IsPlainDirectory (directory base.path)
   pub text : front ≡ front_of base ++ directory base.path
