@@ -5,13 +5,14 @@ ghost use Rattle.std.specs.Str.{IsCharBoundary};
 ghost use Rattle.uri_parts.specs.Appending.{Pushes};
 ghost use Rattle.uri_parts.specs.Components.{IsRooted};
 ghost use Rattle.uri_ops.specs.Models.Directories.{IsLeft, IsPlainDirectory, parent_directory};
+ghost use Rattle.uri_ops.specs.Models.LeadingSegments.{IsNoDots};
 ghost use Rattle.uri_ops.specs.Models.Places.{IsSlashOrAt};
 ghost use Rattle.uri_ops.specs.Dots.{EndsInSlash, IsAbsolute, before_last_slash, directory};
 ghost use Rattle.uri_ops.specs.Dots.{has_slash, is_double_dot, is_empty, lacks_dot_segments};
 ghost use Rattle.uri_ops.specs.Dots.{remove_dot_segments, underflows};
 ghost use Rattle.uri_ops.specs.Target.{merged};
 
-use crate::dots::{Leading, begins_with_dot, is_double_dot, leading_part, plain_len};
+use crate::dots::{Leading, begins_with_dot, is_double_dot, leading_dots, plain_len};
 use std::alloc::AllocError;
 
 /// Where the last `/` stands that is not before `start`, or `start` if there is none.
@@ -55,8 +56,9 @@ pub(crate) fn has_dot_segments(path: &str) -> bool
 {
     let mut done = 1;
     while done < path.len() {
-        match leading_part(&path[done..]) {
-            Leading::Plain(next) => done += next,
+        let rest = &path[done..];
+        match leading_dots(rest) {
+            Leading::NoDots => done += plain_len(rest),
             Leading::SingleDot(_) | Leading::DoubleDot(_) => return true,
         }
     }
@@ -79,13 +81,14 @@ fn push_segments(path: &str, start: usize, out: &mut String) -> Result<bool, All
     let mut underflowed = false;
     let mut rest = path;
     while !rest.is_empty() {
-        match leading_part(rest) {
+        match leading_dots(rest) {
             Leading::SingleDot(next) => rest = &rest[next..],
             Leading::DoubleDot(next) => {
                 underflowed |= pop_segment(start, out);
                 rest = &rest[next..];
             }
-            Leading::Plain(next) => {
+            Leading::NoDots => {
+                let next = plain_len(rest);
                 out.push_str(&rest[..next])?;
                 rest = &rest[next..];
             }
@@ -168,23 +171,48 @@ fn parent(directory: &str) -> &str
 fn seam<'a>(directory: &'a str, reference: &'a str) -> (&'a str, &'a str, bool)
     requires { IsPlainDirectory directory.now }
     ensures kept { IsPlainDirectory result.0.now }
+    ensures first { IsNoDots result.1.now }
     ensures left { IsLeft (directory.now ++ reference.now) result.0.now result.1.now result.2 }
 {
     let mut kept = directory;
     let mut rest = reference;
     let mut underflowed = false;
     while begins_with_dot(rest.as_bytes()) {
-        match leading_part(rest) {
+        match leading_dots(rest) {
             Leading::SingleDot(next) => rest = &rest[next..],
             Leading::DoubleDot(next) => {
                 underflowed |= kept.len() == 1;
                 kept = parent(kept);
                 rest = &rest[next..];
             }
-            Leading::Plain(_) => return (kept, rest, underflowed),
+            Leading::NoDots => return (kept, rest, underflowed),
         }
     }
     (kept, rest, underflowed)
+}
+
+/// Appends segments like `push_segments`, of which the first is none of dots.
+#[inline(always)]
+fn push_from_plain(path: &str, start: usize, out: &mut String) -> Result<bool, AllocError>
+    requires directory { IsPlainDirectory (drop start (string_bytes out.old)) }
+    requires first { IsNoDots path.now }
+    ensures before { IfOk result (λ _.
+        take start (string_bytes out.new) ≡ take start (string_bytes out.old)) }
+    ensures text { IfOk result (λ _. drop start (string_bytes out.new)
+        ≡ remove_dot_segments (drop start (string_bytes out.old) ++ path.now)) }
+    ensures underflow { IfOk result (λ underflowed. underflowed
+        ≡ underflows (drop start (string_bytes out.old) ++ path.now)) }
+{
+    if path.is_empty() {
+        return Ok(false);
+    }
+    let plain = plain_len(path);
+    out.push_str(&path[..plain])?;
+    if plain == path.len() {
+        return Ok(false);
+    }
+    let underflowed = push_segments(&path[plain..], start, out)?;
+    Ok(underflowed)
 }
 
 /// Appends a reference's path behind a directory without dot segments like `push_merged`. What the
@@ -199,7 +227,7 @@ fn push_behind(directory: &str, reference: &str, out: &mut String) -> Result<boo
     let (kept, rest, underflowed) = seam(directory, reference);
     let start = out.len();
     out.push_str(kept)?;
-    let of_rest = push_segments(rest, start, out)?;
+    let of_rest = push_from_plain(rest, start, out)?;
     Ok(underflowed | of_rest)
 }
 

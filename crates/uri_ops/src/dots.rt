@@ -39,6 +39,9 @@ pub(crate) fn is_double_dot(segment: &str) -> bool
 {
     let bytes = segment.as_bytes();
     let first = dot_len(bytes);
+    if first == 0 {
+        return false;
+    }
     let second = dot_len(&bytes[first..]);
     0 < second && first + second == bytes.len()
 }
@@ -120,17 +123,17 @@ fn next_segment(path: &str, end: usize) -> usize
     if end < path.len() { end + 1 } else { end }
 }
 
-/// What a path begins with, and how many of its bytes that takes, with the `/` behind it.
+/// The dot segment that a path begins with, and how many bytes that takes, with the `/` behind it.
 pub(crate) enum Leading {
     /// A single dot.
     SingleDot(usize),
     /// A double dot.
     DoubleDot(usize),
-    /// Segments that are neither.
-    Plain(usize),
+    /// Neither.
+    NoDots,
 }
 
-/// What a path begins with, told by the dots that stand first.
+/// The dot segment that a path begins with, told by the dots that stand first.
 fn leading_segment(path: &str) -> Leading
     requires { 0 < length path.now }
     ensures leading { IsLeading path.now result }
@@ -141,7 +144,7 @@ fn leading_segment(path: &str) -> Leading
     let second = dot_len(&bytes[first..]);
     let end = first + second;
     if end == 0 || !ends_segment(&bytes[end..]) {
-        return Leading::Plain(plain_len(path));
+        return Leading::NoDots;
     }
     let next = next_segment(path, end);
     if second == 0 {
@@ -166,9 +169,9 @@ fn is_first_double_dot(path: &[u8]) -> bool
     matches!(path, [b'.', b'.'] | [b'.', b'.', b'/', ..])
 }
 
-/// What a path begins with. Segments that can't be dot segments are taken together.
+/// The dot segment that a path begins with. One of dots that are no octets is told at once.
 #[inline(always)]
-pub(crate) fn leading_part(path: &str) -> Leading
+pub(crate) fn leading_dots(path: &str) -> Leading
     requires { 0 < length path.now }
     ensures leading { IsLeading path.now result }
     ensures part { IsPart path.now result }
@@ -183,5 +186,5 @@ pub(crate) fn leading_part(path: &str) -> Leading
     if begins_with_dot(bytes) {
         return leading_segment(path);
     }
-    Leading::Plain(plain_len(path))
+    Leading::NoDots
 }

@@ -6,9 +6,13 @@ use Rattle.std.proofs.Math.Seq.{take-length}
 use Rattle.uri_ops.specs.Dots.{EndsInSlash, before_last_slash, is_empty, remove_dot_segments}
 use Rattle.uri_ops.specs.Dots.{IsAbsolute, lacks_dot_segments, underflows}
 use Rattle.uri_ops.specs.Models.Directories.{IsLeft, IsPlainDirectory, parent_directory}
-use Rattle.uri_ops.specs.Models.LeadingSegments.{begins_with_dot}
+use Rattle.uri_ops.specs.Models.LeadingSegments.{IsPlainFront, begins_with_dot}
+use Rattle.uri_ops.proofs.Paths.LeftPaths.{before_more, directory_of_left, kept_more, left_as}
+use Rattle.uri_ops.proofs.Paths.LeftPaths.{left_done, left_first, left_kept, left_last}
+use Rattle.std.proofs.lemmas.List.{drop_all, length-drop}
+use Rattle.std.specs.Prelude.{◌==◌}
 use Rattle.std.proofs.lemmas.Bool.{false≢true}
-use Rattle.std.proofs.Common.{true}
+use Rattle.std.proofs.Common.{true, false}
 use Rattle.uri_ops.proofs.Paths.DotStarts.{one_more}
 use Rattle.uri_ops.proofs.Paths.LastSlashes.{before_closed, empty_length, length_closed}
 use Rattle.uri_ops.proofs.Paths.PushedPaths.{absolute_start, behind_old, whole}
@@ -71,3 +75,47 @@ module _ (old : List ℕ) (start : ℕ) (at : start ≡ length old) (path kept r
 pub dots_some : (path : List ℕ) → begins_with_dot path ≡ true → 0 < length path
 dots_some [] e = absurd (false≢true e)
 dots_some (c ∷ path) e = omega arith
+
+-- what is appended behind a directory, where the first segments are none of dots
+module _ (text : List ℕ) (start : ℕ) (d : IsPlainDirectory (drop start text)) (path : List ℕ) where
+  before_path : IsLeft (drop start text ++ path) (drop start text) path false
+  before_path = left_first (drop start text) path d
+
+  pub none_appended : (length path == 0) ≡ true
+      → (drop start text ≡ remove_dot_segments (drop start text ++ path))
+      × (false ≡ underflows (drop start text ++ path))
+  none_appended e = left_done (drop start text ++ path) (drop start text) path false before_path e
+
+  module _ (n : ℕ) (front : IsPlainFront path n) (some : 0 < length path) (taken new : List ℕ) (is : taken ≡ take n path) (grown : new ≡ text ++ taken) where
+    pub text_before : take start new ≡ take start text
+    text_before = before_more text start d.absolute taken new grown
+
+    behind_front : IsLeft (drop start text ++ path) (drop start new) (drop n path) false
+    behind_front =
+        left_as (drop start text ++ path) (drop start text ++ take n path) (drop start new) (drop n path) (drop n path) false false
+        (kept_more text start d.absolute taken new grown ∙ ap (λ t. drop start text ++ t) is) refl refl
+        (left_kept (drop start text ++ path) (drop start text) path false before_path some n front.plain front.closed)
+
+    pub front_done : n ≡ length path
+        → (drop start new ≡ remove_dot_segments (drop start text ++ path))
+        × (false ≡ underflows (drop start text ++ path))
+    front_done all =
+        left_last (drop start text ++ path) (drop start new) false
+        (left_as _ _ (drop start new) _ [] false false refl (sym (drop_all n path (omega (arith, all)))) refl behind_front)
+
+    pub front_directory : n < length path → IsPlainDirectory (drop start new)
+    front_directory more =
+        directory_of_left (drop start text ++ path) (drop start new) (drop n path) false behind_front
+        (omega (arith, more, length-drop n path))
+
+    module _ (rest last : List ℕ) (rest_is : rest ≡ drop n path) where
+      pub rest_text : drop start last ≡ remove_dot_segments (drop start new ++ rest)
+          → drop start last ≡ remove_dot_segments (drop start text ++ path)
+      rest_text e = e ∙ ap (λ t. remove_dot_segments (drop start new ++ t)) rest_is
+          ∙ behind_front.removed
+
+      pub rest_underflow : (underflowed : Bool)
+          → underflowed ≡ underflows (drop start new ++ rest)
+          → underflowed ≡ underflows (drop start text ++ path)
+      rest_underflow underflowed e = e ∙ ap (λ t. underflows (drop start new ++ t)) rest_is
+          ∙ behind_front.underflow

@@ -5,7 +5,7 @@ use Rattle.std.specs.Str.{IsCharBoundary}
 use Rattle.uri_pct.specs.Delimiters.{slash}
 use Rattle.uri_parts.specs.Components.{IsRooted}
 use Rattle.uri_ops.specs.declared.dots.Leading.{Leading}
-use Rattle.uri_ops.specs.declared.dots.Leading.TheVariants.{SingleDot, DoubleDot, Plain}
+use Rattle.uri_ops.specs.declared.dots.Leading.TheVariants.{SingleDot, DoubleDot, NoDots}
 use Rattle.uri_ops.specs.Dots.{has_slash, is_dot_segment, is_double_dot, is_single_dot}
 use Rattle.uri_ops.specs.Dots.{lacks_dot_segments}
 use Rattle.uri_ops.specs.Models.Directories.{IsClosed}
@@ -63,14 +63,10 @@ pub record IsPlainFront (path : List ℕ) (n : ℕ) : Type 0 where
 abbrev pub IsLeading : List ℕ → Leading → Type 0
 IsLeading path (SingleDot n) = IsFirst is_single_dot path n
 IsLeading path (DoubleDot n) = IsFirst is_double_dot path n
-IsLeading path (Plain n) = IsPlainFront path n
+IsLeading path NoDots = IsNoDots path
 
--- how many bytes it takes
-abbrev pub taken : Leading → ℕ
-taken (SingleDot n) = n
-taken (DoubleDot n) = n
-taken (Plain n) = n
-
--- it takes some, and ends where a character does
+-- a dot segment takes some, and ends where a character does
 abbrev pub IsPart : List ℕ → Leading → Type 0
-IsPart path leading = (0 < taken leading) × IsCharBoundary path (taken leading)
+IsPart path (SingleDot n) = (0 < n) × IsCharBoundary path n
+IsPart path (DoubleDot n) = (0 < n) × IsCharBoundary path n
+IsPart path NoDots = Unit {0}

@@ -19,19 +19,19 @@ pub loop-done-preserved : goal.loop-done-preserved
 loop-done-preserved c =
     let path = c.args.path.now in
     let done = c.loop-done.done in
-    let rest = c.range_from.result.now in
-    let next = c.in-Plain.next in
-    let is : rest ≡ drop done path = c.range_from.ensures.value in
-    let some : 0 < length rest = omega (arith, c.range_from.ensures.len, c.loop-done-test.true) in
+    let rest = c.range_from-rest.result.now in
+    let next = c.plain_len-done.result in
+    let is : rest ≡ drop done path = c.range_from-rest.ensures.value in
+    let some : 0 < length rest = omega (arith, c.range_from-rest.ensures.len, c.loop-done-test.true) in
     let held : IsLeft path (take done path) rest false
     = subst (λ r. IsLeft path (take done path) r false) (sym is) c.loop-done.invariant.left in
-    let front = c.in-Plain.ensures.leading in
+    let front = c.plain_len-done.ensures.plain in
     let taken : take (done + next) path ≡ take done path ++ take next rest
     = sym (ap (λ r. take done path ++ take next r) is ∙ take_two done next path) in
     let left : drop (done + next) path ≡ drop next rest
     = sym (ap (drop next) is ∙ drop-drop next done path) in
     let place : IsCharBoundary (drop done path) next
-    = subst (λ r. IsCharBoundary r next) is c.in-Plain.ensures.part.1 in
+    = subst (λ r. IsCharBoundary r next) is c.plain_len-done.ensures.place in
     record {
       place = IsCharBoundary-from_rest path done next c.loop-done.invariant.place.0 place;
       left = left_as path _ _ _ _ false false taken left refl

@@ -47,16 +47,16 @@ loop-rest-preserved c =
     let absolute = c.loop-rest.invariant.left.absolute in
     let some = some_left c.loop-rest.rest.now (sym c.is_empty.ensures ∙ c.loop-rest-test.true) in
     let new = string_bytes c.push_str.new.self in
-    let grown = c.in_ok-push_str-in-Plain.ensures.bytes in
-    let front = c.in-Plain.ensures.leading in
+    let grown = c.in_ok-push_str-in-NoDots.ensures.bytes in
+    let front = c.plain_len-next.ensures.plain in
     record {
       before = before_more text c.args.start absolute c.range.result.now new grown
           ∙ c.loop-rest.invariant.before;
-      left = left_as path _ (drop c.args.start new) _ c.range_from-rest-in-Plain.result.now c.loop-rest.underflowed c.loop-rest.underflowed
-          (kept_more text c.args.start absolute c.range.result.now new grown ∙ ap (λ t. kept ++ t) (front_of c.loop-rest.rest.now c.range.result.now c.in-Plain.next c.range.ensures.value))
-          c.range_from-rest-in-Plain.ensures.value refl
-          (left_kept path kept c.loop-rest.rest.now c.loop-rest.underflowed c.loop-rest.invariant.left some c.in-Plain.next front.plain front.closed);
-      utf8 = c.range_from-rest-in-Plain.utf8;
+      left = left_as path _ (drop c.args.start new) _ c.range_from-rest-in-NoDots.result.now c.loop-rest.underflowed c.loop-rest.underflowed
+          (kept_more text c.args.start absolute c.range.result.now new grown ∙ ap (λ t. kept ++ t) (front_of c.loop-rest.rest.now c.range.result.now c.plain_len-next.result c.range.ensures.value))
+          c.range_from-rest-in-NoDots.ensures.value refl
+          (left_kept path kept c.loop-rest.rest.now c.loop-rest.underflowed c.loop-rest.invariant.left some c.plain_len-next.result front.plain front.closed);
+      utf8 = c.range_from-rest-in-NoDots.utf8;
     }
 
 pub returns-clause-text : goal.returns-clause-text

@@ -1,6 +1,7 @@
 use Rattle.std.proofs.Common.{◌++◌, ◌||◌, sym, ap, ◌∙◌, refl, subst}
 use Rattle.uri_ops.specs.Models.Directories.{IsPlainDirectory, parent_directory}
 use Rattle.uri_ops.specs.Models.LeadingSegments.{begins_with_dot}
+use Rattle.uri_ops.proofs.Paths.DotStarts.{no_dots}
 use Rattle.uri_ops.proofs.Paths.LeftPaths.{left_as, left_double, left_single}
 use Rattle.uri_ops.proofs.Paths.Seams.{dots_some, parent_plain, root_only}
 use Rattle.uri_ops.proofs.dot_segments.seam.Goals as goal
@@ -38,3 +39,8 @@ loop-next-preserved c =
       utf8 = c.range_from-rest-in-DoubleDot.utf8;
       utf8_kept = c.parent-kept.utf8;
     }
+
+pub returns-clause-first : goal.returns-clause-first
+returns-clause-first c =
+    no_dots c.loop-next.rest.now (ap begins_with_dot (sym c.as_bytes.ensures.value)
+    ∙ sym c.begins_with_dot.ensures ∙ c.loop-next-test.false)

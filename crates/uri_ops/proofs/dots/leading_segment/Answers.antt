@@ -7,8 +7,8 @@ use Rattle.uri_ops.proofs.dots.leading_segment.Goals.{then-end-eq0-via-then-end-
 use Rattle.uri_ops.proofs.dots.leading_segment.Goals.{}
 use Rattle.uri_ops.proofs.dots.leading_segment.Goals.{then-end-eq0-via-else-end-eq0+then-not-ends_segment}
 
-pub plain_len-requires-clause-first : goal.plain_len-requires-clause-first
-plain_len-requires-clause-first c =
+pub returns-then-end-eq0-clause-leading : goal.returns-then-end-eq0-clause-leading
+returns-then-end-eq0-clause-leading c =
     let path = c.args.path.now in
     let first = c.dot_len-first.result in
     let second = c.dot_len-second.result in
