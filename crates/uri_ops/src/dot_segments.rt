@@ -206,12 +206,12 @@ fn push_from_plain(path: &str, start: usize, out: &mut String) -> Result<bool, A
     if path.is_empty() {
         return Ok(false);
     }
-    let plain = plain_len(path);
-    out.push_str(&path[..plain])?;
-    if plain == path.len() {
+    let front = plain_len(path);
+    out.push_str(&path[..front])?;
+    if front == path.len() {
         return Ok(false);
     }
-    let underflowed = push_segments(&path[plain..], start, out)?;
+    let underflowed = push_segments(&path[front..], start, out)?;
     Ok(underflowed)
 }
 
