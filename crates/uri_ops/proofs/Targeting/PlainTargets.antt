@@ -1,15 +1,14 @@
 -- A reference's path behind a directory, where neither has dot segments.
-use Rattle.std.proofs.Common.{◌≡◌, ℕ, ◌+◌, true, false, List, [], ◌++◌, take, drop, ap, subst, sym}
+use Rattle.std.proofs.Common.{◌≡◌, ℕ, ◌+◌, true, false, List, ◌++◌, take, drop, ap, sym}
 use Rattle.std.proofs.Common.{◌∙◌, ◌&&◌, append_assoc, inr}
 use Rattle.std.specs.Prelude.{Option, is_some}
 use Rattle.std.proofs.lemmas.Bool.{cond-true}
 use Rattle.uri_parts.specs.Components.{Components, starts}
 use Rattle.uri_ops.specs.Dots.{IsAbsolute, directory, has_slash, is_double_dot, is_empty}
 use Rattle.uri_ops.specs.Dots.{lacks_dot_segments, underflows}
-use Rattle.uri_ops.specs.Models.Directories.{IsPlainDirectory}
 use Rattle.uri_ops.specs.Models.Places.{IsSlashOrAt}
 use Rattle.uri_ops.specs.Models.PlainFronts.{IsUpToDirectory, IsPlainTarget, front_of}
-use Rattle.uri_ops.specs.Target.{cleaned_path, cleaning_underflows, guarded, joined, merged}
+use Rattle.uri_ops.specs.Target.{cleaned_path, cleaning_underflows, guarded, merged}
 use Rattle.uri_ops.proofs.Paths.DotLaws.{directory_absolute, directory_ends, removed_of_plain}
 use Rattle.uri_ops.proofs.Paths.DotLaws.{underflows_of_plain}
 use Rattle.uri_ops.proofs.Paths.LastSlashes.{up_to_slash}

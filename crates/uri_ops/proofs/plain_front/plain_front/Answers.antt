@@ -1,4 +1,4 @@
-use Rattle.std.proofs.Common.{rules, ◌≡◌, ap, false, is_some, sym, true, ◌∙◌}
+use Rattle.std.proofs.Common.{◌≡◌, ap, false, is_some, sym, true, ◌∙◌}
 use Rattle.std.proofs.lemmas.Option.{IfSome_then}
 use Rattle.uri_parts.specs.Components.{starts}
 use Rattle.uri_ops.specs.Dots.{is_empty, lacks_dot_segments}
