@@ -130,9 +130,9 @@ fn push_runs(
         }
         let high = bytes[end + 1];
         let low = bytes[end + 2];
-        if let Some(ch) = spelt(high, low) {
+        if let Some(ch) = spelt(lowers, high, low) {
             push_plain(lowers, &text[done..end], out)?;
-            push_letter(lowers, ch, out)?;
+            push_letter(ch, out)?;
             end += 3;
             done = end;
             continue;

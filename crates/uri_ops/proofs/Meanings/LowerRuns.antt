@@ -1,7 +1,7 @@
 -- Texts that are lowered run by run: what stands before a letter in upper case stays.
-use Rattle.std.proofs.Common.{◌≡◌, ℕ, ◌+◌, ◌-◌, ◌<◌, ◌≤◌, Bool, true, not, List, [], ◌∷◌, ◌++◌, length}
-use Rattle.std.proofs.Common.{take, drop, map, get_or, refl, sym, ap, ◌∙◌, append_assoc, take_all}
-use Rattle.std.proofs.Common.{arith, cond, subst, suc, ltb, ⊎_elim, Option, Some, None}
+use Rattle.std.proofs.Common.{◌≡◌, ℕ, ◌+◌, ◌-◌, ◌<◌, ◌≤◌, Bool, true, not, List, [], ◌∷◌, ◌++◌}
+use Rattle.std.proofs.Common.{length, take, drop, map, get_or, refl, sym, ap, ◌∙◌, append_assoc}
+use Rattle.std.proofs.Common.{take_all, arith, cond, subst, suc, ltb, ⊎_elim, Option, Some, None}
 use Rattle.std.specs.Option.{unwrap_or}
 use Rattle.std.proofs.Math.Nat.{eq-or-lt_of_le}
 use Rattle.std.specs.Char.{encode_utf8, is_ascii_uppercase, to_ascii_lowercase}
@@ -29,12 +29,16 @@ kept_byte : (b : ℕ) → is_kept b ≡ true → to_ascii_lowercase b ≡ b
 kept_byte b kept = grind (arith, nat_tests)
 
 kept_front : (text : List ℕ)
-    → str_to_ascii_lowercase (take (prefix_len is_kept text) text) ≡ take (prefix_len is_kept text) text
+    → str_to_ascii_lowercase (take (prefix_len is_kept text) text)
+    ≡ take (prefix_len is_kept text) text
 kept_front [] = refl
 kept_front (b ∷ text) =
     let next : 1 + prefix_len is_kept text ≡ suc (prefix_len is_kept text) = omega arith in
     ⊎_elim
-    (λ e. rw e (rw next (ap (λ x. x ∷ str_to_ascii_lowercase (take (prefix_len is_kept text) text)) (kept_byte b e) ∙ ap (λ x. b ∷ x) (kept_front text))))
+    (λ e.
+    let more = take (prefix_len is_kept text) text in
+    let first = ap (λ x. x ∷ str_to_ascii_lowercase more) (kept_byte b e) in
+    rw e (rw next (first ∙ ap (λ x. b ∷ x) (kept_front text))))
     (λ e. rw e refl)
     (cases_Bool (is_kept b))
 
@@ -52,14 +56,16 @@ pub lower_front : (text : List ℕ) (n : ℕ) → n ≡ position_or_len is_ascii
     → LowerFront text n
 lower_front text n e =
     let at : n ≡ prefix_len is_kept text = e in
-    let within : n ≤ length text = subst (λ k. k ≤ length text) (sym at) (prefix_len-le-length is_kept text) in
+    let fits = prefix_len-le-length is_kept text in
+    let within : n ≤ length text = subst (λ k. k ≤ length text) (sym at) fits in
     let upper : n < length text → is_ascii_uppercase (get_or text n 0) ≡ true = λ below.
     ap (λ k. is_ascii_uppercase (get_or text k 0)) at
     ∙ not-false _ (prefix_len_stops is_kept text 0 (subst (λ k. k < length text) at below)) in
     record {
       within = within;
       boundary = boundary_there text n within upper;
-      same = subst (λ k. str_to_ascii_lowercase (take k text) ≡ take k text) (sym at) (kept_front text);
+      same = subst (λ k. str_to_ascii_lowercase (take k text) ≡ take k text) (sym at)
+          (kept_front text);
       upper = upper;
     }
 
@@ -91,7 +97,8 @@ letter_step text out mid new whole n front below run letter total =
     ∙ ap (λ x. x ++ str_to_ascii_lowercase (drop n text)) front.same
     ∙ ap (λ x. kept ++ str_to_ascii_lowercase x) (drop_more text n 0 below) in
     ap (λ x. x ++ behind) (letter ∙ ap (λ x. mid ++ x) one)
-    ∙ append_assoc mid (low ∷ []) behind ∙ ap (λ x. x ++ low ∷ behind) (pushed_run text out mid n run)
+    ∙ append_assoc mid (low ∷ []) behind
+    ∙ ap (λ x. x ++ low ∷ behind) (pushed_run text out mid n run)
     ∙ append_assoc out kept (low ∷ behind) ∙ ap (λ x. out ++ x) (sym split) ∙ total
 
 -- they are all that is left

@@ -3,6 +3,7 @@ use Rattle.std.specs.Prelude.{take, drop, if◌then◌else◌}
 use Rattle.std.proofs.Common.{◌≡◌, ℕ, Bool, true, false, List, [], ◌++◌, map, refl, sym, ap, ◌∙◌}
 use Rattle.std.proofs.Common.{append_assoc, string_bytes}
 use Rattle.std.specs.List.{flat_map}
+use Rattle.std.specs.Char.{to_ascii_lowercase}
 use Rattle.std.specs.Str.{chars, str_to_ascii_lowercase}
 use Rattle.std.proofs.lemmas.List.{append-nil, map-append}
 use Rattle.std.proofs.lemmas.List.Concat.{flat_map-append}
@@ -28,6 +29,10 @@ cased lowers ts = if lowers then map lower_token ts else ts
 -- a text, likewise
 abbrev pub cased_text : Bool → List ℕ → List ℕ
 cased_text lowers text = if lowers then str_to_ascii_lowercase text else text
+
+-- a character, likewise
+abbrev pub cased_code : Bool → ℕ → ℕ
+cased_code lowers ch = if lowers then to_ascii_lowercase ch else ch
 
 -- what is printed of the reading of a text
 abbrev pub text_read : Bool → TableSet → List ℕ → List ℕ

@@ -1,5 +1,6 @@
-use Rattle.std.proofs.Common.{◌≡◌, ◌+◌, ◌-◌, ◌++◌, ◌<◌, ◌≤◌, ◌⊎◌, inl, inr, false, true, not, eqb}
+use Rattle.std.proofs.Common.{◌≡◌, ◌+◌, ◌*◌, ◌-◌, ◌++◌, ◌<◌, ◌≤◌, ◌⊎◌, inl, inr, false, true, not, eqb}
 use Rattle.std.proofs.Common.{get_or, length, drop, refl, sym, ap, ◌∙◌, subst, arith, string_bytes}
+use Rattle.std.specs.Char.{digit_value}
 use Rattle.std.specs.List.{position_or_len}
 use Rattle.std.proofs.lemmas.List.{length-drop}
 use Rattle.std.proofs.lemmas.Result.{on_ok_weaker}
@@ -121,6 +122,8 @@ loop-end-preserved-in-Some c =
     let either : (alone ≡ true) ⊎ (get_or c.as_bytes-bytes.result.now (end + 1) 0 < 56) = inr c.in-Some.ensures.2 in
     let itself = by_itself c.as_bytes-bytes.result.now text end at alone either in
     let none = lacks_past_ascii set c.allows_some_past_ascii-alone.result c.allows_some_past_ascii-alone.ensures in
+    let bytes = c.as_bytes-bytes.result.now in
+    let value = 16 * digit_value (get_or bytes (end + 1) 0) + digit_value (get_or bytes (end + 2) 0) in
     let nothing : 0 ≡ end + 3 - (end + 3) = omega arith in
     record {
       order = omega arith;
@@ -128,7 +131,9 @@ loop-end-preserved-in-Some c =
       boundary = at.boundary;
       valid = at.valid;
       front = subst (IsFront lowers set (drop (end + 3) text)) nothing (no_front lowers set (drop (end + 3) text));
-      total = octet_step lowers set front (string_bytes c.push_letter.new.out) whole (drop end text) (drop (end + 3) text) c.in-Some.ch at.octet alone none itself (c.in-Some.ensures.0 ∙ at.value) at.behind c.in_ok-push_letter.ensures total;
+      total = octet_step lowers set front (string_bytes c.push_letter.new.out) whole
+          (drop end text) (drop (end + 3) text) value at.octet alone none itself at.value at.behind
+          (c.in_ok-push_letter.ensures lowers value c.in-Some.ensures.1 c.in-Some.ensures.0) total;
     }
 
 pub loop-end-preserved-then-are_upper : goal.loop-end-preserved-then-are_upper

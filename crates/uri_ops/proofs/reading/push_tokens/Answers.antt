@@ -18,5 +18,6 @@ returns-then-first-text c =
     let whole = out ++ text_read lowers set text in
     let new = string_bytes c.push_plain.new.out in
     on_ok_weaker c.push_plain.result
-    (λ pushed. all_written lowers set text out new whole 0 first (omega arith) over front pushed refl)
+    (λ pushed.
+    all_written lowers set text out new whole 0 first (omega arith) over front pushed refl)
     c.push_plain.ensures
