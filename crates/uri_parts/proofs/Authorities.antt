@@ -1,5 +1,6 @@
 -- Authorities: their parts, where these lie, and their ports.
 pub mod SchemePorts
+pub mod SchemeRows
 mod PortRows
 pub mod Ports
 pub mod AuthorityCuts

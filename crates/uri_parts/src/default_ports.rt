@@ -1,7 +1,9 @@
 //! The default ports of schemes.
-ghost use Rattle.std.specs.Prelude.{◌≡◌, map};
+ghost use Rattle.std.specs.Prelude.{◌≡◌, ◌<◌, ◌≤◌, ◌+◌, length, map, slice_index};
+ghost use Rattle.std.specs.List.{slice_range};
 ghost use Rattle.std.specs.Str.{str_to_ascii_lowercase};
 ghost use Rattle.uri_parts.specs.SchemePorts.{default_port, port_ignoring_case};
+ghost use Rattle.uri_parts.specs.declared.default_ports.TheConstants.{ROWS_BEFORE};
 
 /// The schemes that have a default port, each with it.
 static DEFAULT_PORTS: [(&str, u16); 44] = [
@@ -51,11 +53,51 @@ static DEFAULT_PORTS: [(&str, u16); 44] = [
     ("z39.50s", 210),
 ];
 
-/// The default port of a scheme, if it has one: ASCII case makes no difference.
+/// Before which row the schemes stand that begin with a letter before `a`, before `b` and so on.
+const ROWS_BEFORE: &[u8; 27] = &[
+    0, 3, 3, 10, 12, 12, 13, 15, 17, 21, 21, 21, 22, //
+    24, 26, 26, 27, 27, 30, 33, 38, 38, 40, 42, 42, 42, 44, //
+];
+
+/// The rows from one place to another.
+fn rows_between<'a>(
+    rows: &'a [(&'static str, u16)],
+    start: usize,
+    end: usize,
+) -> &'a [(&'static str, u16)]
+    requires order { start ≤ end }
+    requires within { end ≤ length rows.now }
+    ensures { result.now ≡ slice_range rows.now start end }
+{
+    &rows[start..end]
+}
+
+/// Of all rows those of the schemes that begin with the letter, which is the nth from `a` on.
+fn rows_of<'a>(rows: &'a [(&'static str, u16)], nth: usize) -> &'a [(&'static str, u16)]
+    requires all { length rows.now ≡ 44 }
+    requires letter { nth < 26 }
+    ensures { result.now ≡ slice_range rows.now (slice_index ROWS_BEFORE.now nth)
+        (slice_index ROWS_BEFORE.now (nth + 1)) }
+{
+    let start = usize::from(ROWS_BEFORE[nth]);
+    let end = usize::from(ROWS_BEFORE[nth + 1]);
+    rows_between(rows, start, end)
+}
+
+/// The default port of a scheme, if it has one: ASCII case makes no difference. Only the rows are
+/// read that begin with its letter.
 pub(crate) fn of_scheme(scheme: &str) -> Option<u16>
     ensures { result ≡ default_port (str_to_ascii_lowercase scheme.now) }
 {
-    port_in(&DEFAULT_PORTS, scheme)
+    let bytes = scheme.as_bytes();
+    if bytes.is_empty() {
+        return None;
+    }
+    let letter = bytes[0].to_ascii_lowercase();
+    if !letter.is_ascii_lowercase() {
+        return None;
+    }
+    port_in(rows_of(&DEFAULT_PORTS, usize::from(letter - b'a')), scheme)
 }
 
 /// The port of the first row with this name, ASCII case apart.

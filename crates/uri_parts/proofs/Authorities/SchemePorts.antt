@@ -3,12 +3,11 @@ use Rattle.std.proofs.Common.{◌≡◌, ℕ, Bool, true, false, cond, List, [],
 use Rattle.std.proofs.Common.{sym, ◌∙◌, Option, Some, None, option_map, Bor}
 use Rattle.std.specs.Str.{str_to_ascii_lowercase, str_eq_ignore_ascii_case}
 use Rattle.uri_parts.specs.SchemePorts.{scheme_ports, default_port, port_ignoring_case}
-use Rattle.uri_parts.specs.declared.default_ports.TheConstants.{DEFAULT_PORTS}
 
 abbrev pub Row : Type 0
 Row = Bor (List ℕ) × ℕ
 
-abbrev row_of : Row → List ℕ × ℕ
+abbrev pub row_of : Row → List ℕ × ℕ
 row_of row = (row.0.now, row.1)
 
 abbrev pub is_named : List ℕ → Row → Bool
@@ -46,16 +45,8 @@ pub port_found : (name : List ℕ) (rows : List Row) (r : Option (Bor Row))
 port_found name rows r e = port_behind r ∙ ap (option_map (λ (row : Row). row.1)) e
     ∙ port_of_rows name rows
 
-table_is : map (λ row. (row.0.now, row.1)) DEFAULT_PORTS ≡ scheme_ports
-table_is = refl
-
 -- the names of the table are in lower case
-port_of_lowered : (scheme : List ℕ)
+pub port_of_lowered : (scheme : List ℕ)
     → port_ignoring_case scheme scheme_ports ≡ default_port (str_to_ascii_lowercase scheme)
 unfolding port_ignoring_case default_port
 port_of_lowered scheme = refl
-
-pub port_of_constant : (scheme : List ℕ)
-    → port_ignoring_case scheme (map (λ row. (row.0.now, row.1)) DEFAULT_PORTS)
-    ≡ default_port (str_to_ascii_lowercase scheme)
-port_of_constant scheme = ap (port_ignoring_case scheme) table_is ∙ port_of_lowered scheme

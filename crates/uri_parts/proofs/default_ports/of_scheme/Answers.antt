@@ -1,6 +1,38 @@
-use Rattle.std.proofs.Common.{◌∙◌}
-use Rattle.uri_parts.proofs.Authorities.SchemePorts.{port_of_constant}
+use Rattle.std.proofs.Common.{◌≡◌, ◌<◌, ◌+◌, ◌-◌, ◌∙◌, map, ap, sym, arith, length, get_or}
+use Rattle.std.specs.Char.{to_ascii_lowercase, is_ascii_lowercase}
+use Rattle.std.proofs.lemmas.Bool.{eqb-true, eqb-false}
+use Rattle.uri_parts.specs.SchemePorts.{port_ignoring_case}
+use Rattle.uri_parts.proofs.Authorities.SchemePorts.{row_of}
+use Rattle.uri_parts.proofs.Authorities.SchemeRows.{before, texts_of_rows, port_of_letter}
+use Rattle.uri_parts.proofs.Authorities.SchemeRows.{port_of_other, port_of_nothing}
 use Rattle.uri_parts.proofs.default_ports.of_scheme.Goals as goal
 
+pub returns-then-is_empty : goal.returns-then-is_empty
+returns-then-is_empty c =
+    sym (port_of_nothing c.args.scheme.now
+    (sym (ap length c.as_bytes-bytes.ensures.value)
+    ∙ eqb-true _ 0 (sym c.is_empty.ensures ∙ c.if-is_empty.true)))
+
+pub returns-then-not-is_ascii_lowercase : goal.returns-then-not-is_ascii_lowercase
+returns-then-not-is_ascii_lowercase c =
+    let letter = c.to_ascii_lowercase-letter.ensures.value
+    ∙ ap (λ x. to_ascii_lowercase (get_or x 0 0)) c.as_bytes-bytes.ensures.value in
+    sym (port_of_other c.args.scheme.now
+    (ap is_ascii_lowercase (sym letter) ∙ sym c.is_ascii_lowercase.ensures.value
+    ∙ c.if-not-is_ascii_lowercase.true))
+
 pub returns : goal.returns
-returns c = c.port_in.ensures ∙ port_of_constant c.args.scheme.now
+returns c =
+    let scheme = c.args.scheme.now in
+    let nth = c.from.result in
+    let letter = c.to_ascii_lowercase-letter.ensures.value
+    ∙ ap (λ x. to_ascii_lowercase (get_or x 0 0)) c.as_bytes-bytes.ensures.value in
+    let low = ap is_ascii_lowercase (sym letter) ∙ sym c.is_ascii_lowercase.ensures.value
+    ∙ c.if-not-is_ascii_lowercase.false in
+    let some = eqb-false _ 0 (sym c.is_empty.ensures ∙ c.if-is_empty.false) in
+    let same = ap length c.as_bytes-bytes.ensures.value in
+    let long : 0 < length scheme = omega (arith, some, same) in
+    c.port_in.ensures
+    ∙ ap (λ rows. port_ignoring_case scheme (map row_of rows)) c.rows_of.ensures
+    ∙ ap (port_ignoring_case scheme) (texts_of_rows row_of _ (before nth) (before (nth + 1)))
+    ∙ port_of_letter scheme nth long low (c.from.ensures ∙ ap (λ x. x - 97) letter)
