@@ -123,7 +123,8 @@ loop-end-preserved-in-Some c =
     let itself = by_itself c.as_bytes-bytes.result.now text end at alone either in
     let none = lacks_past_ascii set c.allows_some_past_ascii-alone.result c.allows_some_past_ascii-alone.ensures in
     let bytes = c.as_bytes-bytes.result.now in
-    let value = 16 * digit_value (get_or bytes (end + 1) 0) + digit_value (get_or bytes (end + 2) 0) in
+    let value = 16 * digit_value (get_or bytes (end + 1) 0)
+    + digit_value (get_or bytes (end + 2) 0) in
     let nothing : 0 ≡ end + 3 - (end + 3) = omega arith in
     record {
       order = omega arith;
