@@ -6,12 +6,12 @@ use Rattle.std.specs.Option.{unwrap_or}
 use Rattle.std.proofs.Math.Nat.{eq-or-lt_of_le}
 use Rattle.std.specs.Char.{encode_utf8, is_ascii_uppercase, to_ascii_lowercase}
 use Rattle.std.specs.List.{position_or_len, prefix_len}
-use Rattle.std.specs.Str.{str_to_ascii_lowercase, IsUtf8, IsCharBoundary}
+use Rattle.std.specs.Str.{str_to_ascii_lowercase, IsCharBoundary}
 use Rattle.std.proofs.lemmas.Bool.{cases_Bool, cond-true, cond-false, not-false, ltb-false}
 use Rattle.std.proofs.lemmas.Bool.Decides.{nat_tests}
-use Rattle.std.proofs.lemmas.List.{map-append, take-append-drop, drop_more, append-nil}
-use Rattle.std.proofs.lemmas.List.Sums.{prefix_len-le-length, prefix_len_passes, prefix_len_stops}
-use Rattle.std.proofs.lemmas.Str.{IsCharBoundary-before_ascii, IsCharBoundary-after_ascii}
+use Rattle.std.proofs.lemmas.List.{map-append, take-append-drop, drop_more}
+use Rattle.std.proofs.lemmas.List.Sums.{prefix_len-le-length, prefix_len_stops}
+use Rattle.std.proofs.lemmas.Str.{IsCharBoundary-before_ascii}
 use Rattle.std.proofs.lemmas.Str.{IsCharBoundary-end, encode_ascii}
 use Rattle.std.proofs.lemmas.Str.Ascii.{lowercase_ascii}
 

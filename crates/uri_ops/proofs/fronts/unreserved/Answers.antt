@@ -1,4 +1,4 @@
-use Rattle.std.proofs.Common.{◌<◌, ◌≤◌, get_or, subst, sym, ◌∙◌, arith}
+use Rattle.std.proofs.Common.{◌<◌, ◌≤◌, get_or, subst, sym, ◌∙◌}
 use Rattle.std.proofs.lemmas.Bool.{ltb-true, ltb-false}
 use Rattle.uri_ops.proofs.Meanings.UnreservedCodes.{code_table, ascii_entry, other_entry}
 use Rattle.uri_ops.proofs.fronts.unreserved.Goals as goal

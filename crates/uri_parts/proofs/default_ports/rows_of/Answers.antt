@@ -1,4 +1,4 @@
-use Rattle.std.proofs.Common.{◌≡◌, ◌≤◌, arith}
+use Rattle.std.proofs.Common.{arith}
 use Rattle.uri_parts.proofs.Authorities.SchemeRows.{rows_within}
 use Rattle.uri_parts.proofs.default_ports.rows_of.Goals as goal
 
