@@ -48,8 +48,12 @@ pub fn length_before_dots(bytes: &[u8], at: usize) -> usize
         || slice_index bytes.now (at + k + 1) == percent_sign)) ≡ false }
     ensures slash { result < 16 → slice_index bytes.now (at + result) ≡ slash }
 {
+    let slashes = places_of(b'/', bytes, at);
+    if slashes == 0 {
+        return LANES;
+    }
     let dots = places_of(b'.', bytes, at + 1) | places_of(b'%', bytes, at + 1);
-    let found = places_of(b'/', bytes, at) & dots;
+    let found = slashes & dots;
     if found == 0 {
         return LANES;
     }

@@ -15,6 +15,14 @@ lanes_of byte bs i = mask_l (map (λ b. eqb b byte) (chunk i 16 bs))
 abbrev begins : List ℕ → ℕ → Bool
 begins bs k = eqb (get_or bs k 0) 47 && (eqb (get_or bs (k + 1) 0) 46 || eqb (get_or bs (k + 1) 0) 37)
 
+-- where no lane has a `/` none has one with a dot behind it
+pub no_slash : (bs : List ℕ) (i slashes : ℕ) → i + 16 < length bs → slashes ≡ lanes_of 47 bs i
+    → slashes ≡ 0 → (k : ℕ) → k < 16 → begins bs (i + k) ≡ false
+no_slash bs i slashes room s none k h =
+    ap (λ b. b && (eqb (get_or bs (i + k + 1) 0) 46 || eqb (get_or bs (i + k + 1) 0) 37))
+    (sym (ap (λ m. bit m k) s ∙ byte_lane 47 bs i k (omega (arith, room)) h)
+    ∙ ap (λ m. eqb (bit_at m k) 1) none ∙ ap (λ m. eqb m 1) (bit_at-zero k))
+
 module _ (bs : List ℕ) (i : ℕ) (room : i + 16 < length bs) (slashes dots octets : ℕ)
     (s : slashes ≡ lanes_of 47 bs i) (d : dots ≡ lanes_of 46 bs (i + 1))
     (o : octets ≡ lanes_of 37 bs (i + 1)) where
