@@ -3,6 +3,7 @@
 ghost use Rattle.std.specs.Prelude.{◌≡◌, ◌≤◌, ◌<◌, ◌==◌, ◌||◌, ◌+◌, ◌&&◌, length, drop};
 ghost use Rattle.std.specs.Prelude.{slice_index};
 ghost use Rattle.std.specs.Str.{IsCharBoundary};
+ghost use Rattle.uri_pct.specs.Delimiters.{full_stop, percent_sign, slash};
 ghost use Rattle.uri_parts.specs.Components.{IsRooted};
 ghost use Rattle.uri_ops.specs.Models.LeadingSegments.{IsBeforeDots, IsLeading, IsNoDots, IsPart};
 ghost use Rattle.uri_ops.specs.Models.LeadingSegments.{IsPlainFront, begins_with_dot, dot_len};
@@ -56,7 +57,7 @@ pub(crate) fn begins_with_dot(path: &[u8]) -> bool
 
 /// Whether a dot segment begins with this byte.
 fn is_dot_start(byte: u8) -> bool
-    ensures { result ≡ (byte == 46 || byte == 37) }
+    ensures { result ≡ (byte == full_stop || byte == percent_sign) }
 {
     byte == b'.' || byte == b'%'
 }
@@ -155,16 +156,16 @@ fn leading_segment(path: &str) -> Leading
 
 /// Whether the first segment is `.`.
 fn is_first_dot(path: &[u8]) -> bool
-    ensures { result ≡ (slice_index path.now 0 == 46
-        && (length path.now == 1 || slice_index path.now 1 == 47)) }
+    ensures { result ≡ (slice_index path.now 0 == full_stop
+        && (length path.now == 1 || slice_index path.now 1 == slash)) }
 {
     matches!(path, [b'.'] | [b'.', b'/', ..])
 }
 
 /// Whether the first segment is `..`.
 fn is_first_double_dot(path: &[u8]) -> bool
-    ensures { result ≡ (slice_index path.now 0 == 46 && slice_index path.now 1 == 46
-        && (length path.now == 2 || slice_index path.now 2 == 47)) }
+    ensures { result ≡ (slice_index path.now 0 == full_stop && slice_index path.now 1 == full_stop
+        && (length path.now == 2 || slice_index path.now 2 == slash)) }
 {
     matches!(path, [b'.', b'.'] | [b'.', b'.', b'/', ..])
 }

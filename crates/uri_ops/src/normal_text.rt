@@ -1,6 +1,7 @@
 //! The normal text of a value (RFC 3986, section 6.2.2; RFC 3987, section 5.3.2).
-ghost use Rattle.std.specs.Prelude.{◌≡◌, ◌+◌, ◌<◌, ◌++◌, ◌∷◌, ℕ, List, Option, [], IfOk, OnOk, codes};
-ghost use Rattle.std.specs.Prelude.{is_some, length, option_map, string_bytes, true};
+ghost use Rattle.std.specs.Prelude.{◌≡◌, ◌+◌, ◌<◌, ◌++◌, ◌∷◌, ℕ, List, Option, [], IfOk, OnOk};
+ghost use Rattle.std.specs.Prelude.{codes, is_some, length, option_map, string_bytes, true};
+ghost use Rattle.uri_pct.specs.Delimiters.{slash};
 ghost use Rattle.uri_pct.specs.EStrs.{text_of};
 ghost use Rattle.uri_pct.specs.Reading.{read};
 ghost use Rattle.uri_pct.specs.Tokens.{print, IsValidFor};
@@ -142,7 +143,7 @@ fn push_cleaned<E: Encoder>(
 ) -> Result<bool, AllocError>
     requires absolute { IsAbsolute (text_of path) }
     requires set { IsComponentSet (codes "?#[]") E.set }
-    requires slash { E.set.ascii 47 ≡ true }
+    requires slash { E.set.ascii slash ≡ true }
     ensures text { (authority : Option (List ℕ)) → is_some authority ≡ has_authority
         → OnOk result (Pushes out.old out.new
         (guarded authority (print (read E.set (remove_dot_segments (text_of path.entry)))))) }
@@ -164,7 +165,7 @@ fn push_absolute<E: Encoder>(
 ) -> Result<bool, AllocError>
     requires absolute { IsAbsolute (text_of path) }
     requires set { IsComponentSet (codes "?#[]") E.set }
-    requires slash { E.set.ascii 47 ≡ true }
+    requires slash { E.set.ascii slash ≡ true }
     ensures text { (authority : Option (List ℕ)) → is_some authority ≡ has_authority
         → OnOk result (Pushes out.old out.new
         (guarded authority (print (read E.set (remove_dot_segments (text_of path.entry)))))) }
@@ -187,7 +188,7 @@ fn push_path<E: PathEncoder>(
     out: &mut String,
 ) -> Result<bool, AllocError>
     requires set { IsComponentSet (codes "?#[]") E.set }
-    requires slash { E.set.ascii 47 ≡ true }
+    requires slash { E.set.ascii slash ≡ true }
     ensures text { (scheme authority : Option (List ℕ)) → is_some scheme ≡ has_scheme
         → is_some authority ≡ has_authority
         → OnOk result (Pushes out.old out.new

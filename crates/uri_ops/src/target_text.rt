@@ -1,6 +1,7 @@
 //! The text of a target, and where its components lie (RFC 3986, sections 5.2 and 5.3).
 ghost use Rattle.std.specs.Prelude.{◌≡◌, ◌||◌, ◌+◌, ◌++◌, [], codes, false, length, IfOk};
 ghost use Rattle.std.specs.Prelude.{IfErr, OnOk, is_some, option_map, string_bytes, true};
+ghost use Rattle.uri_pct.specs.Delimiters.{number_sign};
 ghost use Rattle.uri_parts.specs.Appending.{Pushes};
 ghost use Rattle.uri_parts.specs.Components.{marked, recompose, starts};
 ghost use Rattle.uri_parts.specs.Positions.{AreAt, positions_of};
@@ -27,7 +28,7 @@ pub(crate) struct Target {
 
 /// Whether a text is empty or begins with `#`.
 fn is_fragment_at_most(text: &[u8]) -> bool
-    ensures { result ≡ (is_empty text.now || starts 35 text.now) }
+    ensures { result ≡ (is_empty text.now || starts number_sign text.now) }
 {
     matches!(text, [] | [b'#', ..])
 }

@@ -1,14 +1,15 @@
 //! Values whose normal text is their own (RFC 3986, section 6.2.2), as a look at them tells. A few
 //! others are passed over, so that the look is cheap.
-ghost use Rattle.std.specs.Prelude.{◌≡◌, ◌+◌, ◌≤◌, ◌<◌, ℕ, List, Option, IfOk, IfSome, false, length};
-ghost use Rattle.std.specs.Prelude.{is_some, option_map, slice_index, string_bytes, true};
+ghost use Rattle.std.specs.Prelude.{◌≡◌, ◌+◌, ◌≤◌, ◌<◌, ℕ, List, Option, IfOk, IfSome, false};
+ghost use Rattle.std.specs.Prelude.{length, is_some, option_map, slice_index, string_bytes, true};
 ghost use Rattle.std.specs.Str.{str_to_ascii_lowercase};
 ghost use Rattle.uri_parts.specs.AuthorityTexts.{authority_text};
 ghost use Rattle.uri_parts.specs.CoreTexts.{core_text};
 ghost use Rattle.uri_parts.specs.Positions.{AreAt};
 ghost use Rattle.uri_parts.specs.Schemes.{scheme_text};
 ghost use Rattle.uri_ops.specs.ComponentSets.{HasComponentSets};
-ghost use Rattle.uri_ops.specs.Models.Unchanged.{IsKeptAuthority, IsKeptPath, IsPlain, is_plain_byte};
+ghost use Rattle.uri_ops.specs.Models.Unchanged.{IsKeptAuthority, IsKeptPath, IsPlain};
+ghost use Rattle.uri_ops.specs.Models.Unchanged.{is_plain_byte};
 ghost use Rattle.uri_ops.specs.Normal.{normal_scheme};
 ghost use Rattle.uri_ops.specs.Normalizers.{HasNormalText, text_underflows};
 ghost use Rattle.uri_ops.specs.Ports.{PortFunction};

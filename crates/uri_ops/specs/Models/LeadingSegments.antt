@@ -2,7 +2,7 @@
 use Rattle.std.specs.Prelude.{◌≡◌, ◌<◌, ◌≤◌, ◌+◌, ◌-◌, ◌&&◌, ◌||◌, ◌==◌, ℕ, Bool, true, false}
 use Rattle.std.specs.Prelude.{List, [], ◌∷◌, length, take, drop, slice_index, if◌then◌else◌}
 use Rattle.std.specs.Str.{IsCharBoundary}
-use Rattle.uri_pct.specs.Delimiters.{slash}
+use Rattle.uri_pct.specs.Delimiters.{full_stop, percent_sign, slash}
 use Rattle.uri_parts.specs.Components.{IsRooted}
 use Rattle.uri_ops.specs.declared.dots.Leading.{Leading}
 use Rattle.uri_ops.specs.declared.dots.Leading.TheVariants.{SingleDot, DoubleDot, NoDots}
@@ -13,13 +13,13 @@ use Rattle.uri_ops.specs.Models.Directories.{IsClosed}
 -- the path begins with a dot or an octet
 abbrev pub begins_with_dot : List ℕ → Bool
 begins_with_dot [] = false
-begins_with_dot (c ∷ rest) = c == 46 || c == 37
+begins_with_dot (c ∷ rest) = c == full_stop || c == percent_sign
 
 -- how many bytes the dot takes that a text begins with
 abbrev pub dot_len : List ℕ → ℕ
 dot_len text =
-    if slice_index text 0 == 46 then 1
-    else (if slice_index text 0 == 37 && (slice_index text 1 == 50
+    if slice_index text 0 == full_stop then 1
+    else (if slice_index text 0 == percent_sign && (slice_index text 1 == 50
     && (slice_index text 2 == 69 || slice_index text 2 == 101)) then 3 else 0)
 
 -- the text is empty or begins with `/`
@@ -37,7 +37,7 @@ IsNoDots path =
 abbrev pub begins_at : List ℕ → ℕ → Bool
 begins_at bytes k =
     slice_index bytes k == slash
-    && (slice_index bytes (k + 1) == 46 || slice_index bytes (k + 1) == 37)
+    && (slice_index bytes (k + 1) == full_stop || slice_index bytes (k + 1) == percent_sign)
 
 -- the first n bytes end in the first such `/`, or are all
 pub record IsBeforeDots (bytes : List ℕ) (n : ℕ) : Type 0 where
