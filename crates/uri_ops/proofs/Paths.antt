@@ -18,3 +18,4 @@ pub mod ReadPaths
 pub mod ReadStarts
 pub mod PathMeanings
 pub mod MergedPaths
+pub mod SlashBlocks

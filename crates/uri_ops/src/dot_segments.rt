@@ -14,6 +14,26 @@ ghost use Rattle.uri_ops.specs.Target.{merged};
 
 use crate::dots::{Leading, begins_with_dot, is_double_dot, leading_dots, plain_len};
 use std::alloc::AllocError;
+use uri_pct::lanes::LANES;
+use uri_pct::search::places_of;
+
+/// Where the bytes end that are left of a text without the blocks of sixteen, from its end back to
+/// `start`, in which no `/` stands.
+fn end_of_slashes(bytes: &[u8], start: usize) -> usize
+    requires { start ≤ length bytes.now }
+    ensures from { start ≤ result }
+    ensures within { result ≤ length bytes.now }
+    ensures none { has_slash (drop result bytes.now) ≡ false }
+{
+    let mut left = bytes.len();
+    while left - start >= LANES {
+        if places_of(b'/', bytes, left - LANES) != 0 {
+            return left;
+        }
+        left -= LANES;
+    }
+    left
+}
 
 /// Where the last `/` stands that is not before `start`, or `start` if there is none.
 pub(crate) fn last_slash(bytes: &[u8], start: usize) -> usize
@@ -23,7 +43,7 @@ pub(crate) fn last_slash(bytes: &[u8], start: usize) -> usize
     ensures last { has_slash (drop (result + 1) bytes.now) ≡ false }
     ensures place { IsSlashOrAt bytes.now start result }
 {
-    let mut end = bytes.len();
+    let mut end = end_of_slashes(bytes, start);
     while start < end {
         end -= 1;
         if bytes[end] == b'/' {
