@@ -35,15 +35,19 @@ fn end_of_slashes(bytes: &[u8], start: usize) -> usize
     left
 }
 
-/// Where the last `/` stands that is not before `start`, or `start` if there is none.
-pub(crate) fn last_slash(bytes: &[u8], start: usize) -> usize
-    requires { start ≤ length bytes.now }
+/// Where the last `/` stands that is not before `start`, or `start` if there is none, of a text that
+/// has none from `limit` on.
+#[inline(always)]
+fn slash_before(bytes: &[u8], start: usize, limit: usize) -> usize
+    requires from { start ≤ limit }
+    requires within { limit ≤ length bytes.now }
+    requires none { has_slash (drop limit bytes.now) ≡ false }
     ensures front { take result bytes.now
         ≡ take start bytes.now ++ before_last_slash (drop start bytes.now) }
     ensures last { has_slash (drop (result + 1) bytes.now) ≡ false }
     ensures place { IsSlashOrAt bytes.now start result }
 {
-    let mut end = end_of_slashes(bytes, start);
+    let mut end = limit;
     while start < end {
         end -= 1;
         if bytes[end] == b'/' {
@@ -51,6 +55,28 @@ pub(crate) fn last_slash(bytes: &[u8], start: usize) -> usize
         }
     }
     start
+}
+
+/// Where the last `/` stands that is not before `start`, or `start` if there is none. It is looked
+/// for sixteen bytes at a time.
+pub(crate) fn last_slash(bytes: &[u8], start: usize) -> usize
+    requires { start ≤ length bytes.now }
+    ensures front { take result bytes.now
+        ≡ take start bytes.now ++ before_last_slash (drop start bytes.now) }
+    ensures last { has_slash (drop (result + 1) bytes.now) ≡ false }
+    ensures place { IsSlashOrAt bytes.now start result }
+{
+    slash_before(bytes, start, end_of_slashes(bytes, start))
+}
+
+/// The same, looked for byte by byte: most segments are short.
+fn near_slash(bytes: &[u8], start: usize) -> usize
+    requires { start ≤ length bytes.now }
+    ensures front { take result bytes.now
+        ≡ take start bytes.now ++ before_last_slash (drop start bytes.now) }
+    ensures place { IsSlashOrAt bytes.now start result }
+{
+    slash_before(bytes, start, bytes.len())
 }
 
 /// Cuts off the last segment of the directory that stands in `out` from `start` on, with the `/`
@@ -63,7 +89,7 @@ fn pop_segment(start: usize, out: &mut String) -> bool
     ensures none { result ≡ is_empty (before_last_slash (drop start (string_bytes out.old))) }
 {
     let end = out.len() - 1;
-    let slash = last_slash(&out.as_bytes()[..end], start);
+    let slash = near_slash(&out.as_bytes()[..end], start);
     out.truncate(slash + 1);
     end == start
 }
@@ -181,7 +207,7 @@ fn parent(directory: &str) -> &str
     ensures { result.now ≡ parent_directory directory.now }
 {
     let end = directory.len() - 1;
-    let slash = last_slash(&directory.as_bytes()[..end], 0);
+    let slash = near_slash(&directory.as_bytes()[..end], 0);
     &directory[..slash + 1]
 }
 

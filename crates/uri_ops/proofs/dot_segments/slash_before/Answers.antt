@@ -1,7 +1,7 @@
 use Rattle.std.proofs.Common.{◌≡◌, ◌+◌, ◌-◌, drop, ap, ◌∙◌, arith}
 use Rattle.uri_ops.specs.Dots.{has_slash}
 use Rattle.uri_ops.proofs.Paths.LastSlashes.{cut_at_slash, cut_at_start, none_behind}
-use Rattle.uri_ops.proofs.dot_segments.last_slash.Goals as goal
+use Rattle.uri_ops.proofs.dot_segments.slash_before.Goals as goal
 
 pub returns-then-bytes-end-eq47-clause-front : goal.returns-then-bytes-end-eq47-clause-front
 returns-then-bytes-end-eq47-clause-front c =
