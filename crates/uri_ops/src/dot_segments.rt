@@ -81,7 +81,7 @@ fn near_slash(bytes: &[u8], start: usize) -> usize
 
 /// Cuts off the last segment of the directory that stands in `out` from `start` on, with the `/`
 /// behind it, and answers whether there is none.
-fn pop_segment(start: usize, out: &mut String) -> bool
+pub(crate) fn pop_segment(start: usize, out: &mut String) -> bool
     requires { IsPlainDirectory (drop start (string_bytes out.old)) }
     ensures bytes { string_bytes out.new
         ≡ take start (string_bytes out.old)

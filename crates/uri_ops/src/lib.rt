@@ -26,6 +26,7 @@ pub mod normalize;
 #[doc(hidden)]
 pub mod placed;
 mod plain_front;
+mod read_paths;
 #[doc(hidden)]
 pub mod reading;
 pub mod resolve;

@@ -22,11 +22,12 @@ ghost use Rattle.uri_ops.specs.Target.{guarded};
 ghost use Rattle.uri_ops.specs.Models.Written.{parts_at, written_at};
 
 use crate::default_port::DefaultPort;
-use crate::dot_segments::{has_dot_segments, push_without_dot_segments};
+use crate::dot_segments::has_dot_segments;
 use crate::fronts::push_some;
 use crate::normal_authority::push_authority;
+use crate::read_paths::push_read_path;
 use crate::reading::{push_component, push_lower, push_read};
-use crate::slashes::begins_with_two_slashes;
+use crate::slashes::{begins_with_two_slashes, guard_path};
 use std::alloc::{AllocError, Global};
 use uri_parts::component::{Authority, Scheme};
 use uri_parts::core_text::Core;
@@ -133,8 +134,8 @@ fn push_guarded<E: Encoder>(
     push_read(alloc, &E::table(), path, out)
 }
 
-/// Appends what is read of a path without its dot segments, which are removed in a buffer of its
-/// own, and answers whether a double dot had nothing left to remove.
+/// Appends what is read of a path without its dot segments, with `/.` before it where it would be
+/// read as an authority, and answers whether a double dot had nothing left to remove.
 fn push_cleaned<E: Encoder>(
     alloc: Global,
     has_authority: bool,
@@ -149,9 +150,11 @@ fn push_cleaned<E: Encoder>(
         (guarded authority (print (read E.set (remove_dot_segments (text_of path.entry)))))) }
     ensures underflow { IfOk result (λ underflowed. underflowed ≡ underflows (text_of path.entry)) }
 {
-    let mut plain = String::with_capacity(alloc, path.len())?;
-    let underflowed = push_without_dot_segments(path.as_str(), &mut plain)?;
-    push_guarded::<E>(alloc, has_authority, plain.as_str(), out)?;
+    let start = out.len();
+    let underflowed = push_read_path(alloc, &E::table(), path.as_str(), out)?;
+    if !has_authority {
+        guard_path(start, out)?;
+    }
     Ok(underflowed)
 }
 

@@ -24,7 +24,7 @@ pub struct Placed<'a> {
 impl<'a> Placed<'a> {
     ghost use Rattle.std.specs.Prelude.{take};
     ghost use Rattle.uri_ops.specs.Dots.{IsAbsolute};
-    ghost use Rattle.uri_ops.specs.Models.Places.{IsSlashOrAt};
+    ghost use Rattle.uri_ops.specs.Models.Places.{IsSlashOrAt, before_path};
     ghost use Rattle.uri_ops.specs.Resolving.{components_of};
 
     /// The text of a value of a kind.
@@ -101,8 +101,7 @@ impl<'a> Placed<'a> {
 
     /// The scheme and the authority with their marks: what stands before the path.
     pub(crate) fn before_path(&self) -> &'a str
-        ensures { let p = components_of self.now in
-            result.now ≡ marked [] p.scheme (codes ":") ++ marked (codes "//") p.authority [] }
+        ensures { result.now ≡ before_path (components_of self.now) }
     {
         let text = self.as_str();
         &text[..self.positions.path_start]
@@ -113,11 +112,27 @@ impl<'a> Placed<'a> {
         requires absolute { IsAbsolute (components_of self.now).path }
         requires place { IsSlashOrAt (components_of self.now).path 0 slash }
         ensures { let p = components_of self.now in
-            result.now ≡ (marked [] p.scheme (codes ":") ++ marked (codes "//") p.authority [])
-            ++ take (slash + 1) p.path }
+            result.now ≡ before_path p ++ take (slash + 1) p.path }
     {
         let text = self.as_str();
         &text[..self.positions.path_start + slash + 1]
+    }
+
+    /// The text up to the end of its path.
+    pub(crate) fn through_path(&self) -> &'a str
+        ensures { let p = components_of self.now in result.now ≡ before_path p ++ p.path }
+    {
+        let text = self.as_str();
+        &text[..self.positions.path_end]
+    }
+
+    /// The text up to its fragment.
+    pub(crate) fn before_fragment(&self) -> &'a str
+        ensures { let p = components_of self.now in
+            result.now ≡ (before_path p ++ p.path) ++ marked (codes "?") p.query [] }
+    {
+        let text = self.as_str();
+        &text[..self.positions.before_fragment()]
     }
 
     /// The query and the fragment with their marks: what stands behind the path.
@@ -143,6 +158,13 @@ impl<'a> Placed<'a> {
     {
         let text = self.as_str();
         &text[self.positions.before_fragment()..]
+    }
+
+    /// Where its components lie.
+    pub(crate) fn positions(&self) -> Positions
+        ensures { result ≡ positions_of (components_of self.now) }
+    {
+        self.positions
     }
 
     /// Where the scheme ends, if there is one.

@@ -1,7 +1,7 @@
-//! Targets whose path is the reference's behind the base's directory as the two stand (RFC 3986,
-//! section 5.2.3), since neither has dot segments.
-ghost use Rattle.std.specs.Prelude.{◌≡◌, ◌<◌, IfSome, length, true};
-ghost use Rattle.uri_ops.specs.Dots.{lacks_dot_segments};
+//! Targets that are the reference's text behind a front of the base (RFC 3986, sections 5.2.2 and
+//! 5.2.3), since neither has dot segments.
+ghost use Rattle.std.specs.Prelude.{◌≡◌, ◌<◌, IfSome, false, is_some, length, true};
+ghost use Rattle.uri_ops.specs.Dots.{is_empty, lacks_dot_segments};
 ghost use Rattle.uri_ops.specs.Models.PlainFronts.{IsPlainTarget, IsUpToDirectory};
 ghost use Rattle.uri_ops.specs.Resolving.{components_of};
 
@@ -38,21 +38,40 @@ fn plain_directory<'a>(base: &Placed<'a>) -> Option<&'a str>
     None
 }
 
-/// What stands before the reference's path in a target whose path is that behind the base's
-/// directory, where neither has dot segments.
+/// What of a base stands before a reference that has no path, where the base has an authority and its
+/// path no dot segments: all up to its query, or up to its fragment if the reference has no query.
+fn plain_base<'a>(base: &Placed<'a>, reference: &Placed<'_>) -> Option<&'a str>
+    requires scheme { is_some (components_of reference.now).scheme ≡ false }
+    requires authority { is_some (components_of reference.now).authority ≡ false }
+    requires path { is_empty (components_of reference.now).path ≡ true }
+    ensures { IfSome result (λ front.
+        IsPlainTarget (components_of base.now) (components_of reference.now) front.now) }
+{
+    let path = base.path();
+    if !base.has_authority() || !begins_with_slash(path.as_bytes()) || !is_plain(path) {
+        return None;
+    }
+    if reference.has_query() {
+        return Some(base.through_path());
+    }
+    Some(base.before_fragment())
+}
+
+/// What of a base stands before the text of a reference in the target, where neither has dot
+/// segments.
 pub(crate) fn plain_front<'a>(base: &Placed<'a>, reference: &Placed<'_>) -> Option<&'a str>
     ensures { IfSome result (λ front.
         IsPlainTarget (components_of base.now) (components_of reference.now) front.now) }
 {
+    if reference.has_scheme() || reference.has_authority() {
+        return None;
+    }
     let path = reference.path();
-    if reference.has_scheme() || reference.has_authority() || path.is_empty() {
+    if path.is_empty() {
+        return plain_base(base, reference);
+    }
+    if begins_with_slash(path.as_bytes()) || !is_plain(path) {
         return None;
     }
-    if begins_with_slash(path.as_bytes()) {
-        return None;
-    }
-    if is_plain(path) {
-        return plain_directory(base);
-    }
-    None
+    plain_directory(base)
 }

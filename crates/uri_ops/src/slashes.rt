@@ -1,7 +1,11 @@
 //! The slashes that a path begins with (RFC 3986, section 3.3).
-ghost use Rattle.std.specs.Prelude.{◌≡◌};
+ghost use Rattle.std.specs.Prelude.{◌≡◌, ◌++◌, None, OnOk, drop, string_bytes, take};
+ghost use Rattle.std.specs.Str.{IsCharBoundary};
 ghost use Rattle.uri_pct.specs.Delimiters.{slash};
 ghost use Rattle.uri_parts.specs.Components.{has_authority, starts};
+ghost use Rattle.uri_ops.specs.Target.{guarded};
+
+use std::alloc::AllocError;
 
 /// Whether a path begins with `/`.
 pub fn begins_with_slash(path: &[u8]) -> bool
@@ -15,4 +19,17 @@ pub fn begins_with_two_slashes(path: &[u8]) -> bool
     ensures { result ≡ has_authority path.now }
 {
     matches!(path, [b'/', b'/', ..])
+}
+
+/// Puts `/.` before the path that stands in `out` from `start` on, with no authority before it, where
+/// it would be read as one.
+pub(crate) fn guard_path(start: usize, out: &mut String) -> Result<(), AllocError>
+    requires { IsCharBoundary (string_bytes out.old) start }
+    ensures { OnOk result (string_bytes out.new
+        ≡ take start (string_bytes out.old) ++ guarded None (drop start (string_bytes out.old))) }
+{
+    if begins_with_two_slashes(&out.as_bytes()[start..]) {
+        return out.insert_str(start, "/.");
+    }
+    Ok(())
 }

@@ -6,7 +6,8 @@ ghost use Rattle.uri_parts.specs.Appending.{Pushes};
 ghost use Rattle.uri_parts.specs.Components.{marked, recompose, starts};
 ghost use Rattle.uri_parts.specs.Positions.{AreAt, positions_of};
 ghost use Rattle.uri_ops.specs.Dots.{is_empty};
-ghost use Rattle.uri_ops.specs.Models.PlainFronts.{front_of};
+ghost use Rattle.uri_ops.specs.Models.Places.{before_path};
+ghost use Rattle.uri_ops.specs.Models.PlainFronts.{IsPlainTarget};
 ghost use Rattle.uri_ops.specs.Resolving.{IsErrorFor, IsTarget, components_of, finished};
 ghost use Rattle.uri_ops.specs.Target.{cleaned_path, cleaning_underflows, is_fragment_only};
 ghost use Rattle.uri_ops.specs.Target.{is_refused_as_opaque, joined};
@@ -15,7 +16,7 @@ use crate::dot_segments::{push_merged, push_without_dot_segments};
 use crate::placed::Placed;
 use crate::plain_front::plain_front;
 use crate::resolve::ResolveError;
-use crate::slashes::{begins_with_slash, begins_with_two_slashes};
+use crate::slashes::{begins_with_slash, guard_path};
 use std::alloc::{AllocError, Global};
 use uri_parts::positions::{AuthorityPositions, Positions};
 
@@ -80,8 +81,7 @@ fn authority(base: &Placed<'_>, reference: &Placed<'_>) -> Option<AuthorityPosit
 /// Appends the target's scheme and authority, with their marks.
 fn push_front(base: &Placed<'_>, reference: &Placed<'_>, out: &mut String) -> Result<(), AllocError>
     ensures { let t = joined (components_of base.now) (components_of reference.now) in
-        OnOk result (Pushes out.old out.new
-        (marked [] t.scheme (codes ":") ++ marked (codes "//") t.authority [])) }
+        OnOk result (Pushes out.old out.new (before_path t)) }
 {
     if reference.has_scheme() {
         return out.push_str(reference.before_path());
@@ -135,7 +135,6 @@ fn push_path(
 }
 
 /// Appends a path like `push_path`, with `/.` before it where it would be read as an authority.
-#[tactic(auto, using(crate::proofs::Targeting::JoinedPieces::guarded_behind))]
 fn push_guarded(
     base: &Placed<'_>,
     reference: &Placed<'_>,
@@ -153,11 +152,8 @@ fn push_guarded(
 {
     let start = out.len();
     let underflowed = push_path(base, reference, out)?;
-    if follows_authority {
-        return Ok(underflowed);
-    }
-    if begins_with_two_slashes(&out.as_bytes()[start..]) {
-        out.insert_str(start, "/.")?;
+    if !follows_authority {
+        guard_path(start, out)?;
     }
     Ok(underflowed)
 }
@@ -243,17 +239,12 @@ fn push_to_path_end(
     requires authority { let t = joined (components_of base.now) (components_of reference.now) in
         follows_authority ≡ is_some t.authority }
     ensures text { let t = joined (components_of base.now) (components_of reference.now) in
-        OnOk result (Pushes out.old out.new (front_of t ++ (finished t).path)) }
+        OnOk result (Pushes out.old out.new (before_path t ++ (finished t).path)) }
     ensures start { let t = joined (components_of base.now) (components_of reference.now) in
-        string_bytes out.old ≡ [] → IfOk result (λ written. written.0 ≡ length (front_of t)) }
+        string_bytes out.old ≡ [] → IfOk result (λ written. written.0 ≡ length (before_path t)) }
     ensures underflow { let t = joined (components_of base.now) (components_of reference.now) in
         IfOk result (λ written. written.1 ≡ cleaning_underflows t.path) }
 {
-    if let Some(front) = plain_front(base, reference) {
-        out.push_str(front)?;
-        out.push_str(reference.path())?;
-        return Ok((base.before_path().len(), false));
-    }
     push_front(base, reference, out)?;
     let path_start = out.len();
     let underflowed = push_guarded(base, reference, follows_authority, out)?;
@@ -313,6 +304,45 @@ fn room_for(base: &Placed<'_>, reference: &Placed<'_>) -> usize {
         .saturating_add(1)
 }
 
+/// Where the components lie of the target that is the reference's text behind a front of the base.
+fn plain_positions(base: &Placed<'_>, reference: &Placed<'_>, front: &str) -> Positions
+    requires { IsPlainTarget (components_of base.now) (components_of reference.now) front.now }
+    ensures { let t = joined (components_of base.now) (components_of reference.now) in
+        result ≡ positions_of (finished t) }
+{
+    let mut positions = base.positions();
+    if is_fragment_only(reference) {
+        return positions;
+    }
+    positions.path_end = front.len() + reference.through_path().len();
+    positions.query_end = None;
+    if reference.has_query() {
+        positions.query_end = Some(front.len() + reference.before_fragment().len());
+    }
+    positions
+}
+
+/// The target that is the reference's text behind a front of the base.
+fn plain_target(
+    alloc: Global,
+    base: &Placed<'_>,
+    reference: &Placed<'_>,
+    front: &str,
+) -> Result<Target, AllocError>
+    requires { IsPlainTarget (components_of base.now) (components_of reference.now) front.now }
+    ensures text { let t = joined (components_of base.now) (components_of reference.now) in
+        IfOk result (λ target. string_bytes target.text ≡ recompose (finished t)) }
+    ensures places { let t = joined (components_of base.now) (components_of reference.now) in
+        IfOk result (λ target. target.positions ≡ positions_of (finished t)) }
+{
+    let behind = reference.as_str();
+    let mut text = String::with_capacity(alloc, front.len() + behind.len())?;
+    text.push_str(front)?;
+    text.push_str(behind)?;
+    let positions = plain_positions(base, reference, front);
+    Ok(Target { text, positions })
+}
+
 /// The target's text, and where its components lie. An error that the components alone decide comes
 /// before memory is asked for.
 pub(crate) fn target_text(
@@ -332,6 +362,10 @@ pub(crate) fn target_text(
 {
     if base.has_fragment() {
         return Err(ResolveError::BaseWithFragment);
+    }
+    if let Some(front) = plain_front(base, reference) {
+        let target = plain_target(alloc, base, reference, front)?;
+        return Ok(target);
     }
     if is_refused(base, reference) {
         return Err(ResolveError::InvalidReferenceAgainstOpaqueBase);

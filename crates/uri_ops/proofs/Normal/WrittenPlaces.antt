@@ -18,6 +18,7 @@ use Rattle.uri_ops.specs.Normal.{normal_authority, normal_components, normal_par
 use Rattle.uri_ops.specs.NormalPaths.{path_text}
 use Rattle.uri_ops.specs.Ports.{PortFunction}
 use Rattle.uri_ops.proofs.Normal.NormalPieces.{path_written}
+use Rattle.uri_ops.specs.Models.Places.{before_path}
 use Rattle.uri_ops.specs.Models.Written.{parts_at, written_at}
 
 pub length-behind : (part : Option (List ℕ)) (mark : ℕ)
@@ -63,11 +64,8 @@ from_zero None = refl
 from_zero (Some s) = ap Some (omega arith)
 
 -- what stands before a path, and how long it is
-abbrev pub front_text : Components → List ℕ
-front_text p = marked [] p.scheme (codes ":") ++ marked (codes "//") p.authority []
-
-pub length-front : (p : Components) → length (front_text p) ≡ (positions_of p).path_start
-length-front p = omega (arith, length-append (marked [] p.scheme (codes ":")) (marked (codes "//") p.authority []), length-behind p.scheme 58, length-before (codes "//") p.authority)
+pub length-before_path : (p : Components) → length (before_path p) ≡ (positions_of p).path_start
+length-before_path p = omega (arith, length-append (marked [] p.scheme (codes ":")) (marked (codes "//") p.authority []), length-behind p.scheme 58, length-before (codes "//") p.authority)
 
 -- where a path, and the query behind it, are written
 record EndsAt (p : Components) (start stop : ℕ) (query : Option ℕ) : Type 0 where
@@ -107,13 +105,13 @@ written_placed p parts o0 o1 o2 o3 start stop end query authority e0 e1 e2 e3 st
 pub pieces_placed : (p : Components) (o0 o2 o3 : List ℕ) (start stop : ℕ) (end query : Option ℕ)
     (authority : Option AuthorityPositions)
     → o0 ≡ []
-    → o2 ≡ o0 ++ front_text p → o3 ≡ o2 ++ p.path → start ≡ length o2 → stop ≡ length o3
+    → o2 ≡ o0 ++ before_path p → o3 ≡ o2 ++ p.path → start ≡ length o2 → stop ≡ length o3
     → end ≡ (positions_of p).scheme_end → authority ≡ (positions_of p).authority
     → query ≡ option_map (λ s. length o3 + 1 + length s) p.query
     → (let x : Positions = record { scheme_end = end; authority = authority; path_start = start; path_end = stop; query_end = query } in x)
     ≡ positions_of p
 pieces_placed p o0 o2 o3 start stop end query authority e0 e2 e3 starts stops ends lies queries =
-    let w = ends_at p o2 o3 start stop query (ap length (e2 ∙ ap (λ o. o ++ front_text p) e0) ∙ length-front p) e3 starts stops queries in
+    let w = ends_at p o2 o3 start stop query (ap length (e2 ∙ ap (λ o. o ++ before_path p) e0) ∙ length-before_path p) e3 starts stops queries in
     λ i. record { scheme_end = ends i; authority = lies i; path_start = w.starts i; path_end = w.stops i; query_end = w.queries i }
 
 of_parts : {A B C D : Type 0} (f : C → D) (h : B → C) (k : A → B) (o : Option A)

@@ -138,6 +138,20 @@ drops_single = by_directory (Drops is_single_dot (λ k. k) (λ k. false)) each
 double_only : (s : List ℕ) → is_double_dot s ≡ true → is_single_dot s ≡ false
 double_only s e = ⊎_elim (λ f. absurd (false≢true (sym (single_only s f) ∙ e))) (λ f. f) (cases_Bool (is_single_dot s))
 
+before_closed : (xs : List (List ℕ)) → NoSlashes xs
+    → before_last_slash (slashed (xs ++ [] ∷ [])) ≡ slashed xs
+before_closed xs e = before_slashed (xs ++ [] ∷ []) (closed_lacks xs e) ∙ ap slashed (pop_push xs [])
+
+pub none_slashed : (xs : List (List ℕ)) → NoSlashes xs
+    → is_empty (before_last_slash (slashed (xs ++ [] ∷ []))) ≡ is_none xs
+none_slashed xs e = ap is_empty (before_closed xs e) ∙ empty_slashed xs
+
+pub parent_slashed : (xs : List (List ℕ)) → NoSlashes xs
+    → slashed (pop xs ++ [] ∷ []) ≡ parent_directory (slashed (xs ++ [] ∷ []))
+parent_slashed xs e =
+    slashed_push (pop xs) []
+    ∙ ap (λ t. t ++ codes "/") (sym (ap before_last_slash (before_closed xs e) ∙ before_slashed xs e))
+
 drops_double : (kept : List ℕ) → IsPlainDirectory kept
     → Drops is_double_dot parent_directory (λ k. is_empty (before_last_slash k)) kept
 unfolding Drops step_of turn sunk
@@ -152,16 +166,6 @@ drops_double = by_directory (Drops is_double_dot parent_directory (λ k. is_empt
     met xs s e = ap (λ b. sunk b (is_double_dot s) false xs) (double_only s e)
         ∙ ap (λ b. sunk false b false xs) e
 
-    front : (xs : List (List ℕ)) → NoSlashes xs
-        → before_last_slash (slashed (xs ++ [] ∷ [])) ≡ slashed xs
-    front xs e = before_slashed (xs ++ [] ∷ []) (closed_lacks xs e) ∙ ap slashed (pop_push xs [])
-
-    parent_slashed : (xs : List (List ℕ)) → NoSlashes xs
-        → slashed (pop xs ++ [] ∷ []) ≡ parent_directory (slashed (xs ++ [] ∷ []))
-    parent_slashed xs e =
-        slashed_push (pop xs) []
-        ∙ ap (λ t. t ++ codes "/") (sym (ap before_last_slash (front xs e) ∙ before_slashed xs e))
-
     each : (xs : List (List ℕ)) → NoSlashes xs → Passes is_plain xs
         → Drops is_double_dot parent_directory (λ k. is_empty (before_last_slash k)) (slashed (xs ++ [] ∷ []))
     each xs e f s rest free rooted double =
@@ -172,7 +176,7 @@ drops_double = by_directory (Drops is_double_dot parent_directory (λ k. is_empt
               ∙ ap (λ t. remove_dot_segments (t ++ drop 1 rest)) parent;
           underflow =
               underflows_dot xs f e s free dot rest rooted
-              ∙ ap (λ b. b || underflows (slashed (step_of xs s ++ [] ∷ []) ++ drop 1 rest)) (met xs s double ∙ sym (ap is_empty (front xs e) ∙ empty_slashed xs))
+              ∙ ap (λ b. b || underflows (slashed (step_of xs s ++ [] ∷ []) ++ drop 1 rest)) (met xs s double ∙ sym (none_slashed xs e))
               ∙ ap (λ t. is_empty (before_last_slash (slashed (xs ++ [] ∷ []))) || underflows (t ++ drop 1 rest)) parent;
           directory = subst IsPlainDirectory (parent_slashed xs e) (directory_slashed (pop xs) (pop_passes lacks_slash xs e) (pop_passes is_plain xs f));
         }

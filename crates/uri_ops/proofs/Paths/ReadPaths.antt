@@ -105,7 +105,7 @@ module _ (set : TableSet) (lacks : LacksPercent set) (wide : IsSubset unreserved
       → has_slash (reprinted set s) ≡ false
   no_slash s e f = reprinted_lacks 47 set lacks wide refl refl s e f
 
-  no_slashes : (segs : List (List ℕ)) → Passes (is_part set) segs → NoSlashes segs
+  pub no_slashes : (segs : List (List ℕ)) → Passes (is_part set) segs → NoSlashes segs
       → NoSlashes (map (reprinted set) segs)
   no_slashes [] e f = refl
   no_slashes (s ∷ rest) e f =

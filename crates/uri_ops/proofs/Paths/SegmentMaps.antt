@@ -9,7 +9,7 @@ use Rattle.uri_ops.proofs.Paths.Segments.{pop, is_none, turn, step_of, steps, en
 use Rattle.uri_ops.proofs.Paths.Segments.{cleaned, sunk, sinks, parent, Passes}
 
 module _ (f : List ℕ → List ℕ) where
-  pop_map : (xs : List (List ℕ)) → pop (map f xs) ≡ map f (pop xs)
+  pub pop_map : (xs : List (List ℕ)) → pop (map f xs) ≡ map f (pop xs)
   unfolding pop
   pop_map [] = refl
   pop_map (s ∷ []) = refl

@@ -7,9 +7,9 @@ use Rattle.uri_parts.specs.declared.positions.AuthorityPositions.{AuthorityPosit
 use Rattle.uri_parts.specs.Components.{Components, IsRooted, components, marked, recompose, starts}
 use Rattle.uri_parts.specs.Positions.{authority_at, positions_of}
 use Rattle.uri_parts.proofs.Splitting.Recompose.{IsSplitOf-components}
-use Rattle.uri_ops.specs.Models.PlainFronts.{front_of}
+use Rattle.uri_ops.specs.Models.Places.{before_path}
 use Rattle.uri_ops.specs.Dots.{directory, is_empty, remove_dot_segments, underflows}
-use Rattle.uri_ops.specs.Target.{cleaned_path, cleaning_underflows, guarded, is_fragment_only}
+use Rattle.uri_ops.specs.Target.{cleaned_path, cleaning_underflows, is_fragment_only}
 use Rattle.uri_ops.specs.Target.{is_refused_as_opaque, joined, merged}
 use Rattle.uri_ops.proofs.Normal.WrittenPlaces.{length-behind}
 use Rattle.uri_ops.proofs.Paths.DotLaws.{directory_absolute}
@@ -66,12 +66,6 @@ pub rooted_where_merged : (base : List ℕ) (r : Components)
 rooted_where_merged base r refused s e =
     rooted_base (components base).authority (components base).path (not_opaque (components base) r refused (none_where r.scheme s) e) (IsSplitOf-components base).authority
 
--- behind an authority no path is guarded
-pub guarded_behind : (authority : Option (List ℕ)) (path : List ℕ) → is_some authority ≡ true
-    → path ≡ guarded authority path
-guarded_behind None path e = absurd (false≢true e)
-guarded_behind (Some a) path e = refl
-
 -- the base's query is taken by a reference of a fragment alone
 query_by_parts : (b : Components) (scheme authority : Option (List ℕ)) (path : List ℕ)
     (query fragment : Option (List ℕ))
@@ -94,15 +88,15 @@ joined_fragment b r =
     (λ _. cond_both (starts 47 r.path) _ _ (λ (t : Components). t.fragment ≡ r.fragment) (λ _. refl) (λ _. refl))))
 
 -- pieces that are written one after the other
-pub written_pieces : (t : Components) (o0 o1 o2 : List ℕ) → o1 ≡ o0 ++ (front_of t ++ t.path)
+pub written_pieces : (t : Components) (o0 o1 o2 : List ℕ) → o1 ≡ o0 ++ (before_path t ++ t.path)
     → o2 ≡ o1 ++ (marked (codes "?") t.query [] ++ marked (codes "#") t.fragment [])
     → o2 ≡ o0 ++ recompose t
 written_pieces t o0 o1 o2 e1 e2 =
     let scheme = marked [] t.scheme (codes ":") in
     let authority = marked (codes "//") t.authority [] in
     let behind = marked (codes "?") t.query [] ++ marked (codes "#") t.fragment [] in
-    e2 ∙ ap (λ x. x ++ behind) e1 ∙ append_assoc o0 (front_of t ++ t.path) behind
-    ∙ ap (λ x. o0 ++ x) (append_assoc (front_of t) t.path behind ∙ append_assoc scheme authority (t.path ++ behind))
+    e2 ∙ ap (λ x. x ++ behind) e1 ∙ append_assoc o0 (before_path t ++ t.path) behind
+    ∙ ap (λ x. o0 ++ x) (append_assoc (before_path t) t.path behind ∙ append_assoc scheme authority (t.path ++ behind))
 
 -- a query that is written behind its mark ends the text
 pub query_ends : (query : Option (List ℕ)) (o3 o4 : List ℕ) (end : ℕ) → is_some query ≡ true

@@ -18,11 +18,10 @@ use Rattle.uri_parts.proofs.Splitting.Places.{after_mark, before_hash, before_ha
 use Rattle.uri_parts.proofs.Splitting.Places.{length-before_hash, path_place, range-between}
 use Rattle.uri_parts.proofs.Splitting.Recompose.{IsSplitOf-components, recompose-components}
 use Rattle.uri_ops.specs.Dots.{IsAbsolute}
-use Rattle.uri_ops.specs.Models.Places.{IsSlashOrAt}
+use Rattle.uri_ops.specs.Models.Places.{IsSlashOrAt, before_path}
 use Rattle.uri_ops.specs.Texts.{IsTextOf}
 use Rattle.uri_ops.proofs.Normal.NormalTexts.{parts_of}
-use Rattle.uri_ops.proofs.Normal.WrittenPlaces.{front_text, length-before, length-behind}
-use Rattle.uri_ops.proofs.Normal.WrittenPlaces.{length-front}
+use Rattle.uri_ops.proofs.Normal.WrittenPlaces.{length-before, length-before_path, length-behind}
 use Rattle.uri_ops.proofs.Paths.LastSlashes.{cut, length_before, taken_slash}
 
 -- a host ends in its authority
@@ -52,7 +51,7 @@ within_at scheme (Some a) places host e =
 
 pub within : (text : List ℕ) (p : Positions) (places : AuthorityPositions) → AreAt text p
     → ((a : List ℕ) → (components text).authority ≡ Some a → host_end_of a ≤ length a)
-    → p.authority ≡ Some places → Within (front_text (components text)) places
+    → p.authority ≡ Some places → Within (before_path (components text)) places
 within text p places at host e =
     within_at (components text).scheme (components text).authority places host (sym e ∙ ap (λ (q : Positions). q.authority) at)
 
@@ -126,21 +125,21 @@ module _ (text : List ℕ) (p : Positions) (utf8 : IsUtf8 text) (at : AreAt text
   pub front_cut : IsCharBoundary text p.path_start
   front_cut = (path_place text p utf8 at).starts
 
-  pub front_piece : slice_range text 0 p.path_start ≡ front_text (components text)
+  pub front_piece : slice_range text 0 p.path_start ≡ before_path (components text)
   front_piece =
       let c = components text in
       let behind = c.path ++ (marked (codes "?") c.query [] ++ marked (codes "#") c.fragment []) in
       from_start text p.path_start
-      ∙ ap (λ k. take k text) (ap (λ (q : Positions). q.path_start) at ∙ sym (length-front c))
-      ∙ ap (take (length (front_text c))) (sym (append_assoc (marked [] c.scheme (codes ":")) (marked (codes "//") c.authority []) behind ∙ recompose-components text))
-      ∙ take-append_seam (front_text c) behind
+      ∙ ap (λ k. take k text) (ap (λ (q : Positions). q.path_start) at ∙ sym (length-before_path c))
+      ∙ ap (take (length (before_path c))) (sym (append_assoc (marked [] c.scheme (codes ":")) (marked (codes "//") c.authority []) behind ∙ recompose-components text))
+      ∙ take-append_seam (before_path c) behind
 
   length-query : before_fragment p
       ≡ p.path_end + length (marked (codes "?") (components text).query [])
   length-query =
       let c = components text in
       ap before_fragment at ∙ sym (length-before_hash c)
-      ∙ omega (arith, length-append (front_text c ++ c.path) (marked (codes "?") c.query []), length-append (front_text c) c.path, length-front c, ap (λ (q : Positions). q.path_end) at)
+      ∙ omega (arith, length-append (before_path c ++ c.path) (marked (codes "?") c.query []), length-append (before_path c) c.path, length-before_path c, ap (λ (q : Positions). q.path_end) at)
 
   pub query_starts : IsCharBoundary text p.path_end
   query_starts = (path_place text p utf8 at).ends
@@ -155,9 +154,9 @@ module _ (text : List ℕ) (p : Positions) (utf8 : IsUtf8 text) (at : AreAt text
       ≡ marked (codes "?") (components text).query []
   query_piece =
       let c = components text in
-      let front = front_text c ++ c.path in
+      let front = before_path c ++ c.path in
       let query = marked (codes "?") c.query [] in
-      let n : p.path_end ≡ length front = omega (arith, length-append (front_text c) c.path, length-front c, ap (λ (q : Positions). q.path_end) at) in
+      let n : p.path_end ≡ length front = omega (arith, length-append (before_path c) c.path, length-before_path c, ap (λ (q : Positions). q.path_end) at) in
       let m : before_fragment p ≡ length front + length query = omega (arith, n, length-query) in
       let whole : text ≡ front ++ (query ++ fragment_text c.fragment) = before_hash-append text c (IsSplitOf-components text)
       ∙ append_assoc front query (fragment_text c.fragment) in
@@ -174,7 +173,7 @@ module _ (text : List ℕ) (p : Positions) (utf8 : IsUtf8 text) (at : AreAt text
       ∙ drop-append_seam (before_hash c) (fragment_text c.fragment)
 
   whole_text : text
-      ≡ front_text (components text) ++ ((components text).path ++ (marked (codes "?") (components text).query [] ++ marked (codes "#") (components text).fragment []))
+      ≡ before_path (components text) ++ ((components text).path ++ (marked (codes "?") (components text).query [] ++ marked (codes "#") (components text).fragment []))
   whole_text =
       let c = components text in
       sym (append_assoc (marked [] c.scheme (codes ":")) (marked (codes "//") c.authority []) (c.path ++ (marked (codes "?") c.query [] ++ marked (codes "#") c.fragment [])) ∙ recompose-components text)
@@ -183,19 +182,41 @@ module _ (text : List ℕ) (p : Positions) (utf8 : IsUtf8 text) (at : AreAt text
       ≡ marked (codes "?") (components text).query [] ++ marked (codes "#") (components text).fragment []
   behind_piece =
       let c = components text in
-      let front = front_text c ++ c.path in
+      let front = before_path c ++ c.path in
       let behind = marked (codes "?") c.query [] ++ marked (codes "#") c.fragment [] in
-      let n : p.path_end ≡ length front = omega (arith, length-append (front_text c) c.path, length-front c, ap (λ (q : Positions). q.path_end) at) in
+      let n : p.path_end ≡ length front = omega (arith, length-append (before_path c) c.path, length-before_path c, ap (λ (q : Positions). q.path_end) at) in
       ap (λ k. drop k text) n
-      ∙ ap (drop (length front)) (whole_text ∙ sym (append_assoc (front_text c) c.path behind))
+      ∙ ap (drop (length front)) (whole_text ∙ sym (append_assoc (before_path c) c.path behind))
       ∙ drop-append_seam front behind
+
+  pub path_piece : slice_range text 0 p.path_end
+      ≡ before_path (components text) ++ (components text).path
+  path_piece =
+      let c = components text in
+      let front = before_path c ++ c.path in
+      let behind = marked (codes "?") c.query [] ++ marked (codes "#") c.fragment [] in
+      let n : p.path_end ≡ length front = omega (arith, length-append (before_path c) c.path, length-before_path c, ap (λ (q : Positions). q.path_end) at) in
+      from_start text p.path_end ∙ ap (λ k. take k text) n
+      ∙ ap (take (length front)) (whole_text ∙ sym (append_assoc (before_path c) c.path behind))
+      ∙ take-append_seam front behind
+
+  pub unfragmented_piece : slice_range text 0 (before_fragment p)
+      ≡ (before_path (components text) ++ (components text).path) ++ marked (codes "?") (components text).query []
+  unfragmented_piece =
+      let c = components text in
+      let front = before_path c ++ c.path in
+      let query = marked (codes "?") c.query [] in
+      let n : before_fragment p ≡ length (front ++ query) = omega (arith, length-append front query, length-append (before_path c) c.path, length-before_path c, ap (λ (q : Positions). q.path_end) at, length-query) in
+      from_start text (before_fragment p) ∙ ap (λ k. take k text) n
+      ∙ ap (take (length (front ++ query))) (before_hash-append text c (IsSplitOf-components text))
+      ∙ take-append_seam (front ++ query) (fragment_text c.fragment)
 
   pub through_slash : (slash : ℕ) → IsAbsolute (components text).path
       → IsSlashOrAt (components text).path 0 slash
       → IsCharBoundary text (p.path_start + slash + 1)
-      × (take (p.path_start + slash + 1) text ≡ front_text (components text) ++ take (slash + 1) (components text).path)
+      × (take (p.path_start + slash + 1) text ≡ before_path (components text) ++ take (slash + 1) (components text).path)
   through_slash slash absolute place =
       let c = components text in
-      let seam = slash_seam text (front_text c) c.path _ (take slash c.path) (drop (slash + 1) c.path) p.path_start slash whole_text
-      (ap (λ (q : Positions). q.path_start) at ∙ sym (length-front c)) (cut c.path slash absolute place) (length_before c.path slash absolute place) utf8 in
-      (seam.0, seam.1 ∙ ap (λ t. front_text c ++ t) (sym (taken_slash c.path slash absolute place)))
+      let seam = slash_seam text (before_path c) c.path _ (take slash c.path) (drop (slash + 1) c.path) p.path_start slash whole_text
+      (ap (λ (q : Positions). q.path_start) at ∙ sym (length-before_path c)) (cut c.path slash absolute place) (length_before c.path slash absolute place) utf8 in
+      (seam.0, seam.1 ∙ ap (λ t. before_path c ++ t) (sym (taken_slash c.path slash absolute place)))

@@ -1,7 +1,7 @@
 use Rattle.std.proofs.Common.{◌++◌, ◌+◌, ap, append_assoc, length, refl, sym, ◌∙◌, string_bytes}
 use Rattle.std.specs.Prelude.{is_some}
 use Rattle.uri_parts.specs.Positions.{authority_at, marked_length}
-use Rattle.uri_ops.specs.Models.PlainFronts.{front_of}
+use Rattle.uri_ops.specs.Models.Places.{before_path}
 use Rattle.uri_ops.specs.Resolving.{components_of, finished}
 use Rattle.uri_ops.specs.Target.{joined}
 use Rattle.uri_ops.proofs.Builders.BuilderGrowth.{string_length}
@@ -26,8 +26,8 @@ pub returns-clause-places : goal.returns-clause-places
 returns-clause-places c = λ empty.
     let t = joined (components_of c.args.base.now) (components_of c.args.reference.now) in
     let old = string_bytes c.args.out.now in
-    pieces_placed (finished t) old (old ++ front_of t) (string_bytes c.push_to_path_end.new.out)
+    pieces_placed (finished t) old (old ++ before_path t) (string_bytes c.push_to_path_end.new.out)
     _ c.len-path_end.result c.scheme_end.result c.in_ok-query_end.query_end c.authority-authority.result empty
-    refl (c.in_ok-path_start.ensures.text ∙ sym (append_assoc old (front_of t) (finished t).path))
-    (c.in_ok-path_start.ensures.start empty ∙ sym (ap (λ o. length (o ++ front_of t)) empty)) (c.len-path_end.ensures ∙ string_length c.push_to_path_end.new.out)
+    refl (c.in_ok-path_start.ensures.text ∙ sym (append_assoc old (before_path t) (finished t).path))
+    (c.in_ok-path_start.ensures.start empty ∙ sym (ap (λ o. length (o ++ before_path t)) empty)) (c.len-path_end.ensures ∙ string_length c.push_to_path_end.new.out)
     c.scheme_end.ensures c.authority-authority.ensures c.in_ok-query_end.ensures.end

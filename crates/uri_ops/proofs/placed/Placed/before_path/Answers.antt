@@ -1,6 +1,6 @@
 use Rattle.std.proofs.Common.{ap, ◌∙◌}
 use Rattle.uri_parts.specs.Components.{components}
-use Rattle.uri_ops.proofs.Normal.WrittenPlaces.{front_text}
+use Rattle.uri_ops.specs.Models.Places.{before_path}
 use Rattle.uri_ops.proofs.Targeting.PlacedTexts.{front_cut, front_piece}
 use Rattle.uri_ops.proofs.placed.Placed.before_path.Goals as goal
 
@@ -11,4 +11,4 @@ pub returns : goal.returns
 returns c =
     c.range.ensures.value
     ∙ front_piece c.as_str-text.result.now c.args.self.now.positions c.as_str-text.utf8 c.as_str-text.ensures.at
-    ∙ ap (λ t. front_text (components t)) c.as_str-text.ensures.text
+    ∙ ap (λ t. before_path (components t)) c.as_str-text.ensures.text

@@ -1,0 +1,32 @@
+-- Paths with `/.` before them where they would be read as an authority.
+use Rattle.std.proofs.Common.{◌≡◌, ℕ, true, false, List, ◌++◌, length, take, drop, refl, sym, ap, ◌∙◌}
+use Rattle.std.proofs.Common.{arith, length-append, subst}
+use Rattle.std.specs.Prelude.{Option, Some, None, is_some}
+use Rattle.std.specs.Str.{IsCharBoundary, IsUtf8}
+use Rattle.std.proofs.lemmas.Str.{IsCharBoundary-from_take}
+use Rattle.std.proofs.lemmas.Bool.{false≢true}
+use Rattle.std.proofs.lemmas.List.{drop_at, take_at}
+use Rattle.uri_ops.specs.Target.{guarded}
+
+-- a path begins where a text ended that it was appended to
+pub path_begins : (old path new : List ℕ) (start : ℕ) → start ≡ length old → new ≡ old ++ path
+    → IsUtf8 old → IsUtf8 new → IsCharBoundary new start
+path_begins old path new start at is before after =
+    IsCharBoundary-from_take new start after (omega (arith, at, ap length is, length-append old path))
+    (subst IsUtf8 (sym (ap (take start) is ∙ take_at old path start (sym at))) before)
+
+-- behind an authority no path is guarded
+pub guarded_behind : (authority : Option (List ℕ)) (path : List ℕ) → is_some authority ≡ true
+    → path ≡ guarded authority path
+guarded_behind None path e = absurd (false≢true e)
+guarded_behind (Some a) path e = refl
+
+-- and else it is where it stands, behind what was there
+pub guarded_after : (authority : Option (List ℕ)) (old mid new path : List ℕ) (start : ℕ)
+    → is_some authority ≡ false → start ≡ length old → mid ≡ old ++ path
+    → new ≡ take start mid ++ guarded None (drop start mid) → new ≡ old ++ guarded authority path
+guarded_after (Some a) old mid new path start e at is put = absurd (false≢true (sym e))
+guarded_after None old mid new path start e at is put =
+    put ∙ ap (λ t. take start t ++ guarded None (drop start t)) is
+    ∙ ap (λ t. t ++ guarded None (drop start (old ++ path))) (take_at old path start (sym at))
+    ∙ ap (λ t. old ++ guarded None t) (drop_at old path start (sym at))
