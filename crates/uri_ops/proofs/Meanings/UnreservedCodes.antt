@@ -1,6 +1,6 @@
 -- The unreserved characters, entry by entry, and one that is written.
 use Rattle.std.proofs.Common.{◌≡◌, ℕ, ◌<◌, ◌≤◌, Bool, true, false, List, [], ◌∷◌, cond, eqb}
-use Rattle.std.proofs.Common.{get_or, refl, ap, ◌∙◌, arith, ⊎_elim, append-nil}
+use Rattle.std.proofs.Common.{get_or, refl, ◌∙◌, arith, ⊎_elim, append-nil}
 use Rattle.std.specs.Char.{encode_utf8, to_ascii_lowercase}
 use Rattle.std.proofs.lemmas.Bool.{agree_below_at, cases_Bool, cond-true, cond-false, eqb-true}
 use Rattle.std.proofs.lemmas.Str.Ascii.{lowercase_ascii}

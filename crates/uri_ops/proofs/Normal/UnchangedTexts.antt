@@ -1,5 +1,5 @@
 -- A text that is its own normal text, by what is asked of its bytes and its components.
-use Rattle.std.proofs.Common.{◌≡◌, ℕ, true, false, cond, List, [], ◌++◌, refl, sym, ap, subst, ◌∙◌}
+use Rattle.std.proofs.Common.{◌≡◌, ℕ, true, false, cond, List, [], refl, sym, ap, subst, ◌∙◌}
 use Rattle.std.proofs.Common.{option_map}
 use Rattle.std.specs.Prelude.{codes, Option, Some, None, IfSome, IfNone, is_some}
 use Rattle.std.specs.Option.{option_and_then}
@@ -12,13 +12,13 @@ use Rattle.uri_parts.specs.Components.{recompose}
 use Rattle.uri_parts.specs.Grammar.{Kind, is_authority}
 use Rattle.uri_parts.proofs.Splitting.Recompose.{IsSplitOf-components}
 use Rattle.uri_ops.specs.ComponentSets.{HasComponentSets}
-use Rattle.uri_ops.specs.Meaning.{authority_meaning, meaning_of, plain_path}
-use Rattle.uri_ops.specs.Models.Unchanged.{AreKept, IsKeptAuthority, IsKeptPath, IsPlain}
+use Rattle.uri_ops.specs.Meaning.{authority_meaning, meaning_of}
+use Rattle.uri_ops.specs.Models.Unchanged.{AreKept, IsKeptAuthority, IsPlain}
 use Rattle.uri_ops.specs.Normal.{normal_authority, normal_components, normal_path, normal_text}
 use Rattle.uri_ops.specs.Ports.{PortFunction}
 use Rattle.uri_ops.specs.Target.{guarded}
 use Rattle.uri_ops.specs.Texts.{IsTextOf}
-use Rattle.uri_ops.proofs.Meanings.TextParts.{AreUtf8, AreParts, components_utf8}
+use Rattle.uri_ops.proofs.Meanings.TextParts.{AreUtf8, components_utf8}
 use Rattle.uri_ops.proofs.Normal.NormalTexts.{parts_of}
 use Rattle.uri_ops.proofs.Normal.UnchangedBytes.{plain_apart, plain_marked}
 use Rattle.uri_ops.proofs.Normal.UnchangedParts.{authority_kept, printed_plain, printed_some}

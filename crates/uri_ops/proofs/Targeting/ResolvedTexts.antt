@@ -10,7 +10,6 @@ use Rattle.uri_ops.specs.NormalTargets.{IsTargetOfMeanings, IsErrorOfMeanings}
 use Rattle.uri_ops.specs.Resolving.{IsTarget, IsErrorFor}
 use Rattle.uri_ops.specs.Texts.{IsTextOf}
 use Rattle.uri_ops.specs.declared.resolve.ResolveError.{ResolveError}
-use Rattle.uri_pct.proofs.Tests.{each_some}
 use Rattle.uri_ops.proofs.AsciiForms.EncodedTargets.{target_of_encoded, error_for_encoded}
 use Rattle.uri_ops.proofs.Targeting.NormalTargets.{target_of_meanings, error_of_meanings}
 use Rattle.uri_ops.proofs.Targeting.TargetTexts.{target_is_text}

@@ -1,5 +1,5 @@
 use Rattle.std.proofs.Common.{◌≡◌, ◌+◌, false, ap, length, option_map, sym, ◌∙◌}
-use Rattle.std.specs.Prelude.{Some, is_some}
+use Rattle.std.specs.Prelude.{Some}
 use Rattle.uri_parts.specs.Positions.{positions_of}
 use Rattle.uri_ops.specs.Resolving.{components_of}
 use Rattle.uri_ops.specs.Target.{is_fragment_only}
