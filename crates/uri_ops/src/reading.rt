@@ -16,7 +16,6 @@ ghost use Rattle.uri_ops.specs.Models.Readings.{cased};
 use crate::formatting::encode_formatting;
 use crate::fronts::{are_upper, push_alone, push_letter, push_octet, push_plain, push_some, spelt};
 use std::alloc::{AllocError, Global};
-use std::mem;
 use uri_pct::decode::{Decode, unencoded_len};
 use uri_pct::encode::{push_octets, push_text};
 use uri_pct::encoder::Encoder;
@@ -27,14 +26,14 @@ use uri_pct::table::Table;
 
 /// A text that grows by what is read of a component, perhaps with its letters lowered.
 #[derive(Drop)]
-struct Reading {
+struct Reading<'a> {
     alloc: Global,
     table: Table,
     lowers: bool,
-    text: String,
+    text: &'a mut String,
 }
 
-impl TakeParts for Reading {
+impl<'a> TakeParts for Reading<'a> {
     ghost use Rattle.uri_ops.specs.Models.Readings.{TookReading, took_nothing, took_on};
 
     ghost took = { TookReading };
@@ -44,25 +43,25 @@ impl TakeParts for Reading {
     ghost takes_on = { took_on };
 
     fn take_unencoded(&mut self, text: &str) -> Result<(), AllocError> {
-        push_plain(self.lowers, text, &mut self.text)
+        push_plain(self.lowers, text, self.text)
     }
 
     fn take_well_formed(&mut self, text: &str) -> Result<(), AllocError> {
         let readable = self.table.readable();
         if self.lowers {
             let lower = text.to_ascii_lowercase(self.alloc)?;
-            push_text(&readable, &lower, &mut self.text)
+            push_text(&readable, &lower, self.text)
         } else {
-            push_text(&readable, text, &mut self.text)
+            push_text(&readable, text, self.text)
         }
     }
 
     fn take_ascii(&mut self, byte: u8) -> Result<(), AllocError> {
-        push_alone(self.lowers, byte, &mut self.text)
+        push_alone(self.lowers, byte, self.text)
     }
 
     fn take_ill_formed(&mut self, bytes: &[u8]) -> Result<(), AllocError> {
-        push_octets(bytes, &mut self.text)
+        push_octets(bytes, self.text)
     }
 }
 
@@ -93,11 +92,10 @@ fn push_parts(
         alloc,
         table: *table,
         lowers,
-        text: mem::replace(out, String::new(alloc)),
+        text: out,
     };
-    let taken = Decode::of_text(text).take_parts(&mut reading);
-    *out = reading.text;
-    taken
+    Decode::of_text(text).take_parts(&mut reading)?;
+    Ok(())
 }
 
 /// Appends what is read of the tokens of the text, with its letters lowered where that is asked:

@@ -46,19 +46,21 @@ octets_cased lowers set bytes = ap (λ ts. print (cased lowers ts)) (append-nil 
 -- a reading that grew by what was to be written
 pub grown : (s t : Reading) (ps : List Part) (lowers : Bool) (more : List ℕ)
     → set_of t.table ≡ set_of s.table → t.lowers ≡ s.lowers → s.lowers ≡ lowers
-    → string_bytes t.text ≡ string_bytes s.text ++ more
+    → t.text.ghost_name ≡ s.text.ghost_name
+    → string_bytes t.text.now ≡ string_bytes s.text.now ++ more
     → print (cased lowers (read_parts (set_of s.table) ps)) ≡ more → TookReading s ps t
-grown s t ps lowers more set same is written meant = record {
+grown s t ps lowers more set lower is same written meant = record {
   set = set;
-  lowers = same;
+  lowers = lower;
+  same = same;
   text = written
-      ∙ ap (λ x. string_bytes s.text ++ x) (sym (ap (λ b. print (cased b (read_parts (set_of s.table) ps))) is ∙ meant));
+      ∙ ap (λ x. string_bytes s.text.now ++ x) (sym (ap (λ b. print (cased b (read_parts (set_of s.table) ps))) is ∙ meant));
 }
 
 -- the whole text
 pub taken_whole : (text old : List ℕ) (s t : Reading) → IsValidFor widest_set text
-    → string_bytes s.text ≡ old → TookReading s (parts text) t
-    → string_bytes t.text
+    → string_bytes s.text.now ≡ old → TookReading s (parts text) t
+    → string_bytes t.text.now
     ≡ old ++ print (cased s.lowers (read_tokens (set_of s.table) (tokens text)))
 taken_whole text old s t valid begun took =
     took.text

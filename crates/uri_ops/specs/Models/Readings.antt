@@ -48,8 +48,9 @@ IsFront lowers set text n =
 pub record TookReading (s : Reading) (ps : List Part) (t : Reading) : Type 0 where
   pub set : set_of t.table ≡ set_of s.table
   pub lowers : t.lowers ≡ s.lowers
-  pub text : string_bytes t.text
-      ≡ string_bytes s.text ++ print (cased s.lowers (read_parts (set_of s.table) ps))
+  pub same : t.text.ghost_name ≡ s.text.ghost_name
+  pub text : string_bytes t.text.now
+      ≡ string_bytes s.text.now ++ print (cased s.lowers (read_parts (set_of s.table) ps))
 
 pub cased_append : (lowers : Bool) (ts us : List Token)
     → print (cased lowers (ts ++ us)) ≡ print (cased lowers ts) ++ print (cased lowers us)
@@ -65,8 +66,9 @@ pub took_nothing : (s : Reading) → TookReading s [] s
 took_nothing s = record {
   set = refl;
   lowers = refl;
-  text = sym (append-nil (string_bytes s.text))
-      ∙ ap (λ x. string_bytes s.text ++ x) (sym (nothing_cased s.lowers));
+  same = refl;
+  text = sym (append-nil (string_bytes s.text.now))
+      ∙ ap (λ x. string_bytes s.text.now ++ x) (sym (nothing_cased s.lowers));
 }
 
 pub took_on : (s t u : Reading) (ps qs : List Part) → TookReading s ps t → TookReading t qs u
@@ -84,7 +86,8 @@ took_on s t u ps qs first next =
     record {
       set = next.set ∙ first.set;
       lowers = next.lowers ∙ first.lowers;
-      text = next.text ∙ ap (λ x. string_bytes t.text ++ x) moved
-          ∙ ap (λ x. x ++ behind) first.text ∙ append_assoc (string_bytes s.text) before behind
-          ∙ ap (λ x. string_bytes s.text ++ x) (sym joined);
+      same = next.same ∙ first.same;
+      text = next.text ∙ ap (λ x. string_bytes t.text.now ++ x) moved
+          ∙ ap (λ x. x ++ behind) first.text ∙ append_assoc (string_bytes s.text.now) before behind
+          ∙ ap (λ x. string_bytes s.text.now ++ x) (sym joined);
     }
