@@ -1,5 +1,6 @@
 //! Paths that are read while their dot segments are removed (RFC 3986, sections 5.2.4 and 6.2.2.3).
-ghost use Rattle.std.specs.Prelude.{◌≡◌, IfOk, OnOk, codes, true};
+ghost use Rattle.std.specs.Prelude.{◌≡◌, ◌==◌, ◌&&◌, IfOk, OnOk, codes, length, slice_index, true};
+ghost use Rattle.uri_pct.specs.Chunks.{widest_set};
 ghost use Rattle.uri_pct.specs.Delimiters.{slash};
 ghost use Rattle.uri_pct.specs.Reading.{read};
 ghost use Rattle.uri_pct.specs.Tables.{set_of};
@@ -13,6 +14,27 @@ use crate::dots::{Leading, leading_dots, plain_len};
 use crate::reading::push_read;
 use std::alloc::{AllocError, Global};
 use uri_pct::table::Table;
+
+/// Whether a text is `/` alone.
+fn is_slash(text: &[u8]) -> bool
+    ensures { result ≡ (length text.now == 1 && slice_index text.now 0 == slash) }
+{
+    matches!(text, [b'/'])
+}
+
+/// Appends what is read of a piece of a path. A `/` by itself, as behind an empty segment, is read as
+/// it stands.
+#[inline(always)]
+fn push_piece(alloc: Global, table: &Table, piece: &str, out: &mut String) -> Result<(), AllocError>
+    requires { IsValidFor widest_set piece.now }
+    ensures { OnOk result (Pushes out.old out.new (print (read (set_of table.now) piece.now))) }
+{
+    if is_slash(piece.as_bytes()) {
+        out.push('/')?;
+        return Ok(());
+    }
+    push_read(alloc, table, piece, out)
+}
 
 /// Appends what is read of a path that begins with `/`, without its dot segments, and answers
 /// whether a double dot had nothing left to remove. A double dot takes back the last segment of what
@@ -44,7 +66,7 @@ pub(crate) fn push_read_path(
             }
             Leading::NoDots => {
                 let next = plain_len(rest);
-                push_read(alloc, table, &rest[..next], out)?;
+                push_piece(alloc, table, &rest[..next], out)?;
                 rest = &rest[next..];
             }
         }

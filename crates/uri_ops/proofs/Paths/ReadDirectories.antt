@@ -1,9 +1,10 @@
 -- What is read of a path piece by piece, while its dot segments are removed from what was read.
 use Rattle.std.proofs.Common.{◌≡◌, ℕ, ◌<◌, Bool, true, List, [], ◌∷◌, ◌++◌, length, map, take, drop}
-use Rattle.std.proofs.Common.{refl, sym, ap, subst, ◌∙◌, ◌||◌, ⊎_elim, append_assoc, false}
-use Rattle.std.specs.Prelude.{codes, ◌==◌}
+use Rattle.std.proofs.Common.{refl, sym, ap, subst, ◌∙◌, ◌&&◌, ◌||◌, ⊎_elim, append_assoc, false}
+use Rattle.std.proofs.Common.{arith}
+use Rattle.std.specs.Prelude.{codes, slice_index, ◌==◌}
 use Rattle.std.specs.List.{list_all}
-use Rattle.std.proofs.lemmas.Bool.{and_from, and_parts, eqb-true, false≢true}
+use Rattle.std.proofs.lemmas.Bool.{and_from, and_parts, eqb-true, false≢true, ne_eqb}
 use Rattle.std.proofs.lemmas.List.{append-nil, map-append, take-append-drop}
 use Rattle.std.proofs.lemmas.List.Folds.{list_all-append}
 use Rattle.uri_pct.specs.Reading.{read}
@@ -44,6 +45,20 @@ pub record IsReadLeft (set : TableSet) (path out rest : List ℕ) (underflowed :
 root : (path : List ℕ) → IsAbsolute path → take 1 path ≡ codes "/"
 root [] h = absurd (false≢true (true_of _ h))
 root (c ∷ path) h = ap (λ b. b ∷ []) (eqb-true c 47 (true_of _ h))
+
+slash_reprinted : (set : TableSet) → reprinted set (codes "/") ≡ codes "/"
+slash_reprinted set = reprinted_first set [] ∙ ap (λ t. 47 ∷ t) (reprinted-nil set)
+
+pub slash_alone : (text : List ℕ) → (length text == 1 && slice_index text 0 == 47) ≡ true
+    → text ≡ codes "/"
+slash_alone [] e = absurd (false≢true e)
+slash_alone (c ∷ []) e = ap (λ d. d ∷ []) (eqb-true c 47 e)
+slash_alone (c ∷ d ∷ text) e = absurd (false≢true (sym (ne_eqb (length (c ∷ d ∷ text)) 1 (λ h. omega (arith, h))) ∙ (and_parts _ _ e).0))
+
+-- a `/` is read as it stands
+pub slash_read : (set : TableSet) → print (read set (codes "/")) ≡ codes "/"
+unfolding reprinted
+slash_read set = slash_reprinted set
 
 module _ (set : TableSet) (w : IsComponentSet (codes "?#[]") set) (slash : set.ascii 47 ≡ true) where
   ended : (front : List ℕ) → is_part set (front ++ 47 ∷ []) ≡ true
@@ -142,7 +157,7 @@ module _ (set : TableSet) (w : IsComponentSet (codes "?#[]") set) (slash : set.a
         left = left_as path (take 1 path) (take 1 path) (drop 1 path) rest false false refl r refl left;
         part = parts.0;
         more = ap (is_part set) r ∙ parts.1;
-        text = o ∙ sym (ap (reprinted set) (root path absolute) ∙ reprinted_first set [] ∙ ap (λ t. 47 ∷ t) (reprinted-nil set));
+        text = o ∙ sym (ap (reprinted set) (root path absolute) ∙ slash_reprinted set);
       }
 
   module _ (path out rest : List ℕ) (underflowed : Bool) (h : IsReadLeft set path out rest underflowed) where

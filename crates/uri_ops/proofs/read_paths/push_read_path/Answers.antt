@@ -63,8 +63,8 @@ loop-rest-preserved-in-DoubleDot c =
       utf8 = c.range_from-rest-in-DoubleDot.utf8;
     }
 
-pub push_read-requires : goal.push_read-requires
-push_read-requires c =
+pub push_piece-requires : goal.push_piece-requires
+push_piece-requires c =
     let set = set_of c.args.table.now in
     let rest = c.loop-rest.rest.now in
     let front = c.range.result.now in
@@ -79,9 +79,9 @@ loop-rest-preserved c =
     let n = c.plain_len-next.result in
     let some = some_left rest (sym c.is_empty.ensures ∙ c.loop-rest-test.true) in
     let text = string_bytes c.loop-rest.out in
-    let new = string_bytes c.push_read.new.out in
+    let new = string_bytes c.push_piece.new.out in
     let absolute = (read_directory set c.requires.set c.requires.slash c.args.path.now _ rest c.loop-rest.underflowed c.loop-rest.invariant.left some).absolute in
-    let grown = c.in_ok-push_read-in-NoDots.ensures in
+    let grown = c.in_ok-push_piece-in-NoDots.ensures in
     let front = front_of rest c.range.result.now n c.range.ensures.value in
     record {
       before = before_more text c.len-start.result absolute _ new grown ∙ c.loop-rest.invariant.before;
