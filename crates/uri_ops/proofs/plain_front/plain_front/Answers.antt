@@ -1,4 +1,4 @@
-use Rattle.std.proofs.Common.{◌≡◌, ap, false, is_some, sym, true, ◌∙◌}
+use Rattle.std.proofs.Common.{◌≡◌, ap, false, is_some, rules, sym, true, ◌∙◌}
 use Rattle.std.proofs.lemmas.Option.{IfSome_then}
 use Rattle.uri_parts.specs.Components.{starts}
 use Rattle.uri_ops.specs.Dots.{is_empty, lacks_dot_segments}
@@ -16,8 +16,8 @@ pub returns : goal.returns
 returns c =
     let b = components_of c.args.base.now in
     let r = components_of c.args.reference.now in
-    let s : is_some r.scheme ≡ false = sym c.has_scheme.ensures ∙ c.if-has_scheme.false in
-    let a : is_some r.authority ≡ false = sym c.has_authority.ensures ∙ c.if-has_authority.false in
+    let s : is_some r.scheme ≡ false = search rules in
+    let a : is_some r.authority ≡ false = search rules in
     let e : is_empty r.path ≡ false = sym (ap is_empty c.path-path.ensures)
     ∙ sym (empty_by_length c.path-path.result.now) ∙ sym c.is_empty.ensures
     ∙ c.if-is_empty.false in
