@@ -44,7 +44,8 @@ plain_front b slash front absolute place last dots plain some text =
 
 -- a path without dot segments behind an authority stays
 kept_path : (authority : Option (List ℕ)) (path : List ℕ) → is_some authority ≡ true
-    → IsAbsolute path → lacks_dot_segments path ≡ true → guarded authority (cleaned_path path) ≡ path
+    → IsAbsolute path → lacks_dot_segments path ≡ true → guarded authority (cleaned_path path) ≡
+    path
 kept_path authority path some absolute plain =
     sym (guarded_behind authority (cleaned_path path) some)
     ∙ cond-true (starts 47 path) _ _ (true_of _ absolute) ∙ removed_of_plain path absolute plain
@@ -52,7 +53,9 @@ kept_path authority path some absolute plain =
 -- the reference's text, of which nothing stands before the path
 text_of_path : (r : Components) → r.scheme ≡ None → r.authority ≡ None
     → recompose r ≡ r.path ++ (marked (codes "?") r.query [] ++ marked (codes "#") r.fragment [])
-text_of_path r s a = λ i. marked [] (s i) (codes ":") ++ (marked (codes "//") (a i) [] ++ (r.path ++ (marked (codes "?") r.query [] ++ marked (codes "#") r.fragment [])))
+text_of_path r s a = λ i. marked [] (s i) (codes ":") ++
+    (marked (codes "//") (a i) [] ++
+    (r.path ++ (marked (codes "?") r.query [] ++ marked (codes "#") r.fragment [])))
 
 pub no_part : (o : Option (List ℕ)) → is_some o ≡ false → o ≡ None
 no_part None e = refl
@@ -64,7 +67,9 @@ no_text (c ∷ text) e = absurd (false≢true e)
 
 -- a base with an authority takes every reference
 taken_behind : (b r : Components) → is_some b.authority ≡ true → is_refused_as_opaque b r ≡ false
-taken_behind b r some = ap (λ x. (x && not (starts 47 b.path)) && not (is_some r.scheme || is_fragment_only r)) (present b.authority some)
+taken_behind b r some = ap
+    (λ x. (x && not (starts 47 b.path)) && not (is_some r.scheme || is_fragment_only r))
+    (present b.authority some)
   where
     present : (o : Option (List ℕ)) → is_some o ≡ true → is_none o ≡ false
     present None e = absurd (false≢true e)
@@ -74,22 +79,36 @@ taken_behind b r some = ap (λ x. (x && not (starts 47 b.path)) && not (is_some 
 more_than_fragment : (r : Components) → (is_empty r.path && is_none r.query) ≡ false
     → is_fragment_only r ≡ true → false ≡ true
 more_than_fragment r e h =
-    let query = and_parts (is_none r.scheme && is_none r.authority && is_empty r.path) (is_none r.query) h in
+    let query = and_parts (is_none r.scheme && is_none r.authority && is_empty r.path)
+    (is_none r.query) h in
     let path = and_parts (is_none r.scheme && is_none r.authority) (is_empty r.path) query.0 in
     sym e ∙ and_from _ _ path.1 query.1
 
 -- how long a text is up to the end of its path, and of its query
-pub length_through_path : (r : Components) → length (before_path r ++ r.path) ≡ (positions_of r).path_end
+pub length_through_path : (r : Components) → length (before_path r ++ r.path) ≡
+    (positions_of r).path_end
 length_through_path r = omega (arith, length-append (before_path r) r.path, length-before_path r)
 
 pub length_before_fragment : (r : Components) → is_some r.query ≡ true
-    → Some (length ((before_path r ++ r.path) ++ marked (codes "?") r.query [])) ≡ (positions_of r).query_end
-length_before_fragment r some = of_query r.query (before_path r ++ r.path) (positions_of r).path_end some (length_through_path r)
+    → Some (length ((before_path r ++ r.path) ++ marked (codes "?") r.query [])) ≡
+    (positions_of r).query_end
+length_before_fragment r some = of_query r.query (before_path r ++ r.path)
+    (positions_of r).path_end some (length_through_path r)
   where
-    of_query : (query : Option (List ℕ)) (front : List ℕ) (n : ℕ) → is_some query ≡ true → length front ≡ n
-        → Some (length (front ++ marked (codes "?") query [])) ≡ option_map (λ q. n + 1 + length q) query
+    of_query : (query : Option (List ℕ)) (front : List ℕ) (n : ℕ) → is_some query ≡ true → length
+        front ≡ n
+        → Some (length (front ++ marked (codes "?") query [])) ≡ option_map
+        (λ q. n + 1 + length q) query
     of_query None front n e h = absurd (false≢true e)
-    of_query (Some q) front n e h = ap Some (omega (arith, h, length-append front (codes "?" ++ q ++ []), length-append (codes "?" ++ q) [], length-append (codes "?") q))
+    of_query (Some q) front n e h = ap Some
+        (omega (
+          arith,
+          h,
+          length-append front (codes "?" ++ q ++ []),
+          length-append
+              (codes "?" ++ q) [],
+          length-append (codes "?") q,
+        ))
 
 -- where a query ends that moves with its path
 query_moved : (query : Option (List ℕ)) (n m k : ℕ) → n + m ≡ k
@@ -101,7 +120,8 @@ query_moved (Some q) n m k e = ap Some (omega (arith, e))
 -- the reference's path and query behind a front of the base
 module _ (b r : Components) (front stem : List ℕ) (s : r.scheme ≡ None) (a : r.authority ≡ None)
     (f : front ≡ before_path b ++ stem)
-    (t : finished (joined b r) ≡ record b { path = stem ++ r.path; query = r.query; fragment = r.fragment }) where
+    (t : finished (joined b r) ≡ record b
+    { path = stem ++ r.path; query = r.query; fragment = r.fragment }) where
   behind_text : front ++ recompose r ≡ recompose (finished (joined b r))
   behind_text =
       let scheme = marked [] b.scheme (codes ":") in
@@ -117,9 +137,26 @@ module _ (b r : Components) (front stem : List ℕ) (s : r.scheme ≡ None) (a :
   behind_places =
       let p = positions_of b in
       let m = (positions_of r).path_end in
-      let n : length front + m ≡ p.path_start + length (stem ++ r.path) = omega (arith, length-append stem r.path, length-before_path b, ap length f, length-append (before_path b) stem, ap (marked_length 1) s, ap (marked_length 2) a) in
-      let moved : positions_behind p (length front) (positions_of r) ≡ positions_of (record b { path = stem ++ r.path; query = r.query; fragment = r.fragment }) =
-      λ i. record { scheme_end = p.scheme_end; authority = p.authority; path_start = p.path_start; path_end = n i; query_end = query_moved r.query (length front) m (p.path_start + length (stem ++ r.path)) n i } in
+      let n : length front + m ≡ p.path_start + length (stem ++ r.path) = omega (
+        arith,
+        length-append stem r.path,
+        length-before_path b,
+        ap length f,
+        length-append
+            (before_path b) stem,
+        ap (marked_length 1) s,
+        ap (marked_length 2) a,
+      ) in
+      let moved : positions_behind p (length front) (positions_of r) ≡ positions_of
+      (record b { path = stem ++ r.path; query = r.query; fragment = r.fragment }) =
+      λ i. record {
+        scheme_end = p.scheme_end;
+        authority = p.authority;
+        path_start = p.path_start;
+        path_end = n i;
+        query_end = query_moved r.query (length front) m
+            (p.path_start + length (stem ++ r.path)) n i;
+      } in
       moved ∙ sym (ap positions_of t)
 
 -- a reference's path behind the base's directory
@@ -130,9 +167,12 @@ plain_target b r front s a e n plain f =
     let t = joined_behind b r s a e n in
     let path = merged b.path r.path in
     let absolute : IsAbsolute path = absolute_append (directory b.path) r.path f.plain.absolute in
-    let lacks : lacks_dot_segments path ≡ true = plain_behind (directory b.path) r.path f.plain plain in
-    let kept : guarded b.authority (cleaned_path path) ≡ path = kept_path b.authority path f.authority absolute lacks in
-    let done : finished (joined b r) ≡ record b { path = path; query = r.query; fragment = r.fragment } =
+    let lacks : lacks_dot_segments path ≡ true = plain_behind (directory b.path) r.path f.plain
+    plain in
+    let kept : guarded b.authority (cleaned_path path) ≡ path = kept_path b.authority path
+    f.authority absolute lacks in
+    let done : finished (joined b r) ≡ record b
+    { path = path; query = r.query; fragment = r.fragment } =
     ap finished t ∙ (λ i. record b { path = kept i; query = r.query; fragment = r.fragment }) in
     let scheme = no_part r.scheme s in
     let authority = no_part r.authority a in
@@ -147,34 +187,46 @@ plain_target b r front s a e n plain f =
     }
 
 -- a reference without a path, of a base whose path stays
-module _ (b r : Components) (front : List ℕ) (s : is_some r.scheme ≡ false) (a : is_some r.authority ≡ false)
+module _ (b r : Components) (front : List ℕ) (s : is_some r.scheme ≡ false)
+    (a : is_some r.authority ≡ false)
     (e : is_empty r.path ≡ true) (some : is_some b.authority ≡ true) (absolute : IsAbsolute b.path)
     (plain : lacks_dot_segments b.path ≡ true) where
   joined_beneath : joined b r ≡ record b { query = query_or b.query r.query; fragment = r.fragment }
   joined_beneath = cond-false (is_some r.scheme) r _ s
-      ∙ cond-false (is_some r.authority) (record r { scheme = b.scheme }) _ a ∙ cond-true (is_empty r.path) _ _ e
+      ∙ cond-false (is_some r.authority) (record r { scheme = b.scheme }) _ a
+      ∙ cond-true (is_empty r.path) _ _ e
 
   kept : guarded b.authority (cleaned_path b.path) ≡ b.path
   kept = kept_path b.authority b.path some absolute plain
 
   lasting : cleaning_underflows (joined b r).path ≡ false
   lasting = ap (λ (c : Components). cleaning_underflows c.path) joined_beneath
-      ∙ ap (λ x. x && underflows b.path) (true_of _ absolute) ∙ underflows_of_plain b.path absolute plain
+      ∙ ap (λ x. x && underflows b.path) (true_of _ absolute)
+      ∙ underflows_of_plain b.path absolute plain
 
   -- it stands behind the base's path where it has a query
-  pub query_target : is_some r.query ≡ true → front ≡ before_path b ++ b.path → IsPlainTarget b r front
+  pub query_target : is_some r.query ≡ true → front ≡ before_path b ++ b.path → IsPlainTarget b r
+      front
   query_target q f =
       let scheme = no_part r.scheme s in
       let authority = no_part r.authority a in
-      let path : b.path ≡ b.path ++ r.path = sym (ap (λ x. b.path ++ x) (no_text r.path e) ∙ append-nil b.path) in
-      let done : finished (joined b r) ≡ record b { path = b.path ++ r.path; query = r.query; fragment = r.fragment } =
+      let path : b.path ≡ b.path ++ r.path = sym
+      (ap (λ x. b.path ++ x) (no_text r.path e) ∙ append-nil b.path) in
+      let done : finished (joined b r) ≡ record b
+      { path = b.path ++ r.path; query = r.query; fragment = r.fragment } =
       ap finished joined_beneath
-      ∙ (λ i. record b { path = (kept ∙ path) i; query = cond-true (is_some r.query) r.query b.query q i; fragment = r.fragment }) in
+      ∙ (λ i. record b {
+        path = (kept ∙ path) i;
+        query = cond-true (is_some r.query) r.query
+            b.query q i;
+        fragment = r.fragment;
+      }) in
       record {
         taken = taken_behind b r some;
         underflow = lasting;
         text = behind_text b r front b.path scheme authority f done;
-        alone = λ h. absurd (false≢true (more_than_fragment r (ap (λ x. x && is_none r.query) e ∙ not_none r.query q) h));
+        alone = λ h. absurd (false≢true
+            (more_than_fragment r (ap (λ x. x && is_none r.query) e ∙ not_none r.query q) h));
         behind = λ _. behind_places b r front b.path scheme authority f done;
       }
     where
@@ -188,7 +240,11 @@ module _ (b r : Components) (front : List ℕ) (s : is_some r.scheme ≡ false) 
   fragment_target q f =
       let done : finished (joined b r) ≡ record b { fragment = r.fragment } =
       ap finished joined_beneath
-      ∙ (λ i. record b { path = kept i; query = cond-false (is_some r.query) r.query b.query q i; fragment = r.fragment }) in
+      ∙ (λ i. record b {
+        path = kept i;
+        query = cond-false (is_some r.query) r.query b.query q i;
+        fragment = r.fragment;
+      }) in
       let scheme = marked [] b.scheme (codes ":") in
       let authority = marked (codes "//") b.authority [] in
       let query = marked (codes "?") b.query [] in
@@ -196,13 +252,15 @@ module _ (b r : Components) (front : List ℕ) (s : is_some r.scheme ≡ false) 
       let end : recompose r ≡ fragment = text_of_path r (no_part r.scheme s) (no_part r.authority a)
       ∙ (λ i. no_text r.path e i ++ (marked (codes "?") (no_part r.query q i) [] ++ fragment)) in
       let only : is_fragment_only r ≡ true =
-      λ i. is_none (no_part r.scheme s i) && is_none (no_part r.authority a i) && e i && is_none (no_part r.query q i) in
+      λ i. is_none (no_part r.scheme s i) && is_none (no_part r.authority a i) && e i && is_none
+      (no_part r.query q i) in
       record {
         taken = taken_behind b r some;
         underflow = lasting;
         text = (λ i. f i ++ end i) ∙ append_assoc (before_path b ++ b.path) query fragment
             ∙ append_assoc (before_path b) b.path (query ++ fragment)
-            ∙ append_assoc scheme authority (b.path ++ (query ++ fragment)) ∙ sym (ap recompose done);
+            ∙ append_assoc scheme authority (b.path ++ (query ++ fragment))
+            ∙ sym (ap recompose done);
         alone = λ _. sym (ap positions_of done);
         behind = λ h. absurd (false≢true (sym h ∙ only));
       }

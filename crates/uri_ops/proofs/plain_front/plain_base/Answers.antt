@@ -12,7 +12,8 @@ returns-then-has_query c =
     let absolute : IsAbsolute b.path = search rules in
     let plain : lacks_dot_segments b.path ≡ true = search rules in
     let query : is_some r.query ≡ true = search rules in
-    query_target b r c.through_path.result.now c.requires.scheme c.requires.authority c.requires.path some absolute plain query c.through_path.ensures
+    query_target b r c.through_path.result.now c.requires.scheme c.requires.authority
+    c.requires.path some absolute plain query c.through_path.ensures
 
 pub returns : goal.returns
 returns c =
@@ -22,4 +23,5 @@ returns c =
     let absolute : IsAbsolute b.path = search rules in
     let plain : lacks_dot_segments b.path ≡ true = search rules in
     let query : is_some r.query ≡ false = search rules in
-    fragment_target b r c.before_fragment.result.now c.requires.scheme c.requires.authority c.requires.path some absolute plain query c.before_fragment.ensures
+    fragment_target b r c.before_fragment.result.now c.requires.scheme c.requires.authority
+    c.requires.path some absolute plain query c.before_fragment.ensures

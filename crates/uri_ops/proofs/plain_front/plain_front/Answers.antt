@@ -21,8 +21,10 @@ returns c =
     let e : is_empty r.path ≡ false = sym (ap is_empty c.path-path.ensures)
     ∙ sym (empty_by_length c.path-path.result.now) ∙ sym c.is_empty.ensures
     ∙ c.if-is_empty.false in
-    let n : starts 47 r.path ≡ false = ap (starts 47) (sym (c.as_bytes.ensures.value ∙ c.path-path.ensures))
+    let n : starts 47 r.path ≡ false = ap (starts 47)
+    (sym (c.as_bytes.ensures.value ∙ c.path-path.ensures))
     ∙ sym c.begins_with_slash.ensures ∙ c.if-begins_with_slash.false in
     let plain : lacks_dot_segments r.path ≡ true = ap lacks_dot_segments (sym c.path-path.ensures)
     ∙ c.is_plain.ensures c.if-not-is_plain.false in
-    IfSome_then c.plain_directory.result c.plain_directory.ensures (λ front. plain_target b r front.now s a e n plain)
+    IfSome_then c.plain_directory.result c.plain_directory.ensures
+    (λ front. plain_target b r front.now s a e n plain)

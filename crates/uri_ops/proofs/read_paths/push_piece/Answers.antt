@@ -13,4 +13,5 @@ returns-then-is_slash c =
     let piece : c.args.piece.now ≡ codes "/" = sym c.as_bytes.ensures.value
     ∙ slash_alone c.as_bytes.result.now (sym c.is_slash.ensures ∙ c.if-is_slash.true) in
     c.in_ok-push.ensures.bytes
-    ∙ ap (λ t. string_bytes c.args.out.now ++ t) (encode_ascii 47 (lit< tt) ∙ sym (slash_read set) ∙ ap (λ t. print (read set t)) (sym piece))
+    ∙ ap (λ t. string_bytes c.args.out.now ++ t)
+    (encode_ascii 47 (lit< tt) ∙ sym (slash_read set) ∙ ap (λ t. print (read set t)) (sym piece))

@@ -22,10 +22,13 @@ loop-rest-init c =
     let at : c.len-start.result ≡ length (string_bytes c.args.out.now) = search rules in
     record {
       before = refl;
-      left = read_first set c.requires.set c.requires.slash c.args.path.now _ c.range_from-rest.result.now c.requires.absolute
+      left = read_first set c.requires.set c.requires.slash c.args.path.now _
+          c.range_from-rest.result.now c.requires.absolute
           (part_from set c.args.path.now c.utf8.path c.requires.valid)
-          (behind_old (string_bytes c.args.out.now) c.len-start.result at (string_bytes c.push.new.self) (codes "/")
-          (c.in_ok-push.ensures.bytes ∙ ap (λ t. string_bytes c.args.out.now ++ t) (encode_ascii 47 (lit< tt))))
+          (behind_old (string_bytes c.args.out.now) c.len-start.result at
+          (string_bytes c.push.new.self) (codes "/")
+          (c.in_ok-push.ensures.bytes ∙ ap (λ t. string_bytes c.args.out.now ++ t)
+          (encode_ascii 47 (lit< tt))))
           c.range_from-rest.ensures.value;
       utf8 = c.range_from-rest.utf8;
     }
@@ -36,8 +39,10 @@ loop-rest-preserved-in-SingleDot c =
     let some = some_left c.loop-rest.rest.now (sym c.is_empty.ensures ∙ c.loop-rest-test.true) in
     record {
       before = c.loop-rest.invariant.before;
-      left = read_single set c.requires.set c.requires.slash c.args.path.now _ c.loop-rest.rest.now c.loop-rest.underflowed c.loop-rest.invariant.left some
-          c.range_from-rest-in-SingleDot.result.now _ c.in-SingleDot.ensures.leading c.range_from-rest-in-SingleDot.ensures.value;
+      left = read_single set c.requires.set c.requires.slash c.args.path.now _
+          c.loop-rest.rest.now c.loop-rest.underflowed c.loop-rest.invariant.left some
+          c.range_from-rest-in-SingleDot.result.now _ c.in-SingleDot.ensures.leading
+          c.range_from-rest-in-SingleDot.ensures.value;
       utf8 = c.range_from-rest-in-SingleDot.utf8;
     }
 
@@ -45,7 +50,8 @@ pub pop_segment-underflowed-requires : goal.pop_segment-underflowed-requires
 pop_segment-underflowed-requires c =
     let set = set_of c.args.table.now in
     let some = some_left c.loop-rest.rest.now (sym c.is_empty.ensures ∙ c.loop-rest-test.true) in
-    read_directory set c.requires.set c.requires.slash c.args.path.now _ c.loop-rest.rest.now c.loop-rest.underflowed c.loop-rest.invariant.left some
+    read_directory set c.requires.set c.requires.slash c.args.path.now _ c.loop-rest.rest.now
+    c.loop-rest.underflowed c.loop-rest.invariant.left some
 
 pub loop-rest-preserved-in-DoubleDot : goal.loop-rest-preserved-in-DoubleDot
 loop-rest-preserved-in-DoubleDot c =
@@ -54,12 +60,19 @@ loop-rest-preserved-in-DoubleDot c =
     let text = string_bytes c.loop-rest.out in
     let new = string_bytes c.pop_segment-underflowed.new.out in
     let bytes = c.pop_segment-underflowed.ensures.bytes in
-    let absolute = (read_directory set c.requires.set c.requires.slash c.args.path.now _ c.loop-rest.rest.now c.loop-rest.underflowed c.loop-rest.invariant.left some).absolute in
+    let absolute = (read_directory set c.requires.set c.requires.slash c.args.path.now _
+    c.loop-rest.rest.now c.loop-rest.underflowed c.loop-rest.invariant.left some).absolute in
     record {
-      before = before_cut text c.len-start.result absolute _ new bytes ∙ c.loop-rest.invariant.before;
-      left = read_double set c.requires.set c.requires.slash c.args.path.now (drop c.len-start.result text) c.loop-rest.rest.now c.loop-rest.underflowed c.loop-rest.invariant.left some
-          c.range_from-rest-in-DoubleDot.result.now (drop c.len-start.result new) c.pop_segment-underflowed.result _ _ c.in-DoubleDot.ensures.leading
-          c.range_from-rest-in-DoubleDot.ensures.value (kept_cut text c.len-start.result absolute _ new bytes) c.pop_segment-underflowed.ensures.none refl;
+      before = before_cut text c.len-start.result absolute _ new bytes
+          ∙ c.loop-rest.invariant.before;
+      left = read_double set c.requires.set c.requires.slash c.args.path.now
+          (drop c.len-start.result text) c.loop-rest.rest.now c.loop-rest.underflowed
+          c.loop-rest.invariant.left some
+          c.range_from-rest-in-DoubleDot.result.now (drop c.len-start.result new)
+          c.pop_segment-underflowed.result _ _ c.in-DoubleDot.ensures.leading
+          c.range_from-rest-in-DoubleDot.ensures.value
+          (kept_cut text c.len-start.result absolute _ new bytes)
+          c.pop_segment-underflowed.ensures.none refl;
       utf8 = c.range_from-rest-in-DoubleDot.utf8;
     }
 
@@ -70,7 +83,11 @@ push_piece-requires c =
     let front = c.range.result.now in
     let some = some_left rest (sym c.is_empty.ensures ∙ c.loop-rest-test.true) in
     valid_decodes c.args.table.now set front refl
-    (part_valid set front (front_valid set c.requires.set c.requires.slash c.args.path.now _ rest c.loop-rest.underflowed c.loop-rest.invariant.left some front c.plain_len-next.result c.plain_len-next.ensures.plain (front_of rest front c.plain_len-next.result c.range.ensures.value)))
+    (part_valid set front
+    (front_valid set c.requires.set c.requires.slash c.args.path.now _ rest
+    c.loop-rest.underflowed c.loop-rest.invariant.left some front c.plain_len-next.result
+    c.plain_len-next.ensures.plain
+    (front_of rest front c.plain_len-next.result c.range.ensures.value)))
 
 pub loop-rest-preserved : goal.loop-rest-preserved
 loop-rest-preserved c =
@@ -80,14 +97,19 @@ loop-rest-preserved c =
     let some = some_left rest (sym c.is_empty.ensures ∙ c.loop-rest-test.true) in
     let text = string_bytes c.loop-rest.out in
     let new = string_bytes c.push_piece.new.out in
-    let absolute = (read_directory set c.requires.set c.requires.slash c.args.path.now _ rest c.loop-rest.underflowed c.loop-rest.invariant.left some).absolute in
+    let absolute = (read_directory set c.requires.set c.requires.slash c.args.path.now _ rest
+    c.loop-rest.underflowed c.loop-rest.invariant.left some).absolute in
     let grown = c.in_ok-push_piece-in-NoDots.ensures in
     let front = front_of rest c.range.result.now n c.range.ensures.value in
     record {
-      before = before_more text c.len-start.result absolute _ new grown ∙ c.loop-rest.invariant.before;
-      left = read_more set c.requires.set c.requires.slash c.args.path.now (drop c.len-start.result text) rest c.loop-rest.underflowed c.loop-rest.invariant.left some
-          c.range_from-rest-in-NoDots.result.now (drop c.len-start.result new) n c.plain_len-next.ensures.plain c.range_from-rest-in-NoDots.ensures.value
-          (kept_more text c.len-start.result absolute _ new grown ∙ ap (λ t. drop c.len-start.result text ++ print (read set t)) front);
+      before = before_more text c.len-start.result absolute _ new grown
+          ∙ c.loop-rest.invariant.before;
+      left = read_more set c.requires.set c.requires.slash c.args.path.now
+          (drop c.len-start.result text) rest c.loop-rest.underflowed c.loop-rest.invariant.left some
+          c.range_from-rest-in-NoDots.result.now (drop c.len-start.result new) n
+          c.plain_len-next.ensures.plain c.range_from-rest-in-NoDots.ensures.value
+          (kept_more text c.len-start.result absolute _ new grown
+          ∙ ap (λ t. drop c.len-start.result text ++ print (read set t)) front);
       utf8 = c.range_from-rest-in-NoDots.utf8;
     }
 
@@ -95,11 +117,17 @@ pub returns-clause-text : goal.returns-clause-text
 returns-clause-text c =
     let set = set_of c.args.table.now in
     let at : c.len-start.result ≡ length (string_bytes c.args.out.now) = search rules in
-    whole (string_bytes c.args.out.now) c.len-start.result at (string_bytes c.push.new.self) (codes "/") (string_bytes c.loop-rest.out) _
-    (c.in_ok-push.ensures.bytes ∙ ap (λ t. string_bytes c.args.out.now ++ t) (encode_ascii 47 (lit< tt))) c.loop-rest.invariant.before
-    (read_done set c.requires.set c.requires.slash c.args.path.now _ c.loop-rest.rest.now c.loop-rest.underflowed c.loop-rest.invariant.left (sym c.is_empty.ensures ∙ c.loop-rest-test.false)).0
+    whole (string_bytes c.args.out.now) c.len-start.result at (string_bytes c.push.new.self)
+    (codes "/") (string_bytes c.loop-rest.out) _
+    (c.in_ok-push.ensures.bytes ∙ ap (λ t. string_bytes c.args.out.now ++ t)
+    (encode_ascii 47 (lit< tt))) c.loop-rest.invariant.before
+    (read_done set c.requires.set c.requires.slash c.args.path.now _ c.loop-rest.rest.now
+    c.loop-rest.underflowed c.loop-rest.invariant.left
+    (sym c.is_empty.ensures ∙ c.loop-rest-test.false)).0
 
 pub returns-clause-underflow : goal.returns-clause-underflow
 returns-clause-underflow c =
     let set = set_of c.args.table.now in
-    (read_done set c.requires.set c.requires.slash c.args.path.now _ c.loop-rest.rest.now c.loop-rest.underflowed c.loop-rest.invariant.left (sym c.is_empty.ensures ∙ c.loop-rest-test.false)).1
+    (read_done set c.requires.set c.requires.slash c.args.path.now _ c.loop-rest.rest.now
+    c.loop-rest.underflowed c.loop-rest.invariant.left
+    (sym c.is_empty.ensures ∙ c.loop-rest-test.false)).1

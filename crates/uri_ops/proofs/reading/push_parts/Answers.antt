@@ -14,7 +14,10 @@ returns c =
     let rest = c.of_text.result.rest.now in
     let took = c.in_ok-take_parts.ensures in
     let name = sym took.same in
-    let bytes : now ≡ old ++ print (cased c.args.lowers (read_tokens (set_of c.args.table.now) (tokens c.args.text.now))) =
-    taken_whole rest old _ c.take_parts.new.taker (subst (IsValidFor widest_set) (sym c.of_text.ensures) c.requires) refl took
-    ∙ ap (λ t. old ++ print (cased c.args.lowers (read_tokens (set_of c.args.table.now) (tokens t)))) c.of_text.ensures in
+    let bytes : now ≡ old ++ print
+    (cased c.args.lowers (read_tokens (set_of c.args.table.now) (tokens c.args.text.now))) =
+    taken_whole rest old _ c.take_parts.new.taker
+    (subst (IsValidFor widest_set) (sym c.of_text.ensures) c.requires) refl took
+    ∙ ap (λ t. old ++ print
+    (cased c.args.lowers (read_tokens (set_of c.args.table.now) (tokens t)))) c.of_text.ensures in
     search rules

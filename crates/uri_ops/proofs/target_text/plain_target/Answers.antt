@@ -7,6 +7,8 @@ returns-clause-text c =
     let front = c.args.front.now in
     let empty : string_bytes c.in_ok-text.text ≡ [] = search rules in
     c.in_ok-push_str-2.ensures.bytes
-    ∙ ap (λ t. t ++ c.as_str-behind.result.now) (c.in_ok-push_str.ensures.bytes ∙ ap (λ t. t ++ front) empty)
-    ∙ ap (λ t. front ++ t) (c.as_str-behind.ensures.text ∙ sym (recompose-components c.args.reference.now.text.now))
+    ∙ ap (λ t. t ++ c.as_str-behind.result.now)
+    (c.in_ok-push_str.ensures.bytes ∙ ap (λ t. t ++ front) empty)
+    ∙ ap (λ t. front ++ t)
+    (c.as_str-behind.ensures.text ∙ sym (recompose-components c.args.reference.now.text.now))
     ∙ c.requires.text

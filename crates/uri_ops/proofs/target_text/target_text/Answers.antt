@@ -12,9 +12,13 @@ returns-clause-at c =
     let empty : string_bytes c.in_ok-text.text ≡ [] = search rules in
     let text = c.in_ok-positions.ensures.text ∙ ap (λ x. x ++ recompose (finished t)) empty in
     c.in_ok-positions.ensures.places empty
-    ∙ sym (ap positions_of (ap components text ∙ target_components c.args.base.now.text.now c.args.reference.now.text.now c.requires))
+    ∙ sym (ap positions_of
+    (ap components text ∙ target_components c.args.base.now.text.now c.args.reference.now.text.now
+    c.requires))
 
 pub returns-in-Some-clause-at : goal.returns-in-Some-clause-at
 returns-in-Some-clause-at c =
     c.in_ok-target.ensures.places
-    ∙ sym (ap positions_of (ap components c.in_ok-target.ensures.text ∙ target_components c.args.base.now.text.now c.args.reference.now.text.now c.requires))
+    ∙ sym (ap positions_of
+    (ap components c.in_ok-target.ensures.text
+    ∙ target_components c.args.base.now.text.now c.args.reference.now.text.now c.requires))

@@ -9,11 +9,14 @@ use Rattle.uri_ops.proofs.placed.Placed.before_fragment.Goals as goal
 pub range-requires-clause-end_boundary : goal.range-requires-clause-end_boundary
 range-requires-clause-end_boundary c =
     subst (IsCharBoundary c.as_str-text.result.now) (sym c.before_fragment.ensures)
-    (query_ends c.as_str-text.result.now c.args.self.now.positions c.as_str-text.utf8 c.as_str-text.ensures.at)
+    (query_ends c.as_str-text.result.now c.args.self.now.positions c.as_str-text.utf8
+    c.as_str-text.ensures.at)
 
 pub returns : goal.returns
 returns c =
     c.range.ensures.value
     ∙ ap (slice_range c.as_str-text.result.now 0) c.before_fragment.ensures
-    ∙ unfragmented_piece c.as_str-text.result.now c.args.self.now.positions c.as_str-text.utf8 c.as_str-text.ensures.at
-    ∙ ap (λ t. (before_path (components t) ++ (components t).path) ++ marked (codes "?") (components t).query []) c.as_str-text.ensures.text
+    ∙ unfragmented_piece c.as_str-text.result.now c.args.self.now.positions c.as_str-text.utf8
+    c.as_str-text.ensures.at
+    ∙ ap (λ t. (before_path (components t) ++ (components t).path) ++ marked (codes "?")
+    (components t).query []) c.as_str-text.ensures.text
