@@ -20,7 +20,8 @@ use Rattle.uri_ops.proofs.Meanings.ReadParts.{parts_of_run, read_parts-tokens}
 -- text that stands for itself
 pub plain_cased : (lowers : Bool) (set : TableSet) (text : List ℕ) → IsUtf8 text
     → print (cased lowers (read_parts set (Plain text ∷ []))) ≡ cased_text lowers text
-plain_cased lowers set text u = ap (λ ts. print (cased lowers ts)) (append-nil (map Char (chars text)))
+plain_cased lowers set text u = ap (λ ts. print (cased lowers ts))
+    (append-nil (map Char (chars text)))
     ∙ print_cased lowers text u
 
 -- characters that octets spell
@@ -28,13 +29,15 @@ pub spelt_as_is : (readable set : TableSet) (text : List ℕ) → AllowsReadable
     → IsUtf8 text
     → print (cased false (read_parts set (map Read (utf8_pieces text))))
     ≡ print (encode_text readable text)
-spelt_as_is readable set text same u = ap print (parts_of_run set (utf8_pieces text) ∙ text_read readable set same text u)
+spelt_as_is readable set text same u = ap print
+    (parts_of_run set (utf8_pieces text) ∙ text_read readable set same text u)
 
 pub spelt_lowered : (readable set : TableSet) (text : List ℕ) → AllowsReadable readable set
     → IsUtf8 text
     → print (cased true (read_parts set (map Read (utf8_pieces text))))
     ≡ print (encode_text readable (str_to_ascii_lowercase text))
-spelt_lowered readable set text same u = ap (λ ts. print (map lower_token ts)) (parts_of_run set (utf8_pieces text))
+spelt_lowered readable set text same u = ap (λ ts. print (map lower_token ts))
+    (parts_of_run set (utf8_pieces text))
     ∙ ap print (text_read_lower readable set same text u)
 
 -- what is no character
@@ -54,7 +57,8 @@ grown s t ps lowers more set lower is same written meant = record {
   lowers = lower;
   same = same;
   text = written
-      ∙ ap (λ x. string_bytes s.text.now ++ x) (sym (ap (λ b. print (cased b (read_parts (set_of s.table) ps))) is ∙ meant));
+      ∙ ap (λ x. string_bytes s.text.now ++ x)
+      (sym (ap (λ b. print (cased b (read_parts (set_of s.table) ps))) is ∙ meant));
 }
 
 -- the whole text

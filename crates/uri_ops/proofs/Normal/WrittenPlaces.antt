@@ -35,28 +35,47 @@ length-before mark (Some s) = omega (arith, length-append (mark ++ s) [], length
 pub parts_placed : (p : AuthorityParts) (o0 o1 o2 o3 : List ℕ)
     → o1 ≡ o0 ++ marked [] p.userinfo (codes "@") → o2 ≡ o1 ++ p.host
     → o3 ≡ o2 ++ marked (codes ":") p.port []
-    → (let x : AuthorityPositions = record { start = length o0; host_start = length o1; host_end = length o2; end = length o3 } in x)
+    → (let x : AuthorityPositions = record
+    { start = length o0; host_start = length o1; host_end = length o2; end = length o3 } in x)
     ≡ parts_at (length o0) p
 parts_placed p o0 o1 o2 o3 e1 e2 e3 =
     let user = marked [] p.userinfo (codes "@") in
     let port = marked (codes ":") p.port [] in
-    let n1 : length o1 ≡ length o0 + marked_length 1 p.userinfo = omega (arith, ap length e1, length-append o0 user, length-behind p.userinfo 64) in
-    let n2 : length o2 ≡ length o0 + (marked_length 1 p.userinfo + length p.host) = omega (arith, n1, ap length e2, length-append o1 p.host) in
+    let n1 : length o1 ≡ length o0 + marked_length 1 p.userinfo = omega
+    (arith, ap length e1, length-append o0 user, length-behind p.userinfo 64) in
+    let n2 : length o2 ≡ length o0 + (marked_length 1 p.userinfo + length p.host) = omega
+    (arith, n1, ap length e2, length-append o1 p.host) in
     let n3 : length o3 ≡ length o0 + length (recompose_authority p) =
-    omega (arith, n2, ap length e3, length-append o2 port, length-append user (p.host ++ port), length-append p.host port, length-behind p.userinfo 64) in
+    omega (
+      arith,
+      n2,
+      ap length e3,
+      length-append o2 port,
+      length-append user (p.host ++ port),
+      length-append p.host port,
+      length-behind p.userinfo 64,
+    ) in
     λ i. record { start = length o0; host_start = n1 i; host_end = n2 i; end = n3 i }
 
 -- by its text, where that is cut into these parts
 pub parts_cut : (place : ℕ) (p : AuthorityParts) → authority_parts (recompose_authority p) ≡ p
     → parts_at place p ≡ authority_at place (recompose_authority p)
-parts_cut place p cut = ap (λ (q : AuthorityParts). let host = marked_length 1 q.userinfo in let x : AuthorityPositions = record { start = place; host_start = place + host; host_end = place + (host + length q.host); end = place + length (recompose_authority p) } in x) (sym cut)
+parts_cut place p cut = ap
+    (λ (q : AuthorityParts). let host = marked_length 1 q.userinfo in let x : AuthorityPositions =
+    record {
+      start = place;
+      host_start = place + host;
+      host_end = place + (host + length q.host);
+      end = place + length (recompose_authority p);
+    } in x) (sym cut)
 
 -- and components of which the authority is cut into these parts
 pub cut_placed : (c : Components) (parts : Option AuthorityParts)
     → option_map (parts_at (marked_length 1 c.scheme + 2)) parts
     ≡ option_map (authority_at (marked_length 1 c.scheme + 2)) c.authority
     → written_at c parts ≡ positions_of c
-cut_placed c parts e = ap (λ a. let x : Positions = record (positions_of c) { authority = a } in x) e
+cut_placed c parts e = ap
+    (λ a. let x : Positions = record (positions_of c) { authority = a } in x) e
 
 pub from_zero : (part : Option (List ℕ))
     → option_map (λ s. 0 + length s) part ≡ option_map length part
@@ -65,7 +84,12 @@ from_zero (Some s) = ap Some (omega arith)
 
 -- what stands before a path, and how long it is
 pub length-before_path : (p : Components) → length (before_path p) ≡ (positions_of p).path_start
-length-before_path p = omega (arith, length-append (marked [] p.scheme (codes ":")) (marked (codes "//") p.authority []), length-behind p.scheme 58, length-before (codes "//") p.authority)
+length-before_path p = omega (
+  arith,
+  length-append (marked [] p.scheme (codes ":")) (marked (codes "//") p.authority []),
+  length-behind p.scheme 58,
+  length-before (codes "//") p.authority,
+)
 
 -- where a path, and the query behind it, are written
 record EndsAt (p : Components) (start stop : ℕ) (query : Option ℕ) : Type 0 where
@@ -78,8 +102,14 @@ ends_at : (p : Components) (o2 o3 : List ℕ) (start stop : ℕ) (query : Option
     → stop ≡ length o3
     → query ≡ option_map (λ s. length o3 + 1 + length s) p.query → EndsAt p start stop query
 ends_at p o2 o3 start stop query n2 e3 starts stops queries =
-    let m3 : length o3 ≡ (positions_of p).path_end = omega (arith, n2, ap length e3, length-append o2 p.path) in
-    record { starts = starts ∙ n2; stops = stops ∙ m3; queries = queries ∙ ap (λ n. option_map (λ s. n + 1 + length s) p.query) m3 }
+    let m3 : length o3 ≡ (positions_of p).path_end = omega
+    (arith, n2, ap length e3, length-append o2 p.path) in
+    record {
+      starts = starts ∙ n2;
+      stops = stops ∙ m3;
+      queries = queries
+          ∙ ap (λ n. option_map (λ s. n + 1 + length s) p.query) m3;
+    }
 
 -- components that are written one after the other, whose authority has these parts
 pub written_placed : (p : Components) (parts : Option AuthorityParts) (o0 o1 o2 o3 : List ℕ)
@@ -90,16 +120,44 @@ pub written_placed : (p : Components) (parts : Option AuthorityParts) (o0 o1 o2 
     → end ≡ option_map (λ s. length o0 + length s) p.scheme
     → authority ≡ option_map (parts_at (length o1 + 2)) parts
     → query ≡ option_map (λ s. length o3 + 1 + length s) p.query
-    → (let x : Positions = record { scheme_end = end; authority = authority; path_start = start; path_end = stop; query_end = query } in x)
+    → (let x : Positions = record {
+      scheme_end = end;
+      authority = authority;
+      path_start = start;
+      path_end = stop;
+      query_end
+          = query;
+    } in x)
     ≡ written_at p parts
-written_placed p parts o0 o1 o2 o3 start stop end query authority e0 e1 e2 e3 starts stops ends lies queries =
+written_placed p parts o0 o1 o2 o3 start stop end query authority e0 e1 e2 e3 starts stops ends
+    lies queries =
     let n0 : length o0 ≡ 0 = ap length e0 in
-    let n1 : length o1 ≡ marked_length 1 p.scheme = omega (arith, n0, ap length e1, length-append o0 (marked [] p.scheme (codes ":")), length-behind p.scheme 58) in
-    let n2 : length o2 ≡ (positions_of p).path_start = omega (arith, n1, ap length e2, length-append o1 (marked (codes "//") p.authority []), length-before (codes "//") p.authority) in
+    let n1 : length o1 ≡ marked_length 1 p.scheme = omega (
+      arith,
+      n0,
+      ap length e1,
+      length-append o0 (marked [] p.scheme (codes ":")),
+      length-behind
+          p.scheme 58,
+    ) in
+    let n2 : length o2 ≡ (positions_of p).path_start = omega (
+      arith,
+      n1,
+      ap length e2,
+      length-append o1 (marked (codes "//") p.authority []),
+      length-before (codes "//") p.authority,
+    ) in
     let w = ends_at p o2 o3 start stop query n2 e3 starts stops queries in
     let f = ends ∙ ap (λ n. option_map (λ s. n + length s) p.scheme) n0 ∙ from_zero p.scheme in
     let g = lies ∙ ap (λ n. option_map (parts_at (n + 2)) parts) n1 in
-    λ i. record { scheme_end = f i; authority = g i; path_start = w.starts i; path_end = w.stops i; query_end = w.queries i }
+    λ i. record {
+      scheme_end = f i;
+      authority = g i;
+      path_start = w.starts i;
+      path_end = w.stops
+          i;
+      query_end = w.queries i;
+    }
 
 -- and whose scheme and authority are written where they lie
 pub pieces_placed : (p : Components) (o0 o2 o3 : List ℕ) (start stop : ℕ) (end query : Option ℕ)
@@ -108,11 +166,27 @@ pub pieces_placed : (p : Components) (o0 o2 o3 : List ℕ) (start stop : ℕ) (e
     → o2 ≡ o0 ++ before_path p → o3 ≡ o2 ++ p.path → start ≡ length o2 → stop ≡ length o3
     → end ≡ (positions_of p).scheme_end → authority ≡ (positions_of p).authority
     → query ≡ option_map (λ s. length o3 + 1 + length s) p.query
-    → (let x : Positions = record { scheme_end = end; authority = authority; path_start = start; path_end = stop; query_end = query } in x)
+    → (let x : Positions = record {
+      scheme_end = end;
+      authority = authority;
+      path_start = start;
+      path_end = stop;
+      query_end
+          = query;
+    } in x)
     ≡ positions_of p
 pieces_placed p o0 o2 o3 start stop end query authority e0 e2 e3 starts stops ends lies queries =
-    let w = ends_at p o2 o3 start stop query (ap length (e2 ∙ ap (λ o. o ++ before_path p) e0) ∙ length-before_path p) e3 starts stops queries in
-    λ i. record { scheme_end = ends i; authority = lies i; path_start = w.starts i; path_end = w.stops i; query_end = w.queries i }
+    let w = ends_at p o2 o3 start stop query
+    (ap length (e2 ∙ ap (λ o. o ++ before_path p) e0) ∙ length-before_path p) e3 starts stops
+    queries in
+    λ i. record {
+      scheme_end = ends i;
+      authority = lies i;
+      path_start = w.starts i;
+      path_end =
+          w.stops i;
+      query_end = w.queries i;
+    }
 
 of_parts : {A B C D : Type 0} (f : C → D) (h : B → C) (k : A → B) (o : Option A)
     → option_map (λ a. f (h (k a))) o ≡ option_map f (option_map h (option_map k o))
@@ -123,20 +197,37 @@ of_parts f h k (Some a) = refl
 pub normal_placed : (kind : Kind) (ports : PortFunction) (text : List ℕ) (old o1 o2 o3 : List ℕ)
     (start stop : ℕ) (end query : Option ℕ) (places : Option AuthorityPositions)
     → old ≡ []
-    → (let p = components text in let scheme = option_map str_to_ascii_lowercase p.scheme in let default = option_and_then ports scheme in
-    let authority = option_map normal_authority (option_map (authority_meaning kind default) p.authority) in
+    → (let p = components text in let scheme = option_map str_to_ascii_lowercase p.scheme in let
+    default = option_and_then ports scheme in
+    let authority = option_map normal_authority
+    (option_map (authority_meaning kind default) p.authority) in
     o1 ≡ old ++ marked [] scheme (codes ":")
     → o2 ≡ o1 ++ marked (codes "//") authority []
     → o3 ≡ o2 ++ path_text kind.path p.scheme authority p.path
     → start ≡ length o2 → stop ≡ length o3
     → end ≡ option_map (λ s. length old + length s) scheme
-    → places ≡ option_map (λ a. parts_at (length o1 + 2) (normal_parts (authority_meaning kind default a))) p.authority
-    → query ≡ option_map (λ s. length o3 + 1 + length s) (option_map print (option_map (read kind.query) p.query))
-    → (let x : Positions = record { scheme_end = end; authority = places; path_start = start; path_end = stop; query_end = query } in x)
-    ≡ written_at (normal_components (meaning_of kind ports text)) (option_map normal_parts (meaning_of kind ports text).authority))
-normal_placed kind ports text old o1 o2 o3 start stop end query places empty e1 e2 e3 starts stops ends lies queries =
+    → places ≡ option_map
+    (λ a. parts_at (length o1 + 2) (normal_parts (authority_meaning kind default a)))
+    p.authority
+    → query ≡ option_map (λ s. length o3 + 1 + length s)
+    (option_map print (option_map (read kind.query) p.query))
+    → (let x : Positions = record {
+      scheme_end = end;
+      authority = places;
+      path_start = start;
+      path_end = stop;
+      query_end =
+          query;
+    } in x)
+    ≡ written_at (normal_components (meaning_of kind ports text))
+    (option_map normal_parts (meaning_of kind ports text).authority))
+normal_placed kind ports text old o1 o2 o3 start stop end query places empty e1 e2 e3 starts stops
+    ends lies queries =
     let m = meaning_of kind ports text in
-    let default = option_and_then ports (option_map str_to_ascii_lowercase (components text).scheme) in
-    written_placed (normal_components m) (option_map normal_parts m.authority) old o1 o2 o3 start stop end query places empty e1 e2
+    let default = option_and_then ports
+    (option_map str_to_ascii_lowercase (components text).scheme) in
+    written_placed (normal_components m) (option_map normal_parts m.authority) old o1 o2 o3 start
+    stop end query places empty e1 e2
     (e3 ∙ ap (λ t. o2 ++ t) (path_written kind ports text)) starts stops ends
-    (lies ∙ of_parts (parts_at (length o1 + 2)) normal_parts (authority_meaning kind default) (components text).authority) queries
+    (lies ∙ of_parts (parts_at (length o1 + 2)) normal_parts (authority_meaning kind default)
+    (components text).authority) queries

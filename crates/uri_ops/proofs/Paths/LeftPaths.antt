@@ -30,7 +30,14 @@ use Rattle.uri_pct.proofs.Tests.{true_of}
 
 pub left_first : (kept rest : List ℕ) → IsPlainDirectory kept
     → IsLeft (kept ++ rest) kept rest false
-left_first kept rest d = record { removed = refl; underflow = refl; absolute = d.absolute; plain = d.plain; closed = inr d.closed }
+left_first kept rest d = record {
+  removed = refl;
+  underflow = refl;
+  absolute = d.absolute;
+  plain = d.plain;
+  closed = inr
+      d.closed;
+}
 
 pub left_last : (path kept : List ℕ) (underflowed : Bool) → IsLeft path kept [] underflowed
     → (kept ≡ remove_dot_segments path) × (underflowed ≡ underflows path)
@@ -38,7 +45,9 @@ left_last path kept underflowed h =
     let none = append-nil kept in (
       sym (removed_of_plain kept h.absolute h.plain) ∙ ap remove_dot_segments (sym none)
           ∙ h.removed,
-      sym (ap (λ t. underflowed || underflows t) none ∙ ap (λ b. underflowed || b) (underflows_of_plain kept h.absolute h.plain) ∙ or-false underflowed)
+      sym (ap (λ t. underflowed || underflows t) none
+          ∙ ap (λ b. underflowed || b) (underflows_of_plain kept h.absolute h.plain)
+          ∙ or-false underflowed)
           ∙ h.underflow,
     )
 
@@ -66,18 +75,21 @@ some_left (c ∷ rest) e = omega arith
 pub left_as : (path kept kept' rest rest' : List ℕ) (u u' : Bool) → kept' ≡ kept → rest' ≡ rest
     → u' ≡ u → IsLeft path kept rest u → IsLeft path kept' rest' u'
 left_as path kept kept' rest rest' u u' e f g h =
-    subst (IsLeft path kept' rest') (sym g) (subst (λ r. IsLeft path kept' r u) (sym f) (subst (λ k. IsLeft path k rest u) (sym e) h))
+    subst (IsLeft path kept' rest') (sym g)
+    (subst (λ r. IsLeft path kept' r u) (sym f) (subst (λ k. IsLeft path k rest u) (sym e) h))
 
 -- a directory without dot segments as its segments
 plain_front : (xs ys : List (List ℕ)) → NoSlashes (xs ++ ys)
     → lacks_dot_segments (slashed (xs ++ ys)) ≡ true → Passes is_plain xs
-plain_front xs ys e f = (and_parts _ _ (sym (list_all-append is_plain xs ys) ∙ plain_segments (xs ++ ys) e f)).0
+plain_front xs ys e f =
+    (and_parts _ _ (sym (list_all-append is_plain xs ys) ∙ plain_segments (xs ++ ys) e f)).0
 
 pub by_directory : (P : List ℕ → Type 0)
     → ((xs : List (List ℕ)) → NoSlashes xs → Passes is_plain xs → P (slashed (xs ++ [] ∷ [])))
     → (path : List ℕ) → IsPlainDirectory path → P path
 by_directory P each path d = by_closed (λ path. lacks_dot_segments path ≡ true → P path)
-    (λ xs e f. each xs e (plain_front xs ([] ∷ []) (closed_lacks xs e) f)) path d.absolute d.closed d.plain
+    (λ xs e f. each xs e (plain_front xs ([] ∷ []) (closed_lacks xs e) f)) path d.absolute
+    d.closed d.plain
 
 plain_slashed : (xs : List (List ℕ)) → NoSlashes xs → Passes is_plain xs
     → lacks_dot_segments (slashed xs) ≡ true
@@ -88,7 +100,9 @@ pub plain_behind : (kept path : List ℕ) → IsPlainDirectory kept → lacks_do
     → lacks_dot_segments (kept ++ path) ≡ true
 plain_behind kept path d plain =
     by_directory (λ k. lacks_dot_segments (k ++ path) ≡ true)
-    (λ xs e f. ap lacks_dot_segments (behind xs path) ∙ plain_slashed (xs ++ segments path) (behind_lacks xs path e) (append_passes is_plain xs (segments path) f plain))
+    (λ xs e f. ap lacks_dot_segments (behind xs path)
+    ∙ plain_slashed (xs ++ segments path) (behind_lacks xs path e)
+    (append_passes is_plain xs (segments path) f plain))
     kept d
 
 directory_slashed : (xs : List (List ℕ)) → NoSlashes xs → Passes is_plain xs
@@ -96,7 +110,8 @@ directory_slashed : (xs : List (List ℕ)) → NoSlashes xs → Passes is_plain 
 directory_slashed xs e f = record {
   absolute = absolute_slashed (xs ++ [] ∷ []) (none_push xs []);
   closed = (slashed xs, slashed_push xs []);
-  plain = plain_slashed (xs ++ [] ∷ []) (closed_lacks xs e) (append_passes is_plain xs ([] ∷ []) f refl);
+  plain = plain_slashed (xs ++ [] ∷ []) (closed_lacks xs e)
+      (append_passes is_plain xs ([] ∷ []) f refl);
 }
 
 -- a dot segment leaves a directory in place of what was kept
@@ -106,7 +121,8 @@ record Dropped (kept s rest left : List ℕ) (meets_none : Bool) : Type 0 where
   directory : IsPlainDirectory left
 
 Drops : (List ℕ → Bool) → (List ℕ → List ℕ) → (List ℕ → Bool) → List ℕ → Type 0
-Drops test left meets_none kept = (s rest : List ℕ) → has_slash s ≡ false → IsRooted rest → test s ≡ true → Dropped kept s rest (left kept) (meets_none kept)
+Drops test left meets_none kept = (s rest : List ℕ) → has_slash s ≡ false → IsRooted rest → test s
+    ≡ true → Dropped kept s rest (left kept) (meets_none kept)
 
 drops_single : (kept : List ℕ) → IsPlainDirectory kept
     → Drops is_single_dot (λ k. k) (λ k. false) kept
@@ -126,21 +142,25 @@ drops_single = by_directory (Drops is_single_dot (λ k. k) (λ k. false)) each
         let dot = ap (λ b. b || is_double_dot s) single in
         record {
           removed = removed_dot xs f e s free dot rest rooted
-              ∙ ap (λ o. remove_dot_segments (slashed (o ++ [] ∷ []) ++ drop 1 rest)) (same xs s single);
+              ∙ ap (λ o. remove_dot_segments (slashed (o ++ [] ∷ []) ++ drop 1 rest))
+              (same xs s single);
           underflow =
               underflows_dot xs f e s free dot rest rooted
-              ∙ ap (λ b. b || underflows (slashed (step_of xs s ++ [] ∷ []) ++ drop 1 rest)) (met xs s single)
+              ∙ ap (λ b. b || underflows (slashed (step_of xs s ++ [] ∷ []) ++ drop 1 rest))
+              (met xs s single)
               ∙ ap (λ o. underflows (slashed (o ++ [] ∷ []) ++ drop 1 rest)) (same xs s single);
           directory = directory_slashed xs e f;
         }
 
 -- a double dot leaves the directory that the kept one stands in, unless it is `/`
 double_only : (s : List ℕ) → is_double_dot s ≡ true → is_single_dot s ≡ false
-double_only s e = ⊎_elim (λ f. absurd (false≢true (sym (single_only s f) ∙ e))) (λ f. f) (cases_Bool (is_single_dot s))
+double_only s e = ⊎_elim (λ f. absurd (false≢true (sym (single_only s f) ∙ e))) (λ f. f)
+    (cases_Bool (is_single_dot s))
 
 before_closed : (xs : List (List ℕ)) → NoSlashes xs
     → before_last_slash (slashed (xs ++ [] ∷ [])) ≡ slashed xs
-before_closed xs e = before_slashed (xs ++ [] ∷ []) (closed_lacks xs e) ∙ ap slashed (pop_push xs [])
+before_closed xs e = before_slashed (xs ++ [] ∷ []) (closed_lacks xs e)
+    ∙ ap slashed (pop_push xs [])
 
 pub none_slashed : (xs : List (List ℕ)) → NoSlashes xs
     → is_empty (before_last_slash (slashed (xs ++ [] ∷ []))) ≡ is_none xs
@@ -150,12 +170,14 @@ pub parent_slashed : (xs : List (List ℕ)) → NoSlashes xs
     → slashed (pop xs ++ [] ∷ []) ≡ parent_directory (slashed (xs ++ [] ∷ []))
 parent_slashed xs e =
     slashed_push (pop xs) []
-    ∙ ap (λ t. t ++ codes "/") (sym (ap before_last_slash (before_closed xs e) ∙ before_slashed xs e))
+    ∙ ap (λ t. t ++ codes "/")
+    (sym (ap before_last_slash (before_closed xs e) ∙ before_slashed xs e))
 
 drops_double : (kept : List ℕ) → IsPlainDirectory kept
     → Drops is_double_dot parent_directory (λ k. is_empty (before_last_slash k)) kept
 unfolding Drops step_of turn sunk
-drops_double = by_directory (Drops is_double_dot parent_directory (λ k. is_empty (before_last_slash k))) each
+drops_double = by_directory
+    (Drops is_double_dot parent_directory (λ k. is_empty (before_last_slash k))) each
   where
     fewer : (xs : List (List ℕ)) (s : List ℕ) → is_double_dot s ≡ true → step_of xs s ≡ pop xs
     fewer xs s e = ap (λ b. turn b (is_double_dot s) xs s) (double_only s e)
@@ -167,7 +189,8 @@ drops_double = by_directory (Drops is_double_dot parent_directory (λ k. is_empt
         ∙ ap (λ b. sunk false b false xs) e
 
     each : (xs : List (List ℕ)) → NoSlashes xs → Passes is_plain xs
-        → Drops is_double_dot parent_directory (λ k. is_empty (before_last_slash k)) (slashed (xs ++ [] ∷ []))
+        → Drops is_double_dot parent_directory (λ k. is_empty (before_last_slash k))
+        (slashed (xs ++ [] ∷ []))
     each xs e f s rest free rooted double =
         let dot = or_right (is_single_dot s) _ double in
         let parent = ap (λ o. slashed (o ++ [] ∷ [])) (fewer xs s double) ∙ parent_slashed xs e in
@@ -176,9 +199,13 @@ drops_double = by_directory (Drops is_double_dot parent_directory (λ k. is_empt
               ∙ ap (λ t. remove_dot_segments (t ++ drop 1 rest)) parent;
           underflow =
               underflows_dot xs f e s free dot rest rooted
-              ∙ ap (λ b. b || underflows (slashed (step_of xs s ++ [] ∷ []) ++ drop 1 rest)) (met xs s double ∙ sym (none_slashed xs e))
-              ∙ ap (λ t. is_empty (before_last_slash (slashed (xs ++ [] ∷ []))) || underflows (t ++ drop 1 rest)) parent;
-          directory = subst IsPlainDirectory (parent_slashed xs e) (directory_slashed (pop xs) (pop_passes lacks_slash xs e) (pop_passes is_plain xs f));
+              ∙ ap (λ b. b || underflows (slashed (step_of xs s ++ [] ∷ []) ++ drop 1 rest))
+              (met xs s double ∙ sym (none_slashed xs e))
+              ∙ ap (λ t. is_empty (before_last_slash (slashed (xs ++ [] ∷ []))) || underflows
+              (t ++ drop 1 rest)) parent;
+          directory = subst IsPlainDirectory (parent_slashed xs e)
+              (directory_slashed (pop xs) (pop_passes lacks_slash xs e)
+              (pop_passes is_plain xs f));
         }
 
 -- one step further
@@ -202,16 +229,21 @@ module _ (path kept rest : List ℕ) (underflowed : Bool) (h : IsLeft path kept 
   pub left_single : has_slash (take n rest) ≡ false → IsRooted (drop n rest)
       → is_single_dot (take n rest) ≡ true → IsLeft path kept (drop 1 (drop n rest)) underflowed
   unfolding Drops
-  left_single free rooted single = subst (IsLeft path kept (drop 1 (drop n rest))) (or-false underflowed)
-      (left_dropped kept false (drops_single kept (directory_of_left path kept rest underflowed h some) (take n rest) (drop n rest) free rooted single))
+  left_single free rooted single = subst (IsLeft path kept (drop 1 (drop n rest)))
+      (or-false underflowed)
+      (left_dropped kept false
+      (drops_single kept (directory_of_left path kept rest underflowed h some) (take n rest)
+      (drop n rest) free rooted single))
 
   pub left_double : has_slash (take n rest) ≡ false → IsRooted (drop n rest)
       → is_double_dot (take n rest) ≡ true
-      → IsLeft path (parent_directory kept) (drop 1 (drop n rest)) (underflowed || is_empty (before_last_slash kept))
+      → IsLeft path (parent_directory kept) (drop 1 (drop n rest))
+      (underflowed || is_empty (before_last_slash kept))
   unfolding Drops
   left_double free rooted double =
       left_dropped (parent_directory kept) (is_empty (before_last_slash kept))
-      (drops_double kept (directory_of_left path kept rest underflowed h some) (take n rest) (drop n rest) free rooted double)
+      (drops_double kept (directory_of_left path kept rest underflowed h some) (take n rest)
+      (drop n rest) free rooted double)
 
   pub left_kept : lacks_dot_segments (take n rest) ≡ true → IsClosed (take n rest) (drop n rest)
       → IsLeft path (kept ++ take n rest) (drop n rest) underflowed
@@ -221,8 +253,11 @@ module _ (path kept rest : List ℕ) (underflowed : Bool) (h : IsLeft path kept 
         removed = ap remove_dot_segments whole ∙ h.removed;
         underflow = ap (λ t. underflowed || underflows t) whole ∙ h.underflow;
         absolute = absolute_append kept (take n rest) h.absolute;
-        plain = plain_behind kept (take n rest) (directory_of_left path kept rest underflowed h some) plain;
-        closed = ⊎_elim inl (λ e. inr (kept ++ e.0, ap (λ t. kept ++ t) e.1 ∙ sym (append_assoc kept e.0 (codes "/")))) closed;
+        plain = plain_behind kept (take n rest)
+            (directory_of_left path kept rest underflowed h some) plain;
+        closed = ⊎_elim inl (λ e. inr
+            (kept ++ e.0, ap (λ t. kept ++ t) e.1 ∙ sym (append_assoc kept e.0 (codes "/"))))
+            closed;
       }
 
 -- what stands in a text from a place on
@@ -232,7 +267,8 @@ some_absolute (c ∷ path) h = omega arith
 
 module _ (text : List ℕ) (start : ℕ) (absolute : IsAbsolute (drop start text)) where
   starts_within : start ≤ length text
-  starts_within = let some = some_absolute (drop start text) absolute in omega (arith, some, length-drop start text)
+  starts_within = let some = some_absolute (drop start text) absolute in omega
+      (arith, some, length-drop start text)
 
   pub kept_more : (t new : List ℕ) → new ≡ text ++ t → drop start new ≡ drop start text ++ t
   kept_more t new e = ap (drop start) e ∙ drop-append-le start text t starts_within

@@ -34,7 +34,8 @@ pub authority_beside : (b r : Components) (scheme : List ℕ) (places : Option A
     → places ≡ (positions_of (joined b r)).authority
 authority_beside b r scheme places s a e h =
     h
-    ∙ ap (λ n. option_map (authority_at (n + 2)) r.authority) (ap length e ∙ length-behind b.scheme 58)
+    ∙ ap (λ n. option_map (authority_at (n + 2)) r.authority)
+    (ap length e ∙ length-behind b.scheme 58)
     ∙ sym (ap (λ (t : Components). (positions_of t).authority) (joined_beside b r s a))
 
 -- a reference's path behind the base's directory
@@ -43,38 +44,53 @@ module _ (b r : Components) (s : is_some r.scheme ≡ false) (a : is_some r.auth
   pub joined_behind : joined b r
       ≡ record b { path = merged b.path r.path; query = r.query; fragment = r.fragment }
   joined_behind =
-      cond-false (is_some r.scheme) r _ s ∙ cond-false (is_some r.authority) (record r { scheme = b.scheme }) _ a
+      cond-false (is_some r.scheme) r _ s
+      ∙ cond-false (is_some r.authority) (record r { scheme = b.scheme }) _ a
       ∙ cond-false (is_empty r.path) _ _ e ∙ cond-false (starts 47 r.path) _ _ n
 
   joined_merged : (joined b r).path ≡ merged b.path r.path
   joined_merged = ap (λ (t : Components). t.path) joined_behind
 
   merged_starts : IsRooted b.path → starts 47 (merged b.path r.path) ≡ true
-  merged_starts rooted = true_of _ (absolute_append (directory b.path) r.path (directory_absolute b.path rooted))
+  merged_starts rooted = true_of _
+      (absolute_append (directory b.path) r.path (directory_absolute b.path rooted))
 
   pub merged_cleaned : IsRooted b.path
       → remove_dot_segments (merged b.path r.path) ≡ cleaned_path (joined b r).path
-  merged_cleaned rooted = sym (ap cleaned_path joined_merged ∙ cond-true (starts 47 (merged b.path r.path)) _ _ (merged_starts rooted))
+  merged_cleaned rooted = sym
+      (ap cleaned_path joined_merged ∙ cond-true (starts 47 (merged b.path r.path)) _ _
+      (merged_starts rooted))
 
   pub merged_underflows : IsRooted b.path
       → underflows (merged b.path r.path) ≡ cleaning_underflows (joined b r).path
-  merged_underflows rooted = sym (ap cleaning_underflows joined_merged ∙ ap (λ x. x && underflows (merged b.path r.path)) (merged_starts rooted))
+  merged_underflows rooted = sym
+      (ap cleaning_underflows joined_merged
+      ∙ ap (λ x. x && underflows (merged b.path r.path)) (merged_starts rooted))
 
 pub rooted_where_merged : (base : List ℕ) (r : Components)
     → is_refused_as_opaque (components base) r ≡ false → is_some r.scheme ≡ false
     → is_empty r.path ≡ false → IsRooted (components base).path
 rooted_where_merged base r refused s e =
-    rooted_base (components base).authority (components base).path (not_opaque (components base) r refused (none_where r.scheme s) e) (IsSplitOf-components base).authority
+    rooted_base (components base).authority (components base).path
+    (not_opaque (components base) r refused (none_where r.scheme s) e)
+    (IsSplitOf-components base).authority
 
 -- the base's query is taken by a reference of a fragment alone
 query_by_parts : (b : Components) (scheme authority : Option (List ℕ)) (path : List ℕ)
     (query fragment : Option (List ℕ))
-    → (let r : Components = record { scheme = scheme; authority = authority; path = path; query = query; fragment = fragment } in (joined b r).query ≡ cond (is_fragment_only r) b.query query)
+    → (let r : Components = record {
+      scheme = scheme;
+      authority = authority;
+      path = path;
+      query = query;
+      fragment = fragment;
+    } in (joined b r).query ≡ cond (is_fragment_only r) b.query query)
 query_by_parts b (Some s) authority path query fragment = refl
 query_by_parts b None (Some a) path query fragment = refl
 query_by_parts b None None [] None fragment = refl
 query_by_parts b None None [] (Some q) fragment = refl
-query_by_parts b None None (c ∷ path) query fragment = cond_both (starts 47 (c ∷ path)) _ _ (λ (t : Components). t.query ≡ query) (λ _. refl) (λ _. refl)
+query_by_parts b None None (c ∷ path) query fragment = cond_both (starts 47 (c ∷ path)) _ _
+    (λ (t : Components). t.query ≡ query) (λ _. refl) (λ _. refl)
 
 pub joined_query : (b r : Components)
     → (joined b r).query ≡ cond (is_fragment_only r) b.query r.query
@@ -83,9 +99,11 @@ joined_query b r = query_by_parts b r.scheme r.authority r.path r.query r.fragme
 pub joined_fragment : (b r : Components) → (joined b r).fragment ≡ r.fragment
 joined_fragment b r =
     cond_both (is_some r.scheme) r _ (λ (t : Components). t.fragment ≡ r.fragment) (λ _. refl)
-    (λ _. cond_both (is_some r.authority) _ _ (λ (t : Components). t.fragment ≡ r.fragment) (λ _. refl)
+    (λ _. cond_both (is_some r.authority) _ _ (λ (t : Components). t.fragment ≡ r.fragment)
+    (λ _. refl)
     (λ _. cond_both (is_empty r.path) _ _ (λ (t : Components). t.fragment ≡ r.fragment) (λ _. refl)
-    (λ _. cond_both (starts 47 r.path) _ _ (λ (t : Components). t.fragment ≡ r.fragment) (λ _. refl) (λ _. refl))))
+    (λ _. cond_both (starts 47 r.path) _ _ (λ (t : Components). t.fragment ≡ r.fragment)
+    (λ _. refl) (λ _. refl))))
 
 -- pieces that are written one after the other
 pub written_pieces : (t : Components) (o0 o1 o2 : List ℕ) → o1 ≡ o0 ++ (before_path t ++ t.path)
@@ -96,7 +114,8 @@ written_pieces t o0 o1 o2 e1 e2 =
     let authority = marked (codes "//") t.authority [] in
     let behind = marked (codes "?") t.query [] ++ marked (codes "#") t.fragment [] in
     e2 ∙ ap (λ x. x ++ behind) e1 ∙ append_assoc o0 (before_path t ++ t.path) behind
-    ∙ ap (λ x. o0 ++ x) (append_assoc (before_path t) t.path behind ∙ append_assoc scheme authority (t.path ++ behind))
+    ∙ ap (λ x. o0 ++ x) (append_assoc (before_path t) t.path behind
+    ∙ append_assoc scheme authority (t.path ++ behind))
 
 -- a query that is written behind its mark ends the text
 pub query_ends : (query : Option (List ℕ)) (o3 o4 : List ℕ) (end : ℕ) → is_some query ≡ true
@@ -104,7 +123,15 @@ pub query_ends : (query : Option (List ℕ)) (o3 o4 : List ℕ) (end : ℕ) → 
     → Some end ≡ option_map (λ q. length o3 + 1 + length q) query
 query_ends None o3 o4 end some e n = absurd (false≢true some)
 query_ends (Some q) o3 o4 end some e n =
-    ap Some (omega (arith, n, ap length e, length-append o3 (codes "?" ++ q ++ []), length-append (codes "?" ++ q) [], length-append (codes "?") q))
+    ap Some (omega (
+      arith,
+      n,
+      ap length e,
+      length-append o3 (codes "?" ++ q ++ []),
+      length-append
+          (codes "?" ++ q) [],
+      length-append (codes "?") q,
+    ))
 
 -- and one that a fragment may follow
 pub query_ends_before : (query fragment : Option (List ℕ)) (o3 o4 behind last : List ℕ) (end : ℕ)
@@ -114,7 +141,18 @@ pub query_ends_before : (query fragment : Option (List ℕ)) (o3 o4 behind last 
     → Some (end - length last) ≡ option_map (λ q. length o3 + 1 + length q) query
 query_ends_before None fragment o3 o4 behind last end some b l e n = absurd (false≢true some)
 query_ends_before (Some q) fragment o3 o4 behind last end some b l e n =
-    ap Some (omega (arith, n, ap length e, length-append o3 behind, ap length b, length-append (marked (codes "?") (Some q) []) (marked (codes "#") fragment []), ap length l, length-append (codes "?" ++ q) [], length-append (codes "?") q))
+    ap Some (omega (
+      arith,
+      n,
+      ap length e,
+      length-append o3 behind,
+      ap length b,
+      length-append
+          (marked (codes "?") (Some q) []) (marked (codes "#") fragment []),
+      ap length l,
+      length-append (codes "?" ++ q) [],
+      length-append (codes "?") q,
+    ))
 
 pub empty_by_length : (text : List ℕ) → (length text == 0) ≡ is_empty text
 empty_by_length [] = refl

@@ -28,7 +28,8 @@ use Rattle.uri_ops.proofs.Paths.LastSlashes.{cut, length_before, taken_slash}
 pub host_within : (kind : Kind) (text : List ℕ) → IsTextOf kind text → (a : List ℕ)
     → (components text).authority ≡ Some a → host_end_of a ≤ length a
 host_within kind text w a e =
-    let h = subst (λ o. IfSome o (λ a. IsUtf8 a × (is_authority kind a ≡ true))) e (parts_of kind text w).authority in
+    let h = subst (λ o. IfSome o (λ a. IsUtf8 a × (is_authority kind a ≡ true))) e
+    (parts_of kind text w).authority in
     (host_place kind.userinfo kind.reg_name a h.1 h.0).ends.0
 
 -- and so do its places, in what stands before the path
@@ -46,14 +47,26 @@ within_at scheme None places host e = absurd (none-some places (sym e))
 within_at scheme (Some a) places host e =
     let h : host_end_of a ≤ length a = host a refl in
     let front = marked [] scheme (codes ":") ++ marked (codes "//") (Some a) [] in
-    let n : length front ≡ marked_length 1 scheme + marked_length 2 (Some a) = omega (arith, length-append (marked [] scheme (codes ":")) (marked (codes "//") (Some a) []), length-behind scheme 58, length-before (codes "//") (Some a)) in
-    subst (Within front) (sym (same_Some _ _ e)) (record { start = omega arith; host_start = omega (arith, h); host_end = omega (arith, h); end = omega (arith, n) })
+    let n : length front ≡ marked_length 1 scheme + marked_length 2 (Some a) = omega (
+      arith,
+      length-append (marked [] scheme (codes ":")) (marked (codes "//") (Some a) []),
+      length-behind scheme 58,
+      length-before (codes "//") (Some a),
+    ) in
+    subst (Within front) (sym (same_Some _ _ e))
+    (record {
+      start = omega arith;
+      host_start = omega (arith, h);
+      host_end = omega (arith, h);
+      end = omega (arith, n);
+    })
 
 pub within : (text : List ℕ) (p : Positions) (places : AuthorityPositions) → AreAt text p
     → ((a : List ℕ) → (components text).authority ≡ Some a → host_end_of a ≤ length a)
     → p.authority ≡ Some places → Within (before_path (components text)) places
 within text p places at host e =
-    within_at (components text).scheme (components text).authority places host (sym e ∙ ap (λ (q : Positions). q.authority) at)
+    within_at (components text).scheme (components text).authority places host
+    (sym e ∙ ap (λ (q : Positions). q.authority) at)
 
 -- the same places behind a scheme
 moved_at : (n : ℕ) (authority : Option (List ℕ)) (places moved : AuthorityPositions)
@@ -65,9 +78,12 @@ moved_at n None places moved e start host_start host_end end = absurd (none-some
 moved_at n (Some a) places moved e start host_start host_end end =
     let f = same_Some _ _ e in
     let a0 : moved.start ≡ n + 2 = start ∙ ap (λ (q : AuthorityPositions). n + q.start) f in
-    let a1 : moved.host_start ≡ n + 2 + host_start_of a = omega (arith, host_start, ap (λ (q : AuthorityPositions). q.host_start) f) in
-    let a2 : moved.host_end ≡ n + 2 + host_end_of a = omega (arith, host_end, ap (λ (q : AuthorityPositions). q.host_end) f) in
-    let a3 : moved.end ≡ n + 2 + length a = omega (arith, end, ap (λ (q : AuthorityPositions). q.end) f) in
+    let a1 : moved.host_start ≡ n + 2 + host_start_of a = omega
+    (arith, host_start, ap (λ (q : AuthorityPositions). q.host_start) f) in
+    let a2 : moved.host_end ≡ n + 2 + host_end_of a = omega
+    (arith, host_end, ap (λ (q : AuthorityPositions). q.host_end) f) in
+    let a3 : moved.end ≡ n + 2 + length a = omega
+    (arith, end, ap (λ (q : AuthorityPositions). q.end) f) in
     λ i. Some (record { start = a0 i; host_start = a1 i; host_end = a2 i; end = a3 i })
 
 pub moved_behind : (text : List ℕ) (p : Positions) (n : ℕ) (places moved : AuthorityPositions)
@@ -77,7 +93,9 @@ pub moved_behind : (text : List ℕ) (p : Positions) (n : ℕ) (places moved : A
     → Some moved ≡ option_map (authority_at (n + 2)) (components text).authority
 moved_behind text p n places moved at none e start host_start host_end end =
     moved_at n (components text).authority places moved
-    (sym e ∙ ap (λ (q : Positions). q.authority) at ∙ ap (λ s. option_map (authority_at (marked_length 1 s + 2)) (components text).authority) none) start host_start host_end end
+    (sym e ∙ ap (λ (q : Positions). q.authority) at
+    ∙ ap (λ s. option_map (authority_at (marked_length 1 s + 2)) (components text).authority)
+    none) start host_start host_end end
 
 -- a scheme and its mark, at the front of a text
 pub record HasScheme (text : List ℕ) (scheme : Option (List ℕ)) (end : ℕ) : Type 0 where
@@ -93,7 +111,9 @@ scheme_at text (Some s) rest whole utf8 end e =
     let m : end + 1 ≡ length (s ++ codes ":") = omega (arith, n, length-append s (codes ":")) in
     let joined : s ++ (58 ∷ rest) ≡ text = sym (append_assoc s (codes ":") rest) ∙ whole in
     record {
-      cut = subst (λ k. IsCharBoundary text (k + 1)) (sym n) (subst (λ t. IsCharBoundary t (length s + 1)) joined (after_mark s rest 58 (omega arith) (subst IsUtf8 (sym joined) utf8)));
+      cut = subst (λ k. IsCharBoundary text (k + 1)) (sym n)
+          (subst (λ t. IsCharBoundary t (length s + 1)) joined
+          (after_mark s rest 58 (omega arith) (subst IsUtf8 (sym joined) utf8)));
       holds = ap (λ k. take k text) m ∙ ap (take (length (s ++ codes ":"))) (sym whole)
           ∙ take-append_seam (s ++ codes ":") rest;
     }
@@ -105,12 +125,20 @@ slash_seam : (text front path behind left right : List ℕ) (start slash : ℕ)
     → IsCharBoundary text (start + slash + 1)
     × (take (start + slash + 1) text ≡ front ++ (left ++ codes "/"))
 slash_seam text front path behind left right start slash whole n e m utf8 =
-    let joined : text ≡ (front ++ left) ++ 47 ∷ (right ++ behind) = whole ∙ ap (λ t. front ++ (t ++ behind)) e
-    ∙ ap (λ t. front ++ t) (append_assoc left (47 ∷ right) behind) ∙ sym (append_assoc front left (47 ∷ (right ++ behind))) in
-    let k : start + slash + 1 ≡ length (front ++ left) + 1 = omega (arith, n, m, length-append front left) in
-    let l : start + slash + 1 ≡ length ((front ++ left) ++ codes "/") = omega (arith, k, length-append (front ++ left) (codes "/")) in (
-      subst (IsCharBoundary text) (sym k) (subst (λ t. IsCharBoundary t (length (front ++ left) + 1)) (sym joined) (after_mark (front ++ left) (right ++ behind) 47 (omega arith) (subst IsUtf8 joined utf8))),
-      ap (take (start + slash + 1)) (joined ∙ sym (append_assoc (front ++ left) (codes "/") (right ++ behind)))
+    let joined : text ≡ (front ++ left) ++ 47 ∷ (right ++ behind) = whole
+    ∙ ap (λ t. front ++ (t ++ behind)) e
+    ∙ ap (λ t. front ++ t) (append_assoc left (47 ∷ right) behind)
+    ∙ sym (append_assoc front left (47 ∷ (right ++ behind))) in
+    let k : start + slash + 1 ≡ length (front ++ left) + 1 = omega
+    (arith, n, m, length-append front left) in
+    let l : start + slash + 1 ≡ length ((front ++ left) ++ codes "/") = omega
+    (arith, k, length-append (front ++ left) (codes "/")) in (
+      subst (IsCharBoundary text) (sym k)
+          (subst (λ t. IsCharBoundary t (length (front ++ left) + 1)) (sym joined)
+          (after_mark (front ++ left) (right ++ behind) 47 (omega arith)
+          (subst IsUtf8 joined utf8))),
+      ap (take (start + slash + 1))
+          (joined ∙ sym (append_assoc (front ++ left) (codes "/") (right ++ behind)))
           ∙ ap (λ j. take j (((front ++ left) ++ codes "/") ++ (right ++ behind))) l
           ∙ take-append_seam ((front ++ left) ++ codes "/") (right ++ behind)
           ∙ append_assoc front left (codes "/"),
@@ -120,7 +148,8 @@ module _ (text : List ℕ) (p : Positions) (utf8 : IsUtf8 text) (at : AreAt text
   pub scheme_piece : (end : ℕ) → p.scheme_end ≡ Some end
       → HasScheme text (components text).scheme end
   scheme_piece end e =
-      scheme_at text (components text).scheme _ (recompose-components text) utf8 end (sym e ∙ ap (λ (q : Positions). q.scheme_end) at)
+      scheme_at text (components text).scheme _ (recompose-components text) utf8 end
+      (sym e ∙ ap (λ (q : Positions). q.scheme_end) at)
 
   pub front_cut : IsCharBoundary text p.path_start
   front_cut = (path_place text p utf8 at).starts
@@ -131,7 +160,9 @@ module _ (text : List ℕ) (p : Positions) (utf8 : IsUtf8 text) (at : AreAt text
       let behind = c.path ++ (marked (codes "?") c.query [] ++ marked (codes "#") c.fragment []) in
       from_start text p.path_start
       ∙ ap (λ k. take k text) (ap (λ (q : Positions). q.path_start) at ∙ sym (length-before_path c))
-      ∙ ap (take (length (before_path c))) (sym (append_assoc (marked [] c.scheme (codes ":")) (marked (codes "//") c.authority []) behind ∙ recompose-components text))
+      ∙ ap (take (length (before_path c)))
+      (sym (append_assoc (marked [] c.scheme (codes ":")) (marked (codes "//") c.authority [])
+      behind ∙ recompose-components text))
       ∙ take-append_seam (before_path c) behind
 
   length-query : before_fragment p
@@ -139,7 +170,14 @@ module _ (text : List ℕ) (p : Positions) (utf8 : IsUtf8 text) (at : AreAt text
   length-query =
       let c = components text in
       ap before_fragment at ∙ sym (length-before_hash c)
-      ∙ omega (arith, length-append (before_path c ++ c.path) (marked (codes "?") c.query []), length-append (before_path c) c.path, length-before_path c, ap (λ (q : Positions). q.path_end) at)
+      ∙ omega (
+        arith,
+        length-append (before_path c ++ c.path) (marked (codes "?") c.query []),
+        length-append (before_path c) c.path,
+        length-before_path c,
+        ap
+            (λ (q : Positions). q.path_end) at,
+      )
 
   pub query_starts : IsCharBoundary text p.path_end
   query_starts = (path_place text p utf8 at).ends
@@ -156,9 +194,16 @@ module _ (text : List ℕ) (p : Positions) (utf8 : IsUtf8 text) (at : AreAt text
       let c = components text in
       let front = before_path c ++ c.path in
       let query = marked (codes "?") c.query [] in
-      let n : p.path_end ≡ length front = omega (arith, length-append (before_path c) c.path, length-before_path c, ap (λ (q : Positions). q.path_end) at) in
+      let n : p.path_end ≡ length front = omega (
+        arith,
+        length-append (before_path c) c.path,
+        length-before_path c,
+        ap
+            (λ (q : Positions). q.path_end) at,
+      ) in
       let m : before_fragment p ≡ length front + length query = omega (arith, n, length-query) in
-      let whole : text ≡ front ++ (query ++ fragment_text c.fragment) = before_hash-append text c (IsSplitOf-components text)
+      let whole : text ≡ front ++ (query ++ fragment_text c.fragment) = before_hash-append text c
+      (IsSplitOf-components text)
       ∙ append_assoc front query (fragment_text c.fragment) in
       ap (λ k. slice_range text k (before_fragment p)) n ∙ ap (slice_range text (length front)) m
       ∙ ap (λ t. slice_range t (length front) (length front + length query)) whole
@@ -173,18 +218,30 @@ module _ (text : List ℕ) (p : Positions) (utf8 : IsUtf8 text) (at : AreAt text
       ∙ drop-append_seam (before_hash c) (fragment_text c.fragment)
 
   whole_text : text
-      ≡ before_path (components text) ++ ((components text).path ++ (marked (codes "?") (components text).query [] ++ marked (codes "#") (components text).fragment []))
+      ≡ before_path (components text) ++
+      ((components text).path ++
+      (marked (codes "?") (components text).query [] ++ marked (codes "#")
+      (components text).fragment []))
   whole_text =
       let c = components text in
-      sym (append_assoc (marked [] c.scheme (codes ":")) (marked (codes "//") c.authority []) (c.path ++ (marked (codes "?") c.query [] ++ marked (codes "#") c.fragment [])) ∙ recompose-components text)
+      sym (append_assoc (marked [] c.scheme (codes ":")) (marked (codes "//") c.authority [])
+      (c.path ++ (marked (codes "?") c.query [] ++ marked (codes "#") c.fragment []))
+      ∙ recompose-components text)
 
   pub behind_piece : drop p.path_end text
-      ≡ marked (codes "?") (components text).query [] ++ marked (codes "#") (components text).fragment []
+      ≡ marked (codes "?") (components text).query [] ++ marked (codes "#")
+      (components text).fragment []
   behind_piece =
       let c = components text in
       let front = before_path c ++ c.path in
       let behind = marked (codes "?") c.query [] ++ marked (codes "#") c.fragment [] in
-      let n : p.path_end ≡ length front = omega (arith, length-append (before_path c) c.path, length-before_path c, ap (λ (q : Positions). q.path_end) at) in
+      let n : p.path_end ≡ length front = omega (
+        arith,
+        length-append (before_path c) c.path,
+        length-before_path c,
+        ap
+            (λ (q : Positions). q.path_end) at,
+      ) in
       ap (λ k. drop k text) n
       ∙ ap (drop (length front)) (whole_text ∙ sym (append_assoc (before_path c) c.path behind))
       ∙ drop-append_seam front behind
@@ -195,18 +252,32 @@ module _ (text : List ℕ) (p : Positions) (utf8 : IsUtf8 text) (at : AreAt text
       let c = components text in
       let front = before_path c ++ c.path in
       let behind = marked (codes "?") c.query [] ++ marked (codes "#") c.fragment [] in
-      let n : p.path_end ≡ length front = omega (arith, length-append (before_path c) c.path, length-before_path c, ap (λ (q : Positions). q.path_end) at) in
+      let n : p.path_end ≡ length front = omega (
+        arith,
+        length-append (before_path c) c.path,
+        length-before_path c,
+        ap
+            (λ (q : Positions). q.path_end) at,
+      ) in
       from_start text p.path_end ∙ ap (λ k. take k text) n
       ∙ ap (take (length front)) (whole_text ∙ sym (append_assoc (before_path c) c.path behind))
       ∙ take-append_seam front behind
 
   pub unfragmented_piece : slice_range text 0 (before_fragment p)
-      ≡ (before_path (components text) ++ (components text).path) ++ marked (codes "?") (components text).query []
+      ≡ (before_path (components text) ++ (components text).path) ++ marked (codes "?")
+      (components text).query []
   unfragmented_piece =
       let c = components text in
       let front = before_path c ++ c.path in
       let query = marked (codes "?") c.query [] in
-      let n : before_fragment p ≡ length (front ++ query) = omega (arith, length-append front query, length-append (before_path c) c.path, length-before_path c, ap (λ (q : Positions). q.path_end) at, length-query) in
+      let n : before_fragment p ≡ length (front ++ query) = omega (
+        arith,
+        length-append front query,
+        length-append (before_path c) c.path,
+        length-before_path c,
+        ap (λ (q : Positions). q.path_end) at,
+        length-query,
+      ) in
       from_start text (before_fragment p) ∙ ap (λ k. take k text) n
       ∙ ap (take (length (front ++ query))) (before_hash-append text c (IsSplitOf-components text))
       ∙ take-append_seam (front ++ query) (fragment_text c.fragment)
@@ -214,9 +285,15 @@ module _ (text : List ℕ) (p : Positions) (utf8 : IsUtf8 text) (at : AreAt text
   pub through_slash : (slash : ℕ) → IsAbsolute (components text).path
       → IsSlashOrAt (components text).path 0 slash
       → IsCharBoundary text (p.path_start + slash + 1)
-      × (take (p.path_start + slash + 1) text ≡ before_path (components text) ++ take (slash + 1) (components text).path)
+      × (take (p.path_start + slash + 1) text ≡ before_path (components text) ++ take (slash + 1)
+      (components text).path)
   through_slash slash absolute place =
       let c = components text in
-      let seam = slash_seam text (before_path c) c.path _ (take slash c.path) (drop (slash + 1) c.path) p.path_start slash whole_text
-      (ap (λ (q : Positions). q.path_start) at ∙ sym (length-before_path c)) (cut c.path slash absolute place) (length_before c.path slash absolute place) utf8 in
-      (seam.0, seam.1 ∙ ap (λ t. before_path c ++ t) (sym (taken_slash c.path slash absolute place)))
+      let seam = slash_seam text (before_path c) c.path _ (take slash c.path)
+      (drop (slash + 1) c.path) p.path_start slash whole_text
+      (ap (λ (q : Positions). q.path_start) at ∙ sym (length-before_path c))
+      (cut c.path slash absolute place) (length_before c.path slash absolute place) utf8 in (
+        seam.0,
+        seam.1 ∙ ap (λ t. before_path c ++ t)
+            (sym (taken_slash c.path slash absolute place)),
+      )

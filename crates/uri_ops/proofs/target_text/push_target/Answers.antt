@@ -19,7 +19,8 @@ push_to_path_end-requires-clause-authority c =
 pub returns-clause-text : goal.returns-clause-text
 returns-clause-text c =
     let t = joined (components_of c.args.base.now) (components_of c.args.reference.now) in
-    written_pieces (finished t) (string_bytes c.args.out.now) (string_bytes c.push_to_path_end.new.out) (string_bytes c.push_end.new.out)
+    written_pieces (finished t) (string_bytes c.args.out.now)
+    (string_bytes c.push_to_path_end.new.out) (string_bytes c.push_end.new.out)
     c.in_ok-path_start.ensures.text c.in_ok-query_end.ensures.text
 
 pub returns-clause-places : goal.returns-clause-places
@@ -27,7 +28,10 @@ returns-clause-places c = λ empty.
     let t = joined (components_of c.args.base.now) (components_of c.args.reference.now) in
     let old = string_bytes c.args.out.now in
     pieces_placed (finished t) old (old ++ before_path t) (string_bytes c.push_to_path_end.new.out)
-    _ c.len-path_end.result c.scheme_end.result c.in_ok-query_end.query_end c.authority-authority.result empty
-    refl (c.in_ok-path_start.ensures.text ∙ sym (append_assoc old (before_path t) (finished t).path))
-    (c.in_ok-path_start.ensures.start empty ∙ sym (ap (λ o. length (o ++ before_path t)) empty)) (c.len-path_end.ensures ∙ string_length c.push_to_path_end.new.out)
+    _ c.len-path_end.result c.scheme_end.result c.in_ok-query_end.query_end
+    c.authority-authority.result empty
+    refl (c.in_ok-path_start.ensures.text
+    ∙ sym (append_assoc old (before_path t) (finished t).path))
+    (c.in_ok-path_start.ensures.start empty ∙ sym (ap (λ o. length (o ++ before_path t)) empty))
+    (c.len-path_end.ensures ∙ string_length c.push_to_path_end.new.out)
     c.scheme_end.ensures c.authority-authority.ensures c.in_ok-query_end.ensures.end
