@@ -16,7 +16,8 @@ pub mod DotBytes
 pub mod SegmentMaps
 pub mod ReadPaths
 pub mod ReadStarts
-pub mod ReadDirectories
+pub mod Piecewise
+pub mod WrittenPieces
 pub mod PathMeanings
 pub mod MergedPaths
 pub mod GuardedPaths

@@ -6,6 +6,7 @@ ghost use Rattle.uri_parts.specs.Appending.{Pushes};
 ghost use Rattle.uri_parts.specs.Components.{IsRooted};
 ghost use Rattle.uri_ops.specs.Models.Directories.{IsLeft, IsPlainDirectory, parent_directory};
 ghost use Rattle.uri_ops.specs.Models.LeadingSegments.{IsNoDots};
+ghost use Rattle.uri_ops.specs.Models.Pieces.{IsInPieces, in_pieces};
 ghost use Rattle.uri_ops.specs.Models.Places.{IsSlashOrAt};
 ghost use Rattle.uri_ops.specs.Dots.{EndsInSlash, IsAbsolute, before_last_slash, directory};
 ghost use Rattle.uri_ops.specs.Dots.{has_slash, is_double_dot, is_empty, lacks_dot_segments};
@@ -13,6 +14,7 @@ ghost use Rattle.uri_ops.specs.Dots.{remove_dot_segments, underflows};
 ghost use Rattle.uri_ops.specs.Target.{merged};
 
 use crate::dots::{Leading, begins_with_dot, is_double_dot, leading_dots, plain_len};
+use crate::pieces::Pieces;
 use std::alloc::AllocError;
 use uri_pct::lanes::LANES;
 use uri_pct::search::places_of;
@@ -81,7 +83,7 @@ fn near_slash(bytes: &[u8], start: usize) -> usize
 
 /// Cuts off the last segment of the directory that stands in `out` from `start` on, with the `/`
 /// behind it, and answers whether there is none.
-pub(crate) fn pop_segment(start: usize, out: &mut String) -> bool
+fn pop_segment(start: usize, out: &mut String) -> bool
     requires { IsPlainDirectory (drop start (string_bytes out.old)) }
     ensures bytes { string_bytes out.new
         ≡ take start (string_bytes out.old)
@@ -111,18 +113,25 @@ pub(crate) fn has_dot_segments(path: &str) -> bool
     false
 }
 
-/// Appends the segments of a path to the directory that stands in `out` from `start` on, without
-/// dot segments, and answers whether a double dot had nothing left to remove.
+/// Appends what the pieces make of the segments of a path, without dot segments, to the directory
+/// that stands in `out` from `start` on, and answers whether a double dot had nothing left to remove.
 ///
-/// Segments that can't be dot segments are copied as they stand, with the `/` between them.
-fn push_segments(path: &str, start: usize, out: &mut String) -> Result<bool, AllocError>
-    requires { IsPlainDirectory (drop start (string_bytes out.old)) }
+/// Segments that can't be dot segments are one piece, with the `/` between them.
+pub(crate) fn push_segments(
+    pieces: Pieces<'_>,
+    path: &str,
+    start: usize,
+    out: &mut String,
+) -> Result<bool, AllocError>
+    requires directory { IsPlainDirectory (drop start (string_bytes out.old)) }
+    requires pieces { IsInPieces pieces path.now }
     ensures before { IfOk result (λ _.
         take start (string_bytes out.new) ≡ take start (string_bytes out.old)) }
     ensures text { IfOk result (λ _. drop start (string_bytes out.new)
-        ≡ remove_dot_segments (drop start (string_bytes out.old) ++ path.now)) }
+        ≡ remove_dot_segments
+        (drop start (string_bytes out.old) ++ in_pieces pieces.entry path.now)) }
     ensures underflow { IfOk result (λ underflowed. underflowed
-        ≡ underflows (drop start (string_bytes out.old) ++ path.now)) }
+        ≡ underflows (drop start (string_bytes out.old) ++ in_pieces pieces.entry path.now)) }
 {
     let mut underflowed = false;
     let mut rest = path;
@@ -135,7 +144,7 @@ fn push_segments(path: &str, start: usize, out: &mut String) -> Result<bool, All
             }
             Leading::NoDots => {
                 let next = plain_len(rest);
-                out.push_str(&rest[..next])?;
+                pieces.push(&rest[..next], out)?;
                 rest = &rest[next..];
             }
         }
@@ -161,7 +170,7 @@ pub fn push_without_dot_segments(path: &str, out: &mut String) -> Result<bool, A
     if plain == path.len() {
         return Ok(false);
     }
-    let underflowed = push_segments(&path[plain..], start, out)?;
+    let underflowed = push_segments(Pieces::Copied, &path[plain..], start, out)?;
     Ok(underflowed)
 }
 
@@ -257,7 +266,7 @@ fn push_from_plain(path: &str, start: usize, out: &mut String) -> Result<bool, A
     if front == path.len() {
         return Ok(false);
     }
-    let underflowed = push_segments(&path[front..], start, out)?;
+    let underflowed = push_segments(Pieces::Copied, &path[front..], start, out)?;
     Ok(underflowed)
 }
 
@@ -294,6 +303,6 @@ pub(crate) fn push_merged(base: &str, reference: &str, out: &mut String) -> Resu
     }
     let start = out.len();
     let of_base = push_without_dot_segments(directory, out)?;
-    let of_reference = push_segments(reference, start, out)?;
+    let of_reference = push_segments(Pieces::Copied, reference, start, out)?;
     Ok(of_base | of_reference)
 }

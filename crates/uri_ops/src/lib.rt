@@ -23,6 +23,7 @@ pub mod normal_authority;
 #[doc(hidden)]
 pub mod normal_text;
 pub mod normalize;
+mod pieces;
 #[doc(hidden)]
 pub mod placed;
 mod plain_front;

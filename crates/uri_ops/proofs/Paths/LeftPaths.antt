@@ -62,12 +62,6 @@ directory_of_left path kept rest underflowed h some = record {
   plain = h.plain;
 }
 
-pub left_done : (path kept rest : List ℕ) (underflowed : Bool) → IsLeft path kept rest underflowed
-    → (length rest == 0) ≡ true
-    → (kept ≡ remove_dot_segments path) × (underflowed ≡ underflows path)
-left_done path kept [] underflowed h e = left_last path kept underflowed h
-left_done path kept (c ∷ rest) underflowed h e = absurd (false≢true (search (rules, tests)))
-
 pub some_left : (rest : List ℕ) → (length rest == 0) ≡ false → 0 < length rest
 some_left [] e = absurd (false≢true (sym e))
 some_left (c ∷ rest) e = omega arith
@@ -105,7 +99,7 @@ plain_behind kept path d plain =
     (append_passes is_plain xs (segments path) f plain))
     kept d
 
-directory_slashed : (xs : List (List ℕ)) → NoSlashes xs → Passes is_plain xs
+pub directory_slashed : (xs : List (List ℕ)) → NoSlashes xs → Passes is_plain xs
     → IsPlainDirectory (slashed (xs ++ [] ∷ []))
 directory_slashed xs e f = record {
   absolute = absolute_slashed (xs ++ [] ∷ []) (none_push xs []);

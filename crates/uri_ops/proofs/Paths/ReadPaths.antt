@@ -95,13 +95,13 @@ reprinted_slashed set (s ∷ rest) e = reprinted_first set (s ++ slashed rest)
     ∙ ap (λ x. 47 ∷ x) (reprinted_behind set s rest e)
 
 module _ (set : TableSet) (lacks : LacksPercent set) (wide : IsSubset unreserved_set set) where
-  keeps : (s : List ℕ) → is_part set s ≡ true → KeepsDots (reprinted set) s
+  pub keeps : (s : List ℕ) → is_part set s ≡ true → KeepsDots (reprinted set) s
   keeps s e =
       let u = IsUtf8-reprinted set lacks s e in
       let same = token_bytes-reprinted set lacks s e in
       record { single = same_single_dot (reprinted set s) s u (part_utf8 set s e) same; double = same_double_dot (reprinted set s) s u (part_utf8 set s e) same }
 
-  no_slash : (s : List ℕ) → is_part set s ≡ true → has_slash s ≡ false
+  pub no_slash : (s : List ℕ) → is_part set s ≡ true → has_slash s ≡ false
       → has_slash (reprinted set s) ≡ false
   no_slash s e f = reprinted_lacks 47 set lacks wide refl refl s e f
 

@@ -17,7 +17,7 @@ use Rattle.uri_ops.proofs.Meanings.AllowedParts.{is_part, part_utf8, reprinted, 
 use Rattle.uri_ops.proofs.Meanings.AllowedParts.{token_bytes-reprinted, reprinted-cut}
 use Rattle.uri_ops.proofs.Paths.DotBytes.{empty_from_bytes}
 use Rattle.uri_ops.proofs.Meanings.Lacking.{lacks_has, reprinted_lacks}
-use Rattle.uri_ops.proofs.Paths.ReadPaths.{part_cut, reprinted_first}
+use Rattle.uri_ops.proofs.Paths.ReadPaths.{no_slash, part_cut, reprinted_first}
 use Rattle.uri_parts.proofs.Splitting.Marks.{nil_cons}
 
 -- a text without `/`, or its first segment with what follows
@@ -83,10 +83,6 @@ module _ (set : TableSet) (lacks : LacksPercent set) (wide : IsSubset unreserved
       some [] f = absurd (nil_cons c s (empty_from_bytes (c ∷ s) (part_utf8 set (c ∷ s) e) (sym (token_bytes-reprinted set lacks (c ∷ s) e) ∙ ap (λ t. token_bytes (tokens t)) (sym f) ∙ no_bytes)))
       some (d ∷ t) f = refl
 
-  no_slash : (s : List ℕ) → is_part set s ≡ true → has_slash s ≡ false
-      → has_slash (reprinted set s) ≡ false
-  no_slash s e f = reprinted_lacks 47 set lacks wide refl refl s e f
-
   no_colon : (s : List ℕ) → is_part set s ≡ true → list_any (λ c. eqb c 58) s ≡ false
       → list_any (λ c. eqb c 58) (reprinted set s) ≡ false
   no_colon s e f = reprinted_lacks 58 set lacks wide refl refl s e f
@@ -94,12 +90,12 @@ module _ (set : TableSet) (lacks : LacksPercent set) (wide : IsSubset unreserved
   pub starts_reprinted : (x : List ℕ) → is_part set x ≡ true
       → starts 47 (reprinted set x) ≡ starts 47 x
   starts_reprinted x e = ⊎_elim
-      (λ h. starts_lacks (reprinted set x) (no_slash x e h) ∙ sym (starts_lacks x h))
+      (λ h. starts_lacks (reprinted set x) (no_slash set lacks wide x e h) ∙ sym (starts_lacks x h))
       (λ (w : FirstSegment x).
       let p = part_cut set w.segment w.rest (ap (is_part set) (sym w.whole) ∙ e) in
       ap (λ t. starts 47 (reprinted set t)) w.whole
       ∙ ap (starts 47) (reprinted-cut set w.segment w.rest (part_utf8 set w.segment p.0))
-      ∙ starts_behind (reprinted set w.segment) (reprinted set w.rest) (no_slash w.segment p.0 w.lacks)
+      ∙ starts_behind (reprinted set w.segment) (reprinted set w.rest) (no_slash set lacks wide w.segment p.0 w.lacks)
       ∙ empty_reprinted w.segment p.0
       ∙ sym (ap (starts 47) w.whole ∙ starts_behind w.segment w.rest w.lacks))
       (first_segment x)
@@ -121,12 +117,12 @@ module _ (set : TableSet) (lacks : LacksPercent set) (wide : IsSubset unreserved
       → has_colon_first (reprinted set x) ≡ false
   colon_reprinted x e c = ⊎_elim
       (λ h.
-      ap (list_any (λ c. eqb c 58)) (before_none (reprinted set x) (no_slash x e h))
+      ap (list_any (λ c. eqb c 58)) (before_none (reprinted set x) (no_slash set lacks wide x e h))
       ∙ no_colon x e (sym (ap (list_any (λ c. eqb c 58)) (before_none x h)) ∙ c))
       (λ (w : FirstSegment x).
       let p = part_cut set w.segment w.rest (ap (is_part set) (sym w.whole) ∙ e) in
       ap (λ t. has_colon_first (reprinted set t)) w.whole
       ∙ ap has_colon_first (reprinted-cut set w.segment w.rest (part_utf8 set w.segment p.0))
-      ∙ ap (list_any (λ c. eqb c 58)) (before_slash (reprinted set w.segment) (reprinted set w.rest) (no_slash w.segment p.0 w.lacks))
+      ∙ ap (list_any (λ c. eqb c 58)) (before_slash (reprinted set w.segment) (reprinted set w.rest) (no_slash set lacks wide w.segment p.0 w.lacks))
       ∙ no_colon w.segment p.0 (sym (ap has_colon_first w.whole ∙ ap (list_any (λ c. eqb c 58)) (before_slash w.segment w.rest w.lacks)) ∙ c))
       (first_segment x)

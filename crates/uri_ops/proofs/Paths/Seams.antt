@@ -8,7 +8,8 @@ use Rattle.uri_ops.specs.Dots.{IsAbsolute, lacks_dot_segments, underflows}
 use Rattle.uri_ops.specs.Models.Directories.{IsLeft, IsPlainDirectory, parent_directory}
 use Rattle.uri_ops.specs.Models.LeadingSegments.{IsPlainFront, begins_with_dot}
 use Rattle.uri_ops.proofs.Paths.LeftPaths.{before_more, directory_of_left, kept_more, left_as}
-use Rattle.uri_ops.proofs.Paths.LeftPaths.{left_done, left_first, left_kept, left_last}
+use Rattle.uri_ops.proofs.Paths.LeftPaths.{left_first, left_kept, left_last}
+use Rattle.uri_ops.proofs.Paths.Piecewise.{left_none, unchanged}
 use Rattle.std.proofs.lemmas.List.{drop_all, length-drop}
 use Rattle.std.specs.Prelude.{◌==◌}
 use Rattle.std.proofs.lemmas.Bool.{false≢true}
@@ -84,7 +85,8 @@ module _ (text : List ℕ) (start : ℕ) (d : IsPlainDirectory (drop start text)
   pub none_appended : (length path == 0) ≡ true
       → (drop start text ≡ remove_dot_segments (drop start text ++ path))
       × (false ≡ underflows (drop start text ++ path))
-  none_appended e = left_done (drop start text ++ path) (drop start text) path false before_path e
+  none_appended e = left_none (λ t. t) (λ t. true) unchanged (drop start text ++ path)
+      (drop start text) path false before_path e
 
   module _ (n : ℕ) (front : IsPlainFront path n) (some : 0 < length path) (taken new : List ℕ) (is : taken ≡ take n path) (grown : new ≡ text ++ taken) where
     pub text_before : take start new ≡ take start text

@@ -36,8 +36,8 @@ returns-then-front-path-clause-underflow c =
     (some_left path (sym c.is_empty.ensures ∙ c.if-is_empty.false)) c.range.result.now (string_bytes c.push_str.new.self)
     (front_of path c.range.result.now n c.range.ensures.value) c.in_ok-push_str.ensures.bytes c.if-front-path.true).1
 
-pub push_segments-requires : goal.push_segments-requires
-push_segments-requires c =
+pub push_segments-requires-clause-directory : goal.push_segments-requires-clause-directory
+push_segments-requires-clause-directory c =
     let path = c.args.path.now in
     let n = c.plain_len-front.result in
     let more : n < length path = omega (arith, c.plain_len-front.ensures.place.0, c.if-front-path.false) in

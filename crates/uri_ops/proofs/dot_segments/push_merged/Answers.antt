@@ -4,8 +4,8 @@ use Rattle.uri_ops.proofs.Paths.PushedPaths.{directory_pushed, directory_removed
 use Rattle.uri_ops.proofs.Paths.PushedPaths.{directory_underflows, merged_pushed, merged_underflows}
 use Rattle.uri_ops.proofs.dot_segments.push_merged.Goals as goal
 
-pub push_segments-requires : goal.push_segments-requires
-push_segments-requires c =
+pub push_segments-requires-clause-directory : goal.push_segments-requires-clause-directory
+push_segments-requires-clause-directory c =
     let at : c.len-start.result ≡ length (string_bytes c.args.out.now) = search rules in
     directory_pushed (string_bytes c.args.out.now) c.len-start.result at (string_bytes c.push_without_dot_segments.new.out)
     c.args.base.now c.root_or-base.result.now c.root_or-base.ensures.absolute c.root_or-base.ensures.directory c.range-directory.result.now

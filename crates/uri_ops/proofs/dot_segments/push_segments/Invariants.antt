@@ -1,5 +1,7 @@
-use Rattle.std.proofs.Common.{◌≡◌, ◌++◌, length, take, drop, string_bytes}
+use Rattle.std.proofs.Common.{◌≡◌, ◌++◌, length, take, drop, string_bytes, true}
 use Rattle.uri_ops.specs.Models.Directories.{IsLeft}
+use Rattle.uri_ops.specs.Models.Pieces.{in_pieces}
+use Rattle.uri_ops.proofs.Paths.WrittenPieces.{is_piece}
 use Rattle.uri_ops.proofs.dot_segments.push_segments.Given as goal
 use denote.Shadow.{shadow}
 use denote.Text.{Utf8}
@@ -7,7 +9,9 @@ use denote.Text.{Utf8}
 abbrev pub invariant-loop-rest : goal.invariant-loop-rest
 invariant-loop-rest l = record {
   before : take l.start (string_bytes l.out) ≡ take l.start (string_bytes l.initial.out);
-  left : IsLeft (drop l.start (string_bytes l.initial.out) ++ l.path) (drop l.start (string_bytes l.out)) l.rest l.underflowed;
+  left : IsLeft (drop l.start (string_bytes l.initial.out) ++ in_pieces l.pieces l.path)
+      (drop l.start (string_bytes l.out)) (in_pieces l.pieces l.rest) l.underflowed;
+  piece : is_piece l.pieces l.rest ≡ true;
   utf8 : shadow (Utf8 l.rest);
 }
 

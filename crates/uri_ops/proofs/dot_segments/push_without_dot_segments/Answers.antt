@@ -25,8 +25,8 @@ returns-then-plain-path-clause-underflow c =
     let n = c.plain_len-plain.result in
     (whole_plain path c.range.result.now n c.requires c.if-plain-path.true c.plain_len-plain.ensures.plain.plain (front_of path c.range.result.now n c.range.ensures.value)).1
 
-pub push_segments-requires : goal.push_segments-requires
-push_segments-requires c =
+pub push_segments-requires-clause-directory : goal.push_segments-requires-clause-directory
+push_segments-requires-clause-directory c =
     let at : c.len-start.result ≡ length (string_bytes c.args.out.now) = search rules in
     let path = c.args.path.now in
     let n = c.plain_len-plain.result in

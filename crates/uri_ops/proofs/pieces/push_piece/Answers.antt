@@ -4,8 +4,8 @@ use Rattle.std.proofs.lemmas.Str.{encode_ascii}
 use Rattle.uri_pct.specs.Reading.{read}
 use Rattle.uri_pct.specs.Tables.{set_of}
 use Rattle.uri_pct.specs.Tokens.{print}
-use Rattle.uri_ops.proofs.Paths.ReadDirectories.{slash_alone, slash_read}
-use Rattle.uri_ops.proofs.read_paths.push_piece.Goals as goal
+use Rattle.uri_ops.proofs.Paths.WrittenPieces.{slash_alone, slash_read}
+use Rattle.uri_ops.proofs.pieces.push_piece.Goals as goal
 
 pub returns-then-is_slash : goal.returns-then-is_slash
 returns-then-is_slash c =

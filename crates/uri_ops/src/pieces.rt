@@ -1,0 +1,57 @@
+//! The pieces of a path that are appended while its dot segments are removed.
+ghost use Rattle.std.specs.Prelude.{◌≡◌, ◌==◌, ◌&&◌, OnOk, length, slice_index};
+ghost use Rattle.uri_pct.specs.Chunks.{widest_set};
+ghost use Rattle.uri_pct.specs.Delimiters.{slash};
+ghost use Rattle.uri_pct.specs.Reading.{read};
+ghost use Rattle.uri_pct.specs.Tables.{set_of};
+ghost use Rattle.uri_pct.specs.Tokens.{IsValidFor, print};
+ghost use Rattle.uri_parts.specs.Appending.{Pushes};
+ghost use Rattle.uri_ops.specs.Models.Pieces.{IsInPieces, in_pieces};
+
+use crate::reading::push_read;
+use std::alloc::{AllocError, Global};
+use uri_pct::table::Table;
+
+/// Whether a text is `/` alone.
+fn is_slash(text: &[u8]) -> bool
+    ensures { result ≡ (length text.now == 1 && slice_index text.now 0 == slash) }
+{
+    matches!(text, [b'/'])
+}
+
+/// Appends what is read of a piece of a path. A `/` by itself, as behind an empty segment, is read as
+/// it stands.
+#[inline(always)]
+fn push_piece(alloc: Global, table: &Table, piece: &str, out: &mut String) -> Result<(), AllocError>
+    requires { IsValidFor widest_set piece.now }
+    ensures { OnOk result (Pushes out.old out.new (print (read (set_of table.now) piece.now))) }
+{
+    if is_slash(piece.as_bytes()) {
+        out.push('/')?;
+        return Ok(());
+    }
+    push_read(alloc, table, piece, out)
+}
+
+/// How the pieces of a path are appended.
+#[derive(Clone, Copy)]
+pub(crate) enum Pieces<'t> {
+    /// As they stand.
+    Copied,
+    /// As what is read of them, where the table tells what a path allows.
+    Read(Global, &'t Table),
+}
+
+impl Pieces<'_> {
+    /// Appends a piece.
+    #[inline(always)]
+    pub(crate) fn push(self, piece: &str, out: &mut String) -> Result<(), AllocError>
+        requires { IsInPieces self piece.now }
+        ensures { OnOk result (Pushes out.old out.new (in_pieces self.entry piece.now)) }
+    {
+        match self {
+            Pieces::Copied => out.push_str(piece),
+            Pieces::Read(alloc, table) => push_piece(alloc, table, piece, out),
+        }
+    }
+}
