@@ -117,6 +117,7 @@ pub(crate) fn has_dot_segments(path: &str) -> bool
 /// that stands in `out` from `start` on, and answers whether a double dot had nothing left to remove.
 ///
 /// Segments that can't be dot segments are one piece, with the `/` between them.
+#[inline(always)]
 pub(crate) fn push_segments(
     pieces: Pieces<'_>,
     path: &str,
