@@ -2,7 +2,7 @@
 -- directory without dot segments, which is all that was kept so far.
 use Rattle.std.proofs.Common.{◌≡◌, ℕ, ◌-◌, ◌<◌, ◌≤◌, Bool, true, false, List, [], ◌∷◌, ◌++◌, length}
 use Rattle.std.proofs.Common.{take, drop, refl, sym, ap, subst, ◌∙◌, ◌||◌, append_assoc, arith, inl}
-use Rattle.std.proofs.Common.{inr, ⊎_elim, rules, tests}
+use Rattle.std.proofs.Common.{inr, ⊎_elim}
 use Rattle.std.specs.Prelude.{codes, ◌==◌}
 use Rattle.std.specs.List.{list_all, slice_range}
 use Rattle.std.proofs.Math.Bool.{or-false, or_assoc}

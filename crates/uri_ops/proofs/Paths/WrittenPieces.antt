@@ -7,7 +7,7 @@ use Rattle.std.proofs.lemmas.Bool.{and_parts, eqb-true, false≢true, ne_eqb}
 use Rattle.uri_pct.specs.Reading.{read}
 use Rattle.uri_pct.specs.Sets.{TableSet}
 use Rattle.uri_pct.specs.Tables.{set_of}
-use Rattle.uri_pct.specs.Tokens.{IsValidFor, print}
+use Rattle.uri_pct.specs.Tokens.{print}
 use Rattle.uri_pct.proofs.Tests.{true_of}
 use Rattle.uri_ops.specs.ComponentSets.{IsComponentSet}
 use Rattle.uri_ops.specs.Dots.{IsAbsolute, remove_dot_segments, underflows}
