@@ -1,4 +1,5 @@
-use Rattle.std.proofs.Common.{rules, ◌≡◌, ◌∷◌, ◌++◌, [], false, sym, subst}
+use Rattle.std.proofs.Common.{rules, arith, ◌≡◌, ◌∷◌, ◌++◌, [], false, sym, subst}
+use Rattle.std.proofs.lemmas.Grind.{common_steps}
 use Rattle.fluent_uri.specs.Grammar.{uri_ref}
 use Rattle.fluent_uri.specs.UriRefs.{uri_ref_text}
 use Rattle.uri_commands.specs.Commands.{Links, texts}
@@ -28,3 +29,6 @@ loop-word-preserved c = record {
         uri_ref_text c.in_ok-reference.reference c.loop-word.references.items _ (c.loop-word.invariant.kept before) c.in_ok-reference.ensures.text pushed
   ];
 }
+
+pub returns-clause-references : goal.returns-clause-references
+returns-clause-references c = grind (arith, common_steps)
