@@ -95,7 +95,8 @@ module _ (set : TableSet) (lacks : LacksPercent set) (wide : IsSubset unreserved
       let p = part_cut set w.segment w.rest (ap (is_part set) (sym w.whole) ∙ e) in
       ap (λ t. starts 47 (reprinted set t)) w.whole
       ∙ ap (starts 47) (reprinted-cut set w.segment w.rest (part_utf8 set w.segment p.0))
-      ∙ starts_behind (reprinted set w.segment) (reprinted set w.rest) (no_slash set lacks wide w.segment p.0 w.lacks)
+      ∙ starts_behind (reprinted set w.segment) (reprinted set w.rest)
+      (no_slash set lacks wide w.segment p.0 w.lacks)
       ∙ empty_reprinted w.segment p.0
       ∙ sym (ap (starts 47) w.whole ∙ starts_behind w.segment w.rest w.lacks))
       (first_segment x)
@@ -123,6 +124,7 @@ module _ (set : TableSet) (lacks : LacksPercent set) (wide : IsSubset unreserved
       let p = part_cut set w.segment w.rest (ap (is_part set) (sym w.whole) ∙ e) in
       ap (λ t. has_colon_first (reprinted set t)) w.whole
       ∙ ap has_colon_first (reprinted-cut set w.segment w.rest (part_utf8 set w.segment p.0))
-      ∙ ap (list_any (λ c. eqb c 58)) (before_slash (reprinted set w.segment) (reprinted set w.rest) (no_slash set lacks wide w.segment p.0 w.lacks))
+      ∙ ap (list_any (λ c. eqb c 58)) (before_slash (reprinted set w.segment) (reprinted set w.rest)
+      (no_slash set lacks wide w.segment p.0 w.lacks))
       ∙ no_colon w.segment p.0 (sym (ap has_colon_first w.whole ∙ ap (list_any (λ c. eqb c 58)) (before_slash w.segment w.rest w.lacks)) ∙ c))
       (first_segment x)
