@@ -45,7 +45,7 @@ impl Write for Awaits<'_> {
 }
 
 fn word<R: Abort + Print>(rt: &R, alloc: Global, text: &str) -> String {
-    tried(rt, "a word", || String::from_str(alloc, text))
+    tried!(rt; "a word", String::from_str(alloc, text))
 }
 
 /// Whether the words have this printed; else that memory was refused is told, and nothing printed.

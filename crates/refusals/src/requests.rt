@@ -6,7 +6,6 @@ use fluent_uri::normalize::NormalizeError;
 use fluent_uri::pct_enc::DecodeError;
 use fluent_uri::resolve::ResolveError;
 use std::alloc::{AllocError, Global};
-use std::fmt::Debug;
 use std::process::Abort;
 
 /// An error that may say that memory was refused.
@@ -72,25 +71,30 @@ pub fn answers<R: Abort + Print, T: Drop, E: Refusal>(
     match answer {
         Ok(_) => true,
         Err(error) => {
-            assert!(rt; error.is_out_of_memory(), "{call} answers another error");
-            tell(rt, call);
+            told(rt, call, error);
             false
         }
     }
 }
 
-/// What a call answers, or, where memory is refused, what it answers with memory.
-pub fn tried<R: Abort + Print, T: Drop, E: Refusal + Debug + Drop, F: Fn() -> Result<T, E>>(
-    rt: &R,
-    call: &str,
-    make: F,
-) -> T
-    requires { F.IsAlwaysCallable make }
-{
-    let first = make();
-    if answers(rt, call, &first) {
-        first.expect(rt, call)
-    } else {
-        make().expect(rt, call)
-    }
+/// Holds the error of a call to "out of memory", and tells of it.
+pub fn told<R: Abort + Print, E: Refusal>(rt: &R, call: &str, error: &E) {
+    assert!(rt; error.is_out_of_memory(), "{call} answers another error");
+    tell(rt, call);
 }
+
+/// What a call answers, or, where memory is refused, what it answers with memory. It is a macro, since
+/// a closure in place of the call would be four functions to prove.
+macro_rules! tried {
+    ($rt:expr; $call:expr, $make:expr) => {
+        match $make {
+            Ok(made) => made,
+            Err(error) => {
+                $crate::requests::told($rt, $call, &error);
+                $make.expect($rt, $call)
+            }
+        }
+    };
+}
+
+pub(crate) use tried;

@@ -19,14 +19,10 @@ fn is_left<R: Abort + Print>(rt: &R, call: &str, text: &EString<Path>, left: &st
 #[test]
 fn made_and_pushed(rt: HostRuntime) {
     let alloc = rt.alloc();
-    let made = tried(
-        &rt,
-        "with_capacity",
-        || EString::<Path>::with_capacity(alloc, 9),
-    );
+    let made = tried!(&rt; "with_capacity", EString::<Path>::with_capacity(alloc, 9));
     equal(made.as_str(), "").expect(&rt, "no text");
     equal(made.capacity() >= 9, true).expect(&rt, "capacity");
-    let owned = tried(&rt, "to_owned", || path(&rt, "a%20b").to_owned(alloc));
+    let owned = tried!(&rt; "to_owned", path(&rt, "a%20b").to_owned(alloc));
     equal(owned.as_str(), "a%20b").expect(&rt, "a copy");
     let mut text = EString::<Path>::new(alloc);
     if let Err(AllocError) = text.push('a') {
@@ -73,14 +69,10 @@ fn encoded_bytes(rt: HostRuntime) {
 fn decoded_bytes(rt: HostRuntime) {
     let alloc = rt.alloc();
     let text = path(&rt, "0123456%C3%A9%FF89");
-    let bytes = tried(&rt, "to_bytes", || text.decode().to_bytes(alloc));
+    let bytes = tried!(&rt; "to_bytes", text.decode().to_bytes(alloc));
     let wanted = b"0123456\xC3\xA9\xFF89".as_slice();
     equal(bytes.as_slice(), wanted).expect(&rt, "to_bytes");
-    let copied = tried(
-        &rt,
-        "CowSlice::into_owned",
-        || CowSlice::Borrowed(wanted).into_owned(alloc),
-    );
+    let copied = tried!(&rt; "CowSlice::into_owned", CowSlice::Borrowed(wanted).into_owned(alloc));
     equal(copied.as_slice(), wanted).expect(&rt, "CowSlice::into_owned");
     end(&rt, alloc);
 }
@@ -89,13 +81,9 @@ fn decoded_bytes(rt: HostRuntime) {
 fn decoded_texts(rt: HostRuntime) {
     let alloc = rt.alloc();
     let text = path(&rt, "0123456%C3%A989");
-    let decoded = tried(&rt, "to_string", || text.decode().to_string(alloc));
+    let decoded = tried!(&rt; "to_string", text.decode().to_string(alloc));
     equal(decoded.as_str(), "0123456é89").expect(&rt, "to_string");
-    let copied = tried(
-        &rt,
-        "CowStr::into_owned",
-        || CowStr::Borrowed("é").into_owned(alloc),
-    );
+    let copied = tried!(&rt; "CowStr::into_owned", CowStr::Borrowed("é").into_owned(alloc));
     equal(copied.as_str(), "é").expect(&rt, "CowStr::into_owned");
     end(&rt, alloc);
 }
@@ -104,11 +92,7 @@ fn decoded_texts(rt: HostRuntime) {
 fn lossy_texts(rt: HostRuntime) {
     let alloc = rt.alloc();
     let text = path(&rt, "0123456%C3%A9%FF89");
-    let decoded = tried(
-        &rt,
-        "to_string_lossy",
-        || text.decode().to_string_lossy(alloc),
-    );
+    let decoded = tried!(&rt; "to_string_lossy", text.decode().to_string_lossy(alloc));
     equal(decoded.as_str(), "0123456é\u{FFFD}89").expect(&rt, "to_string_lossy");
     end(&rt, alloc);
 }
