@@ -83,8 +83,8 @@ pub fn told<R: Abort + Print, E: Refusal>(rt: &R, call: &str, error: &E) {
     tell(rt, call);
 }
 
-/// What a call answers, or, where memory is refused, what it answers with memory. It is a macro, since
-/// a closure in place of the call would be four functions to prove.
+/// What a call answers, or, where memory is refused, what it answers with memory. It is a macro,
+/// since a closure in place of the call would be four functions to prove.
 macro_rules! tried {
     ($rt:expr; $call:expr, $make:expr) => {
         match $make {
