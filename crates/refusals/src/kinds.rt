@@ -49,8 +49,10 @@ fn fragments_of_uri_references(rt: HostRuntime) {
     equal(made.as_str(), wanted).expect(&rt, "with_fragment");
     let mut owned = tried!(&rt; "UriRef::to_owned", reference.to_owned(alloc));
     equal(owned.as_str(), "a#f").expect(&rt, "to_owned");
-    let made =
-        tried!(&rt; "UriRef::with_fragment of one that is owned", owned.with_fragment(alloc, given));
+    let made = tried!(
+        &rt; "UriRef::with_fragment of one that is owned",
+        owned.with_fragment(alloc, given)
+    );
     equal(made.as_str(), wanted).expect(&rt, "with_fragment");
     if let Err(AllocError) = owned.set_fragment(given) {
         tell(&rt, "UriRef::set_fragment");
@@ -95,8 +97,10 @@ fn fragments_of_iri_references(rt: HostRuntime) {
     equal(made.as_str(), wanted).expect(&rt, "with_fragment");
     let mut owned = tried!(&rt; "IriRef::to_owned", reference.to_owned(alloc));
     equal(owned.as_str(), "é#f").expect(&rt, "to_owned");
-    let made =
-        tried!(&rt; "IriRef::with_fragment of one that is owned", owned.with_fragment(alloc, given));
+    let made = tried!(
+        &rt; "IriRef::with_fragment of one that is owned",
+        owned.with_fragment(alloc, given)
+    );
     equal(made.as_str(), wanted).expect(&rt, "with_fragment");
     if let Err(AllocError) = owned.set_fragment(given) {
         tell(&rt, "IriRef::set_fragment");

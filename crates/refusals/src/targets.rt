@@ -51,8 +51,10 @@ fn normal_targets(rt: HostRuntime) {
     let reference = UriRef::<&str>::parse("../%7e").expect(&rt, "a reference");
     let resolver = Resolver::with_base(base);
     let normalizer = Normalizer::new();
-    let target =
-        tried!(&rt; "resolve_normalized", resolver.resolve_normalized(alloc, &reference, &normalizer));
+    let target = tried!(
+        &rt; "resolve_normalized",
+        resolver.resolve_normalized(alloc, &reference, &normalizer)
+    );
     equal(target.as_str(), "s:/~").expect(&rt, "resolve_normalized");
     end(&rt, alloc);
 }
