@@ -33,7 +33,8 @@ pub record IsPiecewise (change : List ℕ → List ℕ) (among : List ℕ → Bo
   pub empty : (text : List ℕ) → among text ≡ true → is_empty (change text) ≡ is_empty text
   pub cut : (x y : List ℕ) → among (x ++ 47 ∷ y) ≡ true → (among x ≡ true) × (among y ≡ true)
   pub join : (x y : List ℕ) → among x ≡ true → among y ≡ true → among (x ++ 47 ∷ y) ≡ true
-  pub pieces : (x y : List ℕ) → among x ≡ true → change (x ++ 47 ∷ y) ≡ change x ++ 47 ∷ change y
+  pub pieces : (x y : List ℕ) → among x ≡ true
+      → change (x ++ 47 ∷ y) ≡ change x ++ 47 ∷ change y
   pub free : (s : List ℕ) → among s ≡ true → has_slash s ≡ false → has_slash (change s) ≡ false
   pub dots : (s : List ℕ) → among s ≡ true → KeepsDots change s
   pub plain : (text : List ℕ) → among text ≡ true → lacks_dot_segments text ≡ true

@@ -1,4 +1,5 @@
--- What is appended of the pieces of a path: themselves, or what is read of them.
+-- What is appended of the pieces of a path: themselves, or what is read of them (RFC 3986, sections
+-- 5.2.4 and 6.2.2).
 use Rattle.std.specs.Prelude.{◌≡◌, true, List, ℕ, codes}
 use Rattle.uri_pct.specs.Delimiters.{slash}
 use Rattle.uri_pct.specs.Reading.{read}
