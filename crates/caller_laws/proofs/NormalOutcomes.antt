@@ -5,12 +5,13 @@ use Rattle.fluent_uri.specs.Components.{components}
 use Rattle.fluent_uri.specs.Grammar.{Kind}
 use Rattle.fluent_uri.specs.Meaning.{meaning_of}
 use Rattle.fluent_uri.specs.Normal.{normal_text}
-use Rattle.fluent_uri.specs.KindTexts.{IsTextOf}
+use Rattle.fluent_uri.specs.Grammar.{IsTextOf}
 use Rattle.fluent_uri.specs.NormalTargets.{HasMeaningOf, HasTargetMeaning, IsTargetOfMeanings}
 use Rattle.fluent_uri.specs.NormalTargets.{IsNormalFormOfTarget}
 use Rattle.fluent_uri.specs.Normalizers.{IsNormalForm}
 use Rattle.fluent_uri.specs.Ports.{PortFunction}
 use Rattle.fluent_uri.specs.Target.{Refusal, resolution_of}
+use Rattle.fluent_uri.proofs.Outcomes.{normal_form_by_meaning}
 
 one_target : (r : Result (List ℕ) Refusal) (t u : List ℕ) → r ≡ Ok t → r ≡ Ok u → t ≡ u
 one_target r t u e f = cc
@@ -25,7 +26,8 @@ same_normal : (kind : Kind) (ports : PortFunction) (base reference target text m
     → resolution_of (components base) (components reference) ≡ Ok target
     → IsNormalForm kind ports text n → IsNormalForm kind ports target m → n ≡ m
 same_normal kind ports base reference target text m n t e v w =
-    let same = one_target (resolution_of (components base) (components reference)) t.0 target t.1.0 e in
+    let same = one_target (resolution_of (components base) (components reference)) t.0 target t.1.0
+    e in
     v.text.text ∙ ap normal_text (sym t.1.1 ∙ ap (meaning_of kind ports) same) ∙ sym w.text.text
 
 -- the normal form of a target is that of the target of the normal forms
@@ -45,16 +47,6 @@ same_normal_form kind of_reference ports base reference given target b r held ot
     same_normal kind ports b r other target m n (a.alike ports b r means reference_means) resolved
     x y
 
--- the normal form of a text is that of another one with its meaning
-with_meaning : (kind : Kind) (ports : PortFunction) (text other normal : List ℕ)
-    → meaning_of kind ports other ≡ meaning_of kind ports text
-    → IsNormalForm kind ports text normal → IsNormalForm kind ports other normal
-with_meaning kind ports text other normal e h = record {
-  text = record { text = h.text.text ∙ ap normal_text (sym e) };
-  meaning = h.meaning ∙ sym e;
-  same = λ u w. let both = h.same u w in (λ d. e ∙ both.0 d, λ d. both.1 (sym e ∙ d));
-}
-
 -- the normal form of the target of normal forms is one of the target
 pub normal_form_of_target : (kind of_reference : Kind) (ports : PortFunction)
     (base reference b r held target normal : List ℕ)
@@ -70,4 +62,4 @@ normal_form_of_target kind of_reference ports base reference b r held target nor
     let reference_means : HasMeaningOf of_reference ports r reference
     = record { of_kind = of_ref; meaning = sym w.meaning } in
     let t = a.alike ports base reference means reference_means in
-    (t.0, (t.1.0, with_meaning kind ports target t.0 normal t.1.1 x))
+    (t.0, (t.1.0, normal_form_by_meaning kind ports target t.0 normal t.1.1 x))

@@ -2,8 +2,8 @@
 ghost use Rattle.std.specs.Prelude.{◌≡◌, IfOk, IfErr, true};
 ghost use Rattle.fluent_uri.specs.Components.{components};
 ghost use Rattle.fluent_uri.specs.Encoded.{encoded_text};
-ghost use Rattle.fluent_uri.specs.EncodedTargets.{IsErrorForEncoded};
-ghost use Rattle.fluent_uri.specs.IriRefs.{iri_ref_text};
+ghost use Rattle.fluent_uri.specs.Resolving.{IsErrorForEncoded};
+ghost use Rattle.fluent_uri.specs.Iris.{iri_ref_text};
 ghost use Rattle.fluent_uri.specs.Iris.{iri_text};
 ghost use Rattle.fluent_uri.specs.Resolving.{IsTarget};
 ghost use Rattle.fluent_uri.specs.Uris.{uri_text};

@@ -2,7 +2,7 @@
 ghost use Rattle.std.specs.Prelude.{◌≡◌, ◌++◌};
 ghost use Rattle.fluent_uri.specs.Components.{IsRooted};
 ghost use Rattle.fluent_uri.specs.Dots.{IsAbsolute, directory, remove_dot_segments};
-ghost use Rattle.fluent_uri.specs.EStrs.{text_of};
+ghost use Rattle.fluent_uri.specs.EncodedTexts.{text_of};
 ghost use Rattle.fluent_uri.specs.Reading.{read};
 ghost use Rattle.fluent_uri.specs.Sets.{ipath_set};
 ghost use Rattle.fluent_uri.specs.Tokens.{print};

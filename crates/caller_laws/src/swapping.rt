@@ -2,7 +2,7 @@
 ghost use Rattle.std.specs.Prelude.{◌≡◌, ◌⊎◌, IfOk, IfErr, true};
 ghost use Rattle.fluent_uri.specs.Components.{components};
 ghost use Rattle.fluent_uri.specs.Grammar.{iri};
-ghost use Rattle.fluent_uri.specs.IriRefs.{iri_ref_text};
+ghost use Rattle.fluent_uri.specs.Iris.{iri_ref_text};
 ghost use Rattle.fluent_uri.specs.Iris.{iri_text};
 ghost use Rattle.fluent_uri.specs.NormalTargets.{IsNormalFormOfTarget, IsRefusedFor};
 ghost use Rattle.fluent_uri.specs.SchemePorts.{default_port};

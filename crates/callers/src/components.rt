@@ -3,12 +3,12 @@
 
 ghost use Rattle.std.specs.Prelude.{◌≡◌, option_map};
 ghost use Rattle.fluent_uri.specs.Components.{components};
-ghost use Rattle.fluent_uri.specs.EStrs.{text_of};
-ghost use Rattle.fluent_uri.specs.IriRefs.{iri_ref_text};
+ghost use Rattle.fluent_uri.specs.EncodedTexts.{text_of};
+ghost use Rattle.fluent_uri.specs.Iris.{iri_ref_text};
 ghost use Rattle.fluent_uri.specs.Schemes.{scheme_text};
 ghost use Rattle.fluent_uri.specs.Sets.{userinfo_set, reg_name_set, iuserinfo_set, ireg_name_set};
 ghost use Rattle.fluent_uri.specs.Tables.{set_of};
-ghost use Rattle.fluent_uri.specs.UriRefs.{uri_ref_text};
+ghost use Rattle.fluent_uri.specs.Uris.{uri_ref_text};
 
 use fluent_uri::component::{Authority, Host, HostOf, IAuthority, IHost, Scheme};
 use fluent_uri::pct_enc::encoder::{Encoder, Fragment, IFragment, IPath, IQuery, Path, Query};

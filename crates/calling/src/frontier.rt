@@ -4,7 +4,7 @@ ghost use Rattle.std.specs.Prelude.{if◌then◌else◌, List, ℕ, [], IfErr, I
 ghost use Rattle.std.specs.Io.KnownBytes.{Appends};
 ghost use Rattle.fluent_uri.specs.Grammar.{uri};
 ghost use Rattle.fluent_uri.specs.Meaning.{meaning_of};
-ghost use Rattle.fluent_uri.specs.KindTexts.{IsTextOf};
+ghost use Rattle.fluent_uri.specs.Grammar.{IsTextOf};
 ghost use Rattle.fluent_uri.specs.SchemePorts.{default_port};
 ghost use Rattle.fluent_uri.specs.Uris.{uri_text};
 ghost use Rattle.calling.specs.Frontiers.{has_met, normal_of};

@@ -1,7 +1,7 @@
 //! The pairs of a query, as `name=value&name=value`.
 ghost use Rattle.std.specs.Prelude.{◌≡◌, ◌++◌, codes, map, string_bytes, IfOk, OnOk};
 ghost use Rattle.std.specs.Io.KnownBytes.{Appends};
-ghost use Rattle.fluent_uri.specs.EStrs.{text_of};
+ghost use Rattle.fluent_uri.specs.EncodedTexts.{text_of};
 ghost use Rattle.fluent_uri.specs.EStrings.{owned_text};
 ghost use Rattle.calling.specs.Pairs.{lines_text, name_part, pair_texts, query_text};
 ghost use Rattle.calling.specs.Pairs.{read_pair, read_pairs, read_text, value_part};

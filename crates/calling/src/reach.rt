@@ -4,7 +4,7 @@ ghost use Rattle.fluent_uri.specs.Authority.{authority_parts};
 ghost use Rattle.fluent_uri.specs.Components.{components};
 ghost use Rattle.fluent_uri.specs.Connecting.{IsAnswerFor};
 ghost use Rattle.fluent_uri.specs.Hosts.{host_kind};
-ghost use Rattle.fluent_uri.specs.PortNumbers.{FitsPort, port_number};
+ghost use Rattle.fluent_uri.specs.Ports.{FitsPort, port_number};
 ghost use Rattle.fluent_uri.specs.Uris.{uri_text};
 ghost use Rattle.calling.specs.Reaching.{port_without};
 

@@ -2,7 +2,7 @@
 ghost use Rattle.std.specs.Prelude.{◌≡◌, codes, IfOk, None, Some};
 ghost use Rattle.fluent_uri.specs.AuthorityTexts.{authority_text};
 ghost use Rattle.fluent_uri.specs.Components.{components};
-ghost use Rattle.fluent_uri.specs.EStrs.{text_of};
+ghost use Rattle.fluent_uri.specs.EncodedTexts.{text_of};
 ghost use Rattle.fluent_uri.specs.Uris.{uri_text};
 
 use fluent_uri::Uri;

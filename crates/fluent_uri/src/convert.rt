@@ -5,10 +5,10 @@ ghost use Rattle.uri_ops.specs.Conversions.{Converts, ConvertsOwned, scheme_refu
 ghost use Rattle.uri_ops.specs.Conversions.{uri_refusal};
 ghost use Rattle.uri_ops.specs.Encoded.{encoded_text, MeanTheSame};
 ghost use Rattle.uri_ops.specs.Meaning.{meaning_of};
-ghost use Rattle.uri_ops.specs.Ports.{PortFunction};
-ghost use Rattle.uri_ascii.specs.UriRefs.{uri_ref_text};
+ghost use Rattle.uri_parts.specs.Ports.{PortFunction};
+ghost use Rattle.uri_ascii.specs.Uris.{uri_ref_text};
 ghost use Rattle.uri_ascii.specs.Uris.{uri_text};
-ghost use Rattle.fluent_uri.specs.IriRefs.{iri_ref_text};
+ghost use Rattle.fluent_uri.specs.Iris.{iri_ref_text};
 ghost use Rattle.fluent_uri.specs.Iris.{iri_text};
 
 use crate::iri::Iri;

@@ -49,7 +49,7 @@ impl<T: AsStr + Copy> Copy for IriRef<T> {}
 impl<T: AsStr> RiMaybeRef for IriRef<T> {
     ghost use Rattle.std.specs.Prelude.{refl};
     ghost use Rattle.uri_ops.proofs.TextKinds.FourKinds.{iri_ref_sets};
-    ghost use Rattle.fluent_uri.specs.IriRefs.{iri_ref_text};
+    ghost use Rattle.fluent_uri.specs.Iris.{iri_ref_text};
 
     type Owned = IriRef<String>;
 
@@ -106,7 +106,7 @@ impl<T: AsStr, B: AsStr> RefOf<Iri<B>> for IriRef<T> {
 
 impl<T: AsStr> IriRef<T> {
     ghost use Rattle.uri_parts.specs.CoreTexts.{core_text};
-    ghost use Rattle.fluent_uri.specs.IriRefs.{iri_ref_text};
+    ghost use Rattle.fluent_uri.specs.Iris.{iri_ref_text};
 
     /// The value that holds this.
     #[doc(hidden)]
@@ -173,7 +173,7 @@ impl<T: AsStr> IriRef<T> {
 }
 
 impl<'a> TryFrom<&'a str> for IriRef<&'a str> {
-    ghost use Rattle.fluent_uri.specs.IriRefs.{iri_ref_text};
+    ghost use Rattle.fluent_uri.specs.Iris.{iri_ref_text};
     ghost use Rattle.uri_ascii.specs.Parses.{Parses};
 
     type Error = ParseError;
@@ -187,7 +187,7 @@ impl<'a> TryFrom<&'a str> for IriRef<&'a str> {
 }
 
 impl TryFrom<String> for IriRef<String> {
-    ghost use Rattle.fluent_uri.specs.IriRefs.{iri_ref_text};
+    ghost use Rattle.fluent_uri.specs.Iris.{iri_ref_text};
     ghost use Rattle.uri_ascii.specs.Parses.{ParsesOwned};
 
     type Error = (ParseError, String);
@@ -202,7 +202,7 @@ impl TryFrom<String> for IriRef<String> {
 }
 
 impl From<IriRef<String>> for String {
-    ghost use Rattle.fluent_uri.specs.IriRefs.{iri_ref_text};
+    ghost use Rattle.fluent_uri.specs.Iris.{iri_ref_text};
 
     ghost from_gives = { λ value text. string_bytes text ≡ iri_ref_text value };
 
@@ -215,7 +215,7 @@ impl From<IriRef<String>> for String {
 #[tactic(auto, using(uri_parts::proofs::TextKinds::KindSets::empty_is_iri_ref))]
 impl<'a> Default for IriRef<&'a str> {
     ghost use Rattle.std.specs.Prelude.{[]};
-    ghost use Rattle.fluent_uri.specs.IriRefs.{iri_ref_text};
+    ghost use Rattle.fluent_uri.specs.Iris.{iri_ref_text};
 
     ghost is_default = { λ value. iri_ref_text value ≡ [] };
 
@@ -229,7 +229,7 @@ impl<'a> Default for IriRef<&'a str> {
 
 impl<T: AsStr> fmt::Display for IriRef<T> {
     ghost use Rattle.std.specs.Fmt.{styled_text};
-    ghost use Rattle.fluent_uri.specs.IriRefs.{iri_ref_text};
+    ghost use Rattle.fluent_uri.specs.Iris.{iri_ref_text};
 
     ghost output = { λ value. Some (iri_ref_text value) };
 

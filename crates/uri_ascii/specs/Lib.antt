@@ -1,3 +1,2 @@
 pub mod Parses
-pub mod UriRefs
 pub mod Uris

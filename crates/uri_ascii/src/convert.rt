@@ -2,7 +2,7 @@
 ghost use Rattle.std.specs.Prelude.{◌≡◌};
 ghost use Rattle.uri_parts.specs.Grammar.{uri};
 ghost use Rattle.uri_ops.specs.Conversions.{Converts, ConvertsOwned, scheme_refusal};
-ghost use Rattle.uri_ascii.specs.UriRefs.{uri_ref_text};
+ghost use Rattle.uri_ascii.specs.Uris.{uri_ref_text};
 ghost use Rattle.uri_ascii.specs.Uris.{uri_text};
 
 use crate::uri::Uri;

@@ -50,7 +50,7 @@ impl<T: AsStr + Copy> Copy for UriRef<T> {}
 impl<T: AsStr> RiMaybeRef for UriRef<T> {
     ghost use Rattle.std.specs.Prelude.{refl};
     ghost use Rattle.uri_ops.proofs.TextKinds.FourKinds.{uri_ref_sets};
-    ghost use Rattle.uri_ascii.specs.UriRefs.{uri_ref_text};
+    ghost use Rattle.uri_ascii.specs.Uris.{uri_ref_text};
 
     type Owned = UriRef<String>;
 
@@ -107,7 +107,7 @@ impl<T: AsStr, B: AsStr> RefOf<Uri<B>> for UriRef<T> {
 
 impl<T: AsStr> UriRef<T> {
     ghost use Rattle.uri_parts.specs.CoreTexts.{core_text};
-    ghost use Rattle.uri_ascii.specs.UriRefs.{uri_ref_text};
+    ghost use Rattle.uri_ascii.specs.Uris.{uri_ref_text};
 
     /// The value that holds this.
     #[doc(hidden)]
@@ -175,7 +175,7 @@ impl<T: AsStr> UriRef<T> {
 
 impl<'a> TryFrom<&'a str> for UriRef<&'a str> {
     ghost use Rattle.uri_ascii.specs.Parses.{Parses};
-    ghost use Rattle.uri_ascii.specs.UriRefs.{uri_ref_text};
+    ghost use Rattle.uri_ascii.specs.Uris.{uri_ref_text};
 
     type Error = ParseError;
 
@@ -189,7 +189,7 @@ impl<'a> TryFrom<&'a str> for UriRef<&'a str> {
 
 impl TryFrom<String> for UriRef<String> {
     ghost use Rattle.uri_ascii.specs.Parses.{ParsesOwned};
-    ghost use Rattle.uri_ascii.specs.UriRefs.{uri_ref_text};
+    ghost use Rattle.uri_ascii.specs.Uris.{uri_ref_text};
 
     type Error = (ParseError, String);
 
@@ -203,7 +203,7 @@ impl TryFrom<String> for UriRef<String> {
 }
 
 impl From<UriRef<String>> for String {
-    ghost use Rattle.uri_ascii.specs.UriRefs.{uri_ref_text};
+    ghost use Rattle.uri_ascii.specs.Uris.{uri_ref_text};
 
     ghost from_gives = { λ value text. string_bytes text ≡ uri_ref_text value };
 
@@ -216,7 +216,7 @@ impl From<UriRef<String>> for String {
 #[tactic(auto, using(uri_parts::proofs::TextKinds::KindSets::empty_is_uri_ref))]
 impl<'a> Default for UriRef<&'a str> {
     ghost use Rattle.std.specs.Prelude.{[]};
-    ghost use Rattle.uri_ascii.specs.UriRefs.{uri_ref_text};
+    ghost use Rattle.uri_ascii.specs.Uris.{uri_ref_text};
 
     ghost is_default = { λ value. uri_ref_text value ≡ [] };
 
@@ -230,7 +230,7 @@ impl<'a> Default for UriRef<&'a str> {
 
 impl<T: AsStr> fmt::Display for UriRef<T> {
     ghost use Rattle.std.specs.Fmt.{styled_text};
-    ghost use Rattle.uri_ascii.specs.UriRefs.{uri_ref_text};
+    ghost use Rattle.uri_ascii.specs.Uris.{uri_ref_text};
 
     ghost output = { λ value. Some (uri_ref_text value) };
 

@@ -36,9 +36,11 @@ before_rest (u ∷ v ∷ w ∷ rest) a b c least x y z = cc
 pub texts_of_more : {Z : Type 0} (words : List (String Z)) (a b c : String Z) → 3 ≤ length words
     → a ≡ get_or words 0 a → b ≡ get_or words 1 b → c ≡ get_or words 2 c
     → texts words
-    ≡ string_bytes a ∷ string_bytes b ∷ string_bytes c ∷ texts (take (length words - 3) (drop 3 words))
+    ≡ string_bytes a ∷ string_bytes b ∷ string_bytes c
+    ∷ texts (take (length words - 3) (drop 3 words))
 texts_of_more words a b c least x y z =
-    let rest : take (length words - 3) (drop 3 words) ≡ drop 3 words = take_all (length words - 3) (drop 3 words) (omega (arith, length-drop 3 words)) in
+    let rest : take (length words - 3) (drop 3 words) ≡ drop 3 words =
+    take_all (length words - 3) (drop 3 words) (omega (arith, length-drop 3 words)) in
     before_rest words a b c least x y z
     ∙ ap (λ l. string_bytes a ∷ string_bytes b ∷ string_bytes c ∷ texts l) (sym rest)
 
@@ -58,7 +60,8 @@ texts_of_four (u ∷ v ∷ s ∷ t ∷ p ∷ rest) a b c d least below x y z w =
 kind_named : List ℕ → KindName
 kind_named word =
     let short = eqb (length word) 3 in
-    if eqb (get_or word 0 0) 117 then (if short then Uri else UriRef) else if short then Iri else IriRef
+    if eqb (get_or word 0 0) 117 then (if short then Uri else UriRef) else if short then Iri
+    else IriRef
 
 base_named : List ℕ → BaseName
 base_named word = if eqb (get_or word 0 0) 117 then bases.Uri else bases.Iri
@@ -111,7 +114,8 @@ not_a_base words a b c d e first none (Normalize name text, is) =
     let four : length words ≡ 4 = ap length e in
     let three : length words ≡ 3 = ap length is in
     absurd (omega arith)
-not_a_base words a b c d e first none (Resolve name base reference, is) = none name (ap (λ l. get_or l 1 []) (sym e ∙ is))
+not_a_base words a b c d e first none (Resolve name base reference, is) =
+    none name (ap (λ l. get_or l 1 []) (sym e ∙ is))
 not_a_base words a b c d e first none (Links base reference others, is) =
     let same : codes "links" ≡ codes "resolve" = ap (λ l. get_or l 0 []) (sym is ∙ e) ∙ first in
     let no : true ≡ false = ap (λ l. eqb (length l) 5) same in cc
@@ -123,8 +127,10 @@ of_command : (words : List (List ℕ)) → Prim.¬◌ (AreLinks words)
     → (command : Command) → words ≢ words_of command
 of_command words links parse normalize resolve (Parse name text) = parse name text
 of_command words links parse normalize resolve (Normalize name text) = normalize name text
-of_command words links parse normalize resolve (Resolve name base reference) = resolve name base reference
-of_command words links parse normalize resolve (Links base reference others) = λ is. links (base, reference, others, is)
+of_command words links parse normalize resolve (Resolve name base reference) =
+    resolve name base reference
+of_command words links parse normalize resolve (Links base reference others) =
+    λ is. links (base, reference, others, is)
 
 -- words that are `links` or nothing, where they are none of the others
 pub or_links : (words : List (List ℕ)) (result : Option Words)

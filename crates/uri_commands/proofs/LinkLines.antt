@@ -30,9 +30,12 @@ pub line_written : (registered : List (List ℕ)) (outcomes : List Outcome) (n :
     → Appends b c (outcome_line registered outcome)
     → Appends a c (outcome_lines registered (take (n + 1) outcomes))
 line_written registered outcomes n outcome a b c h e before now =
-    let more : outcome_lines registered (take (n + 1) outcomes) ≡ outcome_lines registered (take n outcomes) ++ outcome_line registered outcome =
+    let more : outcome_lines registered (take (n + 1) outcomes)
+    ≡ outcome_lines registered (take n outcomes) ++ outcome_line registered outcome =
     ap (outcome_lines registered) (take_more outcomes n outcome h)
     ∙ flat_map-append (outcome_line registered) (take n outcomes) (get_or outcomes n outcome ∷ [])
-    ∙ ap (λ o. outcome_lines registered (take n outcomes) ++ (outcome_line registered o ++ [])) (sym e)
-    ∙ ap (λ l. outcome_lines registered (take n outcomes) ++ l) (append-nil (outcome_line registered outcome)) in
+    ∙ ap (λ o. outcome_lines registered (take n outcomes) ++ (outcome_line registered o ++ []))
+    (sym e)
+    ∙ ap (λ l. outcome_lines registered (take n outcomes) ++ l)
+    (append-nil (outcome_line registered outcome)) in
     subst (Appends a c) (sym more) (Appends-trans a b c _ _ before now)

@@ -33,8 +33,14 @@ module _ {Z : Type 0} (kind : Kind) (first : List ℕ) (others : List (String Z)
       let at : slice_get (texts others) n ≡ Some text =
       slice_get-map string_bytes others n
       ∙ ap (option_map string_bytes) (slice_get-get_or others n word below ∙ ap Some (sym is))
-      ∙ ap Some (sym same) in
-      (suc n, text, at, ap (λ l. are_of_kind kind (first ∷ l)) (take-map string_bytes n others) ∙ before, now)
+      ∙ ap Some (sym same) in (
+        suc n,
+        text,
+        at,
+        ap (λ l. are_of_kind kind (first ∷ l)) (take-map string_bytes n others)
+            ∙ before,
+        now,
+      )
 
   pub kept_next : {A : Type 0} (text_of : A → List ℕ) (reference : A) (before after : List A)
       → map text_of before ≡ first ∷ texts (take n others) → text_of reference ≡ text

@@ -14,14 +14,18 @@ use Rattle.uri_commands.specs.declared.command.BaseName.{BaseName}
 use Rattle.uri_commands.specs.declared.command.KindName.{KindName}
 use Rattle.uri_commands.specs.declared.refusal.Refusal.{Refusal}
 use Rattle.uri_commands.specs.declared.refusal.Refusal.TheVariants.{OutputFailed}
-use Rattle.uri_commands.proofs.Refusals.{refused_with, refused_as}
+use Rattle.uri_commands.proofs.Refusals.{refused_as}
+use Rattle.fluent_uri.proofs.Outcomes.{refused_with}
 
 pub parse_failed : {A : Type 0} (name : KindName) (text : List ℕ) (result : Result A Refusal)
     → IsOfKind (kind_named name) text
     → IsErrAnd result (λ why. why ≡ OutputFailed) → IfErr result (IsRefusalOf (Parse name text))
 parse_failed name text result is given =
-    refused_with (IsRefusalOf (Parse name text)) result OutputFailed given
-    (component_lines (components text), ap (λ b. if b then Some (component_lines (components text)) else None) is)
+    refused_with (IsRefusalOf (Parse name text)) result OutputFailed given (
+      component_lines (components text),
+      ap
+          (λ b. if b then Some (component_lines (components text)) else None) is,
+    )
 
 pub normalize_failed : {A : Type 0} (name : KindName) (text : List ℕ) (result : Result A Refusal)
     → IsOfKind (kind_named name) text
@@ -38,7 +42,8 @@ pub resolve_failed : {A : Type 0} (name : BaseName) (base reference target : Lis
     → IfErr result (λ why. why ≡ OutputFailed)
     → IfErr result (IsRefusalOf (Resolve name base reference))
 resolve_failed name base reference target result b r t given =
-    refused_as (IsRefusalOf (Resolve name base reference)) result OutputFailed given (target ++ codes "\n", cc (b, r, t))
+    refused_as (IsRefusalOf (Resolve name base reference)) result OutputFailed given
+    (target ++ codes "\n", cc (b, r, t))
 
 pub links_failed : {A : Type 0} (base reference : List ℕ) (others : List (List ℕ))
     (result : Result A Refusal)
@@ -46,4 +51,5 @@ pub links_failed : {A : Type 0} (base reference : List ℕ) (others : List (List
     → IsErrAnd result (λ why. why ≡ OutputFailed)
     → IfErr result (IsRefusalOf (Links base reference others))
 links_failed base reference others result b r given =
-    refused_with (IsRefusalOf (Links base reference others)) result OutputFailed given (link_lines base (reference ∷ others), cc (b, r))
+    refused_with (IsRefusalOf (Links base reference others)) result OutputFailed given
+    (link_lines base (reference ∷ others), cc (b, r))

@@ -8,11 +8,7 @@ use Rattle.fluent_uri.specs.declared.ParseError.{ParseError}
 use Rattle.uri_commands.specs.Commands.{kind_named}
 use Rattle.uri_commands.specs.Refusals.{IsErrorOf}
 use Rattle.uri_commands.specs.declared.command.KindName.{KindName}
-
-pub refused_with : {A B : Type 0} (P : B → Type 0) (result : Result A B) (e : B)
-    → IsErrAnd result (λ x. x ≡ e) → P e → IfErr result P
-refused_with P (Ok a) e is p = tt
-refused_with P (Err x) e is p = subst P (sym is) p
+use Rattle.fluent_uri.proofs.Outcomes.{refused_with}
 
 pub refused_as : {A B : Type 0} (P : B → Type 0) (result : Result A B) (e : B)
     → IfErr result (λ x. x ≡ e) → P e → IfErr result P
@@ -27,7 +23,8 @@ pub text_refused : {A B : Type 0} (P : B → Type 0) (told : ParseError → B)
     → IsErrAnd result (λ x. x ≡ told e) → IfErr result P
 text_refused P told name named text result e is same none err given =
     refused_with P result (told e) given
-    (is e (subst (λ k. IsErrorOf (kind_named k) text e) (sym same) (λ of_kind. cc (none of_kind), err)))
+    (is e (subst (λ k. IsErrorOf (kind_named k) text e) (sym same)
+    (λ of_kind. cc (none of_kind), err)))
 
 -- the refusal of a text, as `map_err` tells it
 pub mapped_refused : {A B C : Type 0} (P : B → Type 0) (told : ParseError → B) (kind : Kind)
@@ -37,14 +34,17 @@ pub mapped_refused : {A B C : Type 0} (P : B → Type 0) (told : ParseError → 
     → (IsOk parsed ↔ IsOfKind kind text) → IfErr parsed (IsErrorIn text)
     → MatchResult parsed (λ x. mapped ≡ Ok x) (λ e. IsErrAnd mapped (λ y. y ≡ told e))
     → mapped ≡ Err why → IsErrAnd result (λ y. y ≡ why) → IfErr result P
-mapped_refused P told kind text (Ok x) mapped result why is accepts err cases was given = cc (sym cases ∙ was)
+mapped_refused P told kind text (Ok x) mapped result why is accepts err cases was given =
+    cc (sym cases ∙ was)
 mapped_refused P told kind text (Err e) mapped result why is accepts err cases was given =
     let same : why ≡ told e = subst (λ m. IsErrAnd m (λ y. y ≡ told e)) was cases in
-    refused_with P result why given (subst P (sym same) (is e (λ of_kind. cc (accepts.1 of_kind), err)))
+    refused_with P result why given
+    (subst P (sym same) (is e (λ of_kind. cc (accepts.1 of_kind), err)))
 
 -- what was read before is of its kind
 pub mapped_read : {A B E : Type 0} (kind : Kind) (text : List ℕ) (parsed : Result A E)
     (mapped : Result A B) (value : A)
     → (IsOk parsed ↔ IsOfKind kind text) → is_ok mapped ≡ is_ok parsed → mapped ≡ Ok value
     → IsOfKind kind text
-mapped_read kind text parsed mapped value accepts variant was = accepts.0 (sym variant ∙ ap is_ok was)
+mapped_read kind text parsed mapped value accepts variant was =
+    accepts.0 (sym variant ∙ ap is_ok was)

@@ -14,7 +14,8 @@ target_is base reference target is = ap result_ok is
 
 pub target_answered : {A B : Type 0} (text_of : A → List ℕ) (base reference : List ℕ)
     (result : Result A B)
-    → IfOk result (λ target. resolution_of (components base) (components reference) ≡ Ok (text_of target))
+    → IfOk result (λ target. resolution_of (components base) (components reference)
+    ≡ Ok (text_of target))
     → IfOk result (λ target. target_text base reference ≡ Some (text_of target))
 target_answered text_of base reference (Ok target) is = target_is base reference (text_of target) is
 target_answered text_of base reference (Err error) is = is

@@ -41,7 +41,7 @@ impl<'a> From<Uri<&'a str>> for Texts<'a> {
 impl<'a> From<UriRef<&'a str>> for Texts<'a> {
     ghost use Rattle.std.specs.Prelude.{◌≡◌};
     ghost use Rattle.fluent_uri.specs.Components.{components};
-    ghost use Rattle.fluent_uri.specs.UriRefs.{uri_ref_text};
+    ghost use Rattle.fluent_uri.specs.Uris.{uri_ref_text};
     ghost use Rattle.uri_commands.specs.Texts.{components_in};
 
     ghost from_gives = { λ reference texts.
@@ -80,7 +80,7 @@ impl<'a> From<Iri<&'a str>> for Texts<'a> {
 impl<'a> From<IriRef<&'a str>> for Texts<'a> {
     ghost use Rattle.std.specs.Prelude.{◌≡◌};
     ghost use Rattle.fluent_uri.specs.Components.{components};
-    ghost use Rattle.fluent_uri.specs.IriRefs.{iri_ref_text};
+    ghost use Rattle.fluent_uri.specs.Iris.{iri_ref_text};
     ghost use Rattle.uri_commands.specs.Texts.{components_in};
 
     ghost from_gives = { λ reference texts.

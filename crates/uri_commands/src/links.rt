@@ -4,7 +4,7 @@ ghost use Rattle.std.specs.Prelude.{◌≡◌, ◌≢◌, ◌<◌, ◌∷◌, �
 ghost use Rattle.std.specs.Prelude.{length, map, true, codes};
 ghost use Rattle.std.specs.Io.KnownBytes.{Appends};
 ghost use Rattle.fluent_uri.specs.Grammar.{IsOfKind, uri, uri_ref};
-ghost use Rattle.fluent_uri.specs.UriRefs.{uri_ref_text};
+ghost use Rattle.fluent_uri.specs.Uris.{uri_ref_text};
 ghost use Rattle.uri_links.specs.OutcomesInWords.{HasText};
 ghost use Rattle.uri_links.specs.Registers.{texts_of};
 ghost use Rattle.uri_commands.specs.Commands.{Links, are_of_kind, texts};

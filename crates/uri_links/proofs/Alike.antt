@@ -28,7 +28,8 @@ some_tokens a b = slice_eq-Decides token a b (same_tokens a b) refl
 
 host : (a b : HostMeaning) → Decides (same_host a b) (a ≡ b)
 host (Address a) (Address b) = Decides-like _ (ap Address) (λ e. cc) (bytes_eq-Decides a b)
-host (FutureAddress a) (FutureAddress b) = Decides-like _ (ap FutureAddress) (λ e. cc) (bytes_eq-Decides a b)
+host (FutureAddress a) (FutureAddress b) =
+    Decides-like _ (ap FutureAddress) (λ e. cc) (bytes_eq-Decides a b)
 host (Name a) (Name b) = Decides-like _ (ap Name) (λ e. cc) (some_tokens a b)
 host (Address a) (FutureAddress b) = (λ e. cc, λ e. cc)
 host (Address a) (Name b) = (λ e. cc, λ e. cc)
@@ -39,16 +40,38 @@ host (Name a) (FutureAddress b) = (λ e. cc, λ e. cc)
 
 authority : (a b : AuthorityMeaning) → Decides (same_authority a b) (a ≡ b)
 authority a b =
-    Decides-like _ (λ e. λ i. record { userinfo = e.0 i; host = e.1.0 i; port = e.1.1 i }) (λ e. (ap (λ (m : AuthorityMeaning). m.userinfo) e, (ap (λ (m : AuthorityMeaning). m.host) e, ap (λ (m : AuthorityMeaning). m.port) e)))
+    Decides-like _ (λ e. λ i. record { userinfo = e.0 i; host = e.1.0 i; port = e.1.1 i })
+    (λ e. (
+      ap (λ (m : AuthorityMeaning). m.userinfo) e,
+      (ap (λ (m : AuthorityMeaning). m.host) e, ap (λ (m : AuthorityMeaning). m.port) e),
+    ))
     (Decides-and _ _ (same_option same_tokens some_tokens a.userinfo b.userinfo)
     (Decides-and _ _ (host a.host b.host) (same_option bytes_eq bytes_eq-Decides a.port b.port)))
 
 pub same : (m n : Meaning) → Decides (same_meaning m n) (m ≡ n)
 unfolding same_meaning
 same m n =
-    Decides-like _ (λ e. λ i. record { scheme = e.0 i; authority = e.1.0 i; path = e.1.1.0 i; query = e.1.1.1.0 i; fragment = e.1.1.1.1 i })
-    (λ e. (ap (λ (x : Meaning). x.scheme) e, (ap (λ (x : Meaning). x.authority) e, (ap (λ (x : Meaning). x.path) e, (ap (λ (x : Meaning). x.query) e, ap (λ (x : Meaning). x.fragment) e)))))
+    Decides-like _
+    (λ e. λ i. record {
+      scheme = e.0 i;
+      authority = e.1.0 i;
+      path = e.1.1.0 i;
+      query =
+          e.1.1.1.0 i;
+      fragment = e.1.1.1.1 i;
+    })
+    (λ e. (
+      ap (λ (x : Meaning). x.scheme) e,
+      (
+        ap (λ (x : Meaning). x.authority) e,
+        (
+          ap (λ (x : Meaning). x.path) e,
+          (ap (λ (x : Meaning). x.query) e, ap (λ (x : Meaning). x.fragment) e),
+        ),
+      ),
+    ))
     (Decides-and _ _ (same_option bytes_eq bytes_eq-Decides m.scheme n.scheme)
     (Decides-and _ _ (same_option same_authority authority m.authority n.authority)
     (Decides-and _ _ (some_tokens m.path n.path)
-    (Decides-and _ _ (same_option same_tokens some_tokens m.query n.query) (same_option same_tokens some_tokens m.fragment n.fragment)))))
+    (Decides-and _ _ (same_option same_tokens some_tokens m.query n.query)
+    (same_option same_tokens some_tokens m.fragment n.fragment)))))

@@ -6,3 +6,4 @@ pub mod Several
 pub mod InWords
 pub mod Ids
 mod Rows
+pub mod Theorems

@@ -6,7 +6,7 @@ use Rattle.std.proofs.lemmas.Bool.Decides.{same_from_decides, Decides-like}
 use Rattle.std.proofs.lemmas.Slice.Eq.{bytes_eq-Decides}
 use Rattle.fluent_uri.specs.Components.{components}
 use Rattle.fluent_uri.specs.Grammar.{Kind, uri, uri_ref}
-use Rattle.fluent_uri.specs.KindTexts.{IsTextOf}
+use Rattle.fluent_uri.specs.Grammar.{IsTextOf}
 use Rattle.fluent_uri.specs.Meaning.{meaning_of}
 use Rattle.fluent_uri.specs.Normal.{normal_text}
 use Rattle.fluent_uri.specs.Normalizers.{IsNormalForm}
@@ -16,7 +16,7 @@ use Rattle.fluent_uri.specs.Resolving.{IsRefusalFor}
 use Rattle.fluent_uri.specs.declared.resolve.ResolveError.{ResolveError}
 use Rattle.fluent_uri.specs.declared.resolve.ResolveError.TheVariants as Of
 use Rattle.uri_links.specs.Alike.{same_meaning}
-use Rattle.uri_links.specs.Outcomes.{outcome_of, place_of, placed, registered}
+use Rattle.uri_links.specs.Outcomes.{outcome_of, place_of_meaning, placed, registered}
 use Rattle.uri_links.specs.Registered.{AreNormal}
 use Rattle.uri_links.specs.declared.links.Outcome.{Outcome}
 use Rattle.uri_links.specs.declared.links.Outcome.TheVariants.{Refused}
@@ -38,22 +38,28 @@ same_answer : (ports : PortFunction) (target normal text : List ℕ)
 same_answer ports target normal text h of_kind own =
     let both = h.same text of_kind in
     same_from_decides {P = normal ≡ text} _ _ (bytes_eq-Decides normal text)
-    (Decides-like _ (λ e. both.1 (sym e) ∙ own) (λ e. sym (both.0 (e ∙ sym own))) (same (meaning_of uri ports text) (meaning_of uri ports target)))
+    (Decides-like _ (λ e. both.1 (sym e) ∙ own) (λ e. sym (both.0 (e ∙ sym own)))
+    (same (meaning_of uri ports text) (meaning_of uri ports target)))
 
 same_answers : (ports : PortFunction) (target normal : List ℕ) (texts : List (List ℕ))
     → IsNormalForm uri ports target normal → AllByRecursion (IsTextOf uri) texts
     → AreNormal ports texts
-    → AllByRecursion (λ text. bytes_eq normal text ≡ same_meaning (meaning_of uri ports text) (meaning_of uri ports target)) texts
+    → AllByRecursion (λ text. bytes_eq normal text
+    ≡ same_meaning (meaning_of uri ports text) (meaning_of uri ports target)) texts
 same_answers ports target normal [] h of_kind own = tt
-same_answers ports target normal (text ∷ texts) h of_kind own =
-    (same_answer ports target normal text h of_kind.0 (cc), same_answers ports target normal texts h of_kind.1 (cc))
+same_answers ports target normal (text ∷ texts) h of_kind own = (
+  same_answer ports target normal text h of_kind.0 (cc),
+  same_answers ports target normal texts h
+      of_kind.1 (cc),
+)
 
 -- so it stands where a text has the meaning of the target
 same_place : (ports : PortFunction) (target normal : List ℕ) (texts : List (List ℕ))
     → IsNormalForm uri ports target normal → AllByRecursion (IsTextOf uri) texts
     → AreNormal ports texts
-    → position (bytes_eq normal) texts ≡ place_of ports texts (meaning_of uri ports target)
-same_place ports target normal texts h of_kind own = alike _ _ texts (same_answers ports target normal texts h of_kind own)
+    → position (bytes_eq normal) texts ≡ place_of_meaning ports texts (meaning_of uri ports target)
+same_place ports target normal texts h of_kind own =
+    alike _ _ texts (same_answers ports target normal texts h of_kind own)
 
 -- what stands where by its text is noted so by its meaning
 pub noted : (ports : PortFunction) (base reference normal : List ℕ) (texts : List (List ℕ))
@@ -66,7 +72,8 @@ unfolding outcome_of
 noted ports base reference normal texts outcome h of_kind own e =
     let target = h.target.0 in
     ap (registered ports texts) h.target.1.0
-    ∙ (λ i. placed (sym (same_place ports target normal texts h.target.1.1 of_kind own) i) texts (sym h.target.1.1.text.text i))
+    ∙ (λ i. placed (sym (same_place ports target normal texts h.target.1.1 of_kind own) i) texts
+    (sym h.target.1.1.text.text i))
     ∙ e
 
 -- a reference that has no target is refused
@@ -76,7 +83,8 @@ pub noted_refusal : (ports : PortFunction) (base reference : List ℕ) (texts : 
     → outcome_of ports base texts reference ≡ (Refused error, texts)
 unfolding outcome_of
 noted_refusal ports base reference texts Of.BaseWithFragment h m = ap (registered ports texts) h
-noted_refusal ports base reference texts Of.InvalidReferenceAgainstOpaqueBase h m = ap (registered ports texts) h
+noted_refusal ports base reference texts Of.InvalidReferenceAgainstOpaqueBase h m =
+    ap (registered ports texts) h
 noted_refusal ports base reference texts Of.PathUnderflow h m = absurd h
 noted_refusal ports base reference texts Of.OutOfMemory h m = absurd (m refl)
 

@@ -7,7 +7,9 @@ use Rattle.std.proofs.lemmas.List.Folds.{position_or_len_push}
 
 pub bounded : {X : Type 0} (p : X → Bool) (xs : List X) → position_or_len p xs ≤ length xs
 bounded p [] = omega arith
-bounded p (x ∷ xs) = let rest : position_or_len p xs ≤ length xs = bounded p xs in elim (p x) as (λ b. cond (not b) (1 + position_or_len p xs) 0 ≤ length (x ∷ xs)) [ true ↦ omega arith | false ↦ omega arith ]
+bounded p (x ∷ xs) = let rest : position_or_len p xs ≤ length xs = bounded p xs in
+    elim (p x) as (λ b. cond (not b) (1 + position_or_len p xs) 0 ≤ length (x ∷ xs))
+    [ true ↦ omega arith | false ↦ omega arith ]
 
 -- two tests that agree on each element pass first at one place
 first_alike : {X : Type 0} (p q : X → Bool) (xs : List X) → AllByRecursion (λ x. p x ≡ q x) xs
@@ -22,19 +24,23 @@ alike p q xs h = ap (λ n. cond (ltb n (length xs)) (Some n) None) (first_alike 
 -- an element at the end that passes is first where none before it does
 pub pushed : {X : Type 0} (p : X → Bool) (xs : List X) (y : X) → position p xs ≡ None → p y ≡ true
     → position p (xs ++ y ∷ []) ≡ Some (length xs)
-pushed p xs y none passes = grind (arith, nat_tests, bounded p xs, position_or_len_push p xs y, length-append xs (y ∷ []))
+pushed p xs y none passes =
+    grind (arith, nat_tests, bounded p xs, position_or_len_push p xs y, length-append xs (y ∷ []))
 
 -- one that does not makes no difference
 pub pushed_past : {X : Type 0} (p : X → Bool) (xs : List X) (y : X) → p y ≡ false
     → position p (xs ++ y ∷ []) ≡ position p xs
-pushed_past p xs y fails = grind (arith, nat_tests, bounded p xs, position_or_len_push p xs y, length-append xs (y ∷ []))
+pushed_past p xs y fails =
+    grind (arith, nat_tests, bounded p xs, position_or_len_push p xs y, length-append xs (y ∷ []))
 
 none_passes : {X : Type 0} (p : X → Bool) (xs : List X) → position_or_len p xs ≡ length xs
     → list_any p xs ≡ false
 none_passes p [] e = refl
 none_passes p (x ∷ xs) e =
     let rest : position_or_len p xs ≡ length xs → list_any p xs ≡ false = none_passes p xs in
-    (elim (p x) as (λ b. cond (not b) (1 + position_or_len p xs) 0 ≡ suc (length xs) → (b || list_any p xs) ≡ false) [ true ↦ λ h. absurd (omega arith) | false ↦ λ h. rest (omega arith) ]) e
+    (elim (p x) as (λ b. cond (not b) (1 + position_or_len p xs) 0 ≡ suc (length xs)
+    → (b || list_any p xs) ≡ false)
+    [ true ↦ λ h. absurd (omega arith) | false ↦ λ h. rest (omega arith) ]) e
 
 pub none : {X : Type 0} (p : X → Bool) (xs : List X) → position p xs ≡ None → list_any p xs ≡ false
 none p xs e = none_passes p xs (grind (arith, nat_tests, bounded p xs))

@@ -37,20 +37,33 @@ sibling = codes "http://x/a/c"
 to_the_root :
     Comes base [] (codes "//X:80/") (New 0) (root ∷ [])
     × Comes base (root ∷ []) (codes "/") (Known 0) (root ∷ [])
-unfolding Comes base root outcome_of same_meaning ports chars encode_utf8 read_ipv4 read_octet read_number Tokens.is_pct_encoded Tokens.tokens_of Pieces.following Pieces.pieces_from Reading.is_readable Reading.is_bidi_formatting Reading.is_never_literal Reading.read_run Reading.read_from host_kind ipv4_value run remove_dot_segments directory
+unfolding Comes base root outcome_of same_meaning ports chars encode_utf8 read_ipv4 read_octet
+    read_number Tokens.is_pct_encoded Tokens.tokens_of Pieces.following Pieces.pieces_from
+    Reading.is_readable Reading.is_bidi_formatting Reading.is_never_literal Reading.read_run
+    Reading.read_from host_kind ipv4_value run remove_dot_segments directory
 to_the_root = (refl, refl)
 
 -- neither do dot segments, and octets that stand for characters that need none
 to_a_sibling :
     Comes base (root ∷ []) (codes "c") (New 1) (root ∷ sibling ∷ [])
     × Comes base (root ∷ sibling ∷ []) (codes "../a/%63") (Known 1) (root ∷ sibling ∷ [])
-    × Comes base (root ∷ sibling ∷ []) (codes "#t") (New 2) (root ∷ sibling ∷ codes "http://x/a/b#t" ∷ [])
-unfolding Comes base root sibling outcome_of same_meaning ports chars encode_utf8 read_ipv4 read_octet read_number Tokens.is_pct_encoded Tokens.tokens_of Pieces.following Pieces.pieces_from Reading.is_readable Reading.is_bidi_formatting Reading.is_never_literal Reading.read_run Reading.read_from host_kind ipv4_value run remove_dot_segments directory
+    × Comes base (root ∷ sibling ∷ []) (codes "#t") (New 2)
+    (root ∷ sibling ∷ codes "http://x/a/b#t" ∷ [])
+unfolding Comes base root sibling outcome_of same_meaning ports chars encode_utf8 read_ipv4
+    read_octet read_number Tokens.is_pct_encoded Tokens.tokens_of Pieces.following
+    Pieces.pieces_from Reading.is_readable Reading.is_bidi_formatting Reading.is_never_literal
+    Reading.read_run Reading.read_from host_kind ipv4_value run remove_dot_segments
+    directory
 to_a_sibling = (refl, refl, refl)
 
 -- what has no target is refused and not registered, and what comes after it counts
 refused :
-    outcomes_of ports (codes "foo:bar") [] (codes "//g" ∷ codes "foo:x" ∷ []) ≡ (Refused InvalidReferenceAgainstOpaqueBase ∷ New 0 ∷ [], codes "foo:x" ∷ [])
+    outcomes_of ports (codes "foo:bar") [] (codes "//g" ∷ codes "foo:x" ∷ [])
+    ≡ (Refused InvalidReferenceAgainstOpaqueBase ∷ New 0 ∷ [], codes "foo:x" ∷ [])
     × Comes (codes "http://x/#f") (root ∷ []) (codes "a") (Refused BaseWithFragment) (root ∷ [])
-unfolding Comes root outcome_of outcomes_of same_meaning ports chars encode_utf8 read_ipv4 read_octet read_number Tokens.is_pct_encoded Tokens.tokens_of Pieces.following Pieces.pieces_from Reading.is_readable Reading.is_bidi_formatting Reading.is_never_literal Reading.read_run Reading.read_from host_kind ipv4_value run remove_dot_segments directory
+unfolding Comes root outcome_of outcomes_of same_meaning ports chars encode_utf8 read_ipv4
+    read_octet read_number Tokens.is_pct_encoded Tokens.tokens_of Pieces.following
+    Pieces.pieces_from Reading.is_readable Reading.is_bidi_formatting Reading.is_never_literal
+    Reading.read_run Reading.read_from host_kind ipv4_value run remove_dot_segments
+    directory
 refused = (refl, refl)

@@ -10,7 +10,8 @@ use Rattle.uri_links.specs.declared.links.Outcome.{Outcome}
 -- the outcomes and texts, after one more reference
 abbrev with_one : PortFunction → List ℕ → List ℕ → List Outcome × List (List ℕ)
     → List Outcome × List (List ℕ)
-with_one ports base reference before = let last = outcome_of ports base before.1 reference in (before.0 ++ last.0 ∷ [], last.1)
+with_one ports base reference before = let last = outcome_of ports base before.1 reference in
+    (before.0 ++ last.0 ∷ [], last.1)
 
 pushed : (ports : PortFunction) (base : List ℕ) (texts references : List (List ℕ))
     (reference : List ℕ)
@@ -20,13 +21,15 @@ unfolding outcomes_of
 pushed ports base texts [] reference = refl
 pushed ports base texts (first ∷ references) reference =
     let one = outcome_of ports base texts first in
-    ap (λ (others : List Outcome × List (List ℕ)). (one.0 ∷ others.0, others.1)) (pushed ports base one.1 references reference)
+    ap (λ (others : List Outcome × List (List ℕ)). (one.0 ∷ others.0, others.1))
+    (pushed ports base one.1 references reference)
 
 module _ {A : Type 0} (text_of : A → List ℕ) (base : List ℕ) (texts : List (List ℕ))
     (references : List A) where
   -- the outcomes of the first n references, and the texts after them
   abbrev pub Come : PortFunction → ℕ → List Outcome → List (List ℕ) → Type 0
-  Come ports n outcomes after = outcomes_of ports base texts (map text_of (take n references)) ≡ (outcomes, after)
+  Come ports n outcomes after = outcomes_of ports base texts (map text_of (take n references))
+      ≡ (outcomes, after)
 
   pub none : (ports : PortFunction) → Come ports 0 [] texts
   unfolding outcomes_of
@@ -51,12 +54,15 @@ module _ {A : Type 0} (text_of : A → List ℕ) (base : List ℕ) (texts : List
       ap (outcomes_of ports base texts) (one_more n reference h e)
       ∙ pushed ports base texts (map text_of (take n references)) (text_of reference)
       ∙ ap (with_one ports base (text_of reference)) come
-      ∙ ap (λ (last : Outcome × List (List ℕ)). (outcomes ++ last.0 ∷ [], last.1)) (ap (λ q. outcome_of q base before (text_of reference)) (sym p) ∙ f)
+      ∙ ap (λ (last : Outcome × List (List ℕ)). (outcomes ++ last.0 ∷ [], last.1))
+      (ap (λ q. outcome_of q base before (text_of reference)) (sym p) ∙ f)
 
   -- some front of the references was noted
   pub front : {X E : Type 0} (result : Result X E) (ports : PortFunction) (n : ℕ)
       (outcomes : List Outcome) (after : List (List ℕ))
       → Come ports n outcomes after
-      → OnErr result ((n : ℕ) × (after ≡ (outcomes_of ports base texts (map text_of (take n references))).1))
+      → OnErr result
+      ((n : ℕ) × (after ≡ (outcomes_of ports base texts (map text_of (take n references))).1))
   front (Ok _) ports n outcomes after come = tt
-  front (Err _) ports n outcomes after come = (n, sym (ap (λ (all : List Outcome × List (List ℕ)). all.1) come))
+  front (Err _) ports n outcomes after come =
+      (n, sym (ap (λ (all : List Outcome × List (List ℕ)). all.1) come))

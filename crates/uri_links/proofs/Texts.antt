@@ -29,20 +29,26 @@ normal_pushed ports texts text h e = map-append _ texts (text ∷ []) ∙ (λ i.
 pub normal_after : (ports : PortFunction) (texts after : List (List ℕ)) (text : List ℕ)
     → after ≡ texts ++ text ∷ [] → AreNormal ports texts
     → normal_text (meaning_of uri ports text) ≡ text → AreNormal ports after
-normal_after ports texts after text a h e = subst (AreNormal ports) (sym a) (normal_pushed ports texts text h e)
+normal_after ports texts after text a h e =
+    subst (AreNormal ports) (sym a) (normal_pushed ports texts text h e)
 
 pub distinct_after : (texts after : List (List ℕ)) (text : List ℕ) → after ≡ texts ++ text ∷ []
     → IsDistinct bytes_eq texts → position (bytes_eq text) texts ≡ None → IsDistinct bytes_eq after
-distinct_after texts after text a h e = subst (IsDistinct bytes_eq) (sym a) (IsDistinct-push nat_list_eq_equiv texts text h (none (bytes_eq text) texts e))
+distinct_after texts after text a h e =
+    subst (IsDistinct bytes_eq) (sym a)
+    (IsDistinct-push nat_list_eq_equiv texts text h (none (bytes_eq text) texts e))
 
 place_pushed : (texts : List (List ℕ)) (text other : List ℕ) → position (bytes_eq text) texts ≡ None
     → position (bytes_eq other) (texts ++ text ∷ [])
     ≡ cond (bytes_eq text other) (Some (length texts)) (position (bytes_eq other) texts)
 place_pushed texts text other e =
-    let Placed : Bool → Type 0 = λ b. position (bytes_eq other) (texts ++ text ∷ []) ≡ cond b (Some (length texts)) (position (bytes_eq other) texts) in
+    let Placed : Bool → Type 0 = λ b. position (bytes_eq other) (texts ++ text ∷ [])
+    ≡ cond b (Some (length texts)) (position (bytes_eq other) texts) in
     let equal : (b : Bool) → bytes_eq text other ≡ b → Placed b =
     λ b. elim b as (λ b. bytes_eq text other ≡ b → Placed b) [
-      | true ↦ λ h. pushed (bytes_eq other) texts text (subst (λ t. position (bytes_eq t) texts ≡ None) ((bytes_eq-Decides text other).0 h) e) (nat_list_eq_equiv.symm other text ∙ h)
+      | true ↦ λ h. pushed (bytes_eq other) texts text
+          (subst (λ t. position (bytes_eq t) texts ≡ None) ((bytes_eq-Decides text other).0 h) e)
+          (nat_list_eq_equiv.symm other text ∙ h)
       | false ↦ λ h. pushed_past (bytes_eq other) texts text (nat_list_eq_equiv.symm other text ∙ h)
     ] in
     equal (bytes_eq text other) refl

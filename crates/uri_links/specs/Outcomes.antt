@@ -21,8 +21,8 @@ error_of BaseWithFragment = Of.BaseWithFragment
 error_of InvalidReferenceAgainstOpaqueBase = Of.InvalidReferenceAgainstOpaqueBase
 
 -- the place of the first text that has this meaning
-abbrev pub place_of : PortFunction → List (List ℕ) → Meaning → Option ℕ
-place_of ports texts meaning =
+abbrev pub place_of_meaning : PortFunction → List (List ℕ) → Meaning → Option ℕ
+place_of_meaning ports texts meaning =
     position (λ text. same_meaning (meaning_of uri ports text) meaning) texts
 
 -- what has a place is known by it; anything else is new, and its normal text goes to the end
@@ -35,7 +35,7 @@ abbrev pub registered : PortFunction → List (List ℕ) → Result (List ℕ) R
     × List (List ℕ)
 registered ports texts (Err refusal) = (Refused (error_of refusal), texts)
 registered ports texts (Ok target) =
-    let meaning = meaning_of uri ports target in placed (place_of ports texts meaning) texts
+    let meaning = meaning_of uri ports target in placed (place_of_meaning ports texts meaning) texts
     (normal_text meaning)
 
 -- one reference against the base: its outcome, and the texts after it

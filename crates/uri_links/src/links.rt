@@ -14,7 +14,7 @@ ghost use Rattle.fluent_uri.specs.NormalTargets.{IsNormalTarget};
 ghost use Rattle.fluent_uri.specs.Normalizers.{ports_of};
 ghost use Rattle.fluent_uri.specs.Resolving.{IsRefusalFor};
 ghost use Rattle.fluent_uri.specs.Target.{resolution_of};
-ghost use Rattle.fluent_uri.specs.UriRefs.{uri_ref_text};
+ghost use Rattle.fluent_uri.specs.Uris.{uri_ref_text};
 ghost use Rattle.fluent_uri.specs.Uris.{uri_text};
 ghost use Rattle.uri_links.specs.Outcomes.{outcome_of, outcomes_of, placed};
 ghost use Rattle.uri_links.specs.OutcomesInWords.{HasText, IsOutcome};

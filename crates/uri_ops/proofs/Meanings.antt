@@ -18,3 +18,4 @@ pub mod WrittenFormatting
 pub mod TakenReadings
 pub mod Decodable
 pub mod BracketedHosts
+pub mod ReadOctets

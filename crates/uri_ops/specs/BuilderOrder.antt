@@ -5,7 +5,7 @@ use Rattle.std.specs.Option.{option_map_or}
 use Rattle.std.proofs.lemmas.Bool.{and_from, and_parts, false≢true}
 use Rattle.uri_ops.specs.BuilderParts.{BuilderParts, takes_host, takes_port}
 use Rattle.uri_ops.specs.Builders.{Passes, any_authority, ends_in_authority, has_path}
-use Rattle.uri_ops.specs.Builders.{has_path_before_fragment, has_path_last, has_scheme, is_at_end}
+use Rattle.uri_ops.specs.Builders.{has_path_before_fragment, has_path_last, has_needed_scheme, is_at_end}
 use Rattle.uri_ops.specs.Builders.{is_before_authority, is_before_fragment, is_before_host}
 use Rattle.uri_ops.specs.Builders.{is_before_path, is_before_port, is_before_query}
 use Rattle.uri_ops.specs.Builders.{is_before_userinfo, is_fresh, is_fresh_reference}
@@ -21,14 +21,15 @@ weaker : (test next : BuilderParts → Bool)
     → ((p : BuilderParts) → test p ≡ true → next p ≡ true) → Passes (stands test) (stands next)
 unfolding stands
 weaker test next implied needs p h =
-    later p.failed (has_scheme needs p && test p) (has_scheme needs p && next p)
-    (λ e. let q = and_parts (has_scheme needs p) (test p) e in and_from _ _ q.0 (implied p q.1)) h
+    later p.failed (has_needed_scheme needs p && test p) (has_needed_scheme needs p && next p)
+    (λ e. let q = and_parts (has_needed_scheme needs p) (test p) e in
+    and_from _ _ q.0 (implied p q.1)) h
 
 pub fresh_reference : Passes is_fresh_reference is_fresh
 unfolding stands is_fresh
 fresh_reference needs p h =
-    later p.failed (has_scheme needs p && lacks_all p) (lacks_all p)
-    (λ e. (and_parts (has_scheme needs p) (lacks_all p) e).1) h
+    later p.failed (has_needed_scheme needs p && lacks_all p) (lacks_all p)
+    (λ e. (and_parts (has_needed_scheme needs p) (lacks_all p) e).1) h
 
 pub fresh_authority : Passes is_fresh_reference is_before_authority
 fresh_authority =

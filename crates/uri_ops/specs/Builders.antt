@@ -40,12 +40,12 @@ abbrev pub has_path : BuilderParts → Bool
 has_path p = is_some p.path
 
 -- there is a scheme where one is needed
-abbrev pub has_scheme : Bool → BuilderParts → Bool
-has_scheme needs_scheme p = is_some p.scheme || not needs_scheme
+abbrev pub has_needed_scheme : Bool → BuilderParts → Bool
+has_needed_scheme needs_scheme p = is_some p.scheme || not needs_scheme
 
 -- what is not marked failed has a scheme where one is needed, and these parts
 unfoldable pub stands : (BuilderParts → Bool) → Bool → BuilderParts → Bool
-stands test needs_scheme p = p.failed || (has_scheme needs_scheme p && test p)
+stands test needs_scheme p = p.failed || (has_needed_scheme needs_scheme p && test p)
 
 unfoldable pub is_fresh : Bool → BuilderParts → Bool
 is_fresh needs_scheme p = p.failed || lacks_all p

@@ -12,7 +12,7 @@ use Rattle.uri_parts.specs.Hosts.{HostKind, Ipv4, Ipv6, IpvFuture, RegName, host
 use Rattle.uri_parts.specs.Authority.{authority_parts}
 use Rattle.uri_parts.specs.Grammar.{Kind}
 use Rattle.uri_ops.specs.Dots.{is_empty, remove_dot_segments}
-use Rattle.uri_ops.specs.Ports.{PortFunction, no_defaults, is_default}
+use Rattle.uri_parts.specs.Ports.{PortFunction, no_defaults, is_default}
 use Rattle.uri_pct.specs.Delimiters.{slash}
 
 -- a host is the numbers of an IPv6 address, an address of a later version in brackets, or the

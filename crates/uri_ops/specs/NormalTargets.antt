@@ -1,16 +1,26 @@
 -- Resolving and normalising in one: RFC 3986, sections 5.2 and 6.2.2.
-use Rattle.std.specs.Prelude.{◌≡◌, ℕ, true, List, Ok, Err, is_ok}
+use Rattle.std.specs.Prelude.{ℕ, List, Result, false, ◌≡◌, true, Ok, Err, is_ok}
+use Rattle.std.specs.Result.{result_map_both}
+use Rattle.uri_parts.specs.Grammar.{Kind, IsTextOf}
+use Rattle.uri_ops.specs.Target.{Refusal, resolution_of_texts, BaseWithFragment}
+use Rattle.uri_ops.specs.Target.{InvalidReferenceAgainstOpaqueBase, resolution_of}
+use Rattle.uri_parts.specs.Ports.{PortFunction}
+use Rattle.uri_ops.specs.Meaning.{Meaning, meaning_of}
 use Rattle.uri_parts.specs.Components.{Components, components}
-use Rattle.uri_parts.specs.Grammar.{Kind}
-use Rattle.uri_ops.specs.Meaning.{meaning_of}
 use Rattle.uri_ops.specs.Normalizers.{IsNormalForm}
-use Rattle.uri_ops.specs.Ports.{PortFunction}
 use Rattle.uri_ops.specs.Resolving.{IsRefusalFor}
-use Rattle.uri_ops.specs.Target.{BaseWithFragment, InvalidReferenceAgainstOpaqueBase, resolution_of}
-use Rattle.uri_ops.specs.Target.{resolution_of_texts}
-use Rattle.uri_ops.specs.Texts.{IsTextOf}
 use Rattle.uri_ops.specs.declared.resolve.ResolveError.{ResolveError}
 use Rattle.uri_ops.specs.declared.resolve.ResolveError.TheVariants as Of
+
+-- section 4.1: a reference of the kind may stand without a scheme
+abbrev pub reference_kind : Kind → Kind
+reference_kind kind = record kind { needs_scheme = false }
+
+-- the meaning of the target, or the refusal
+abbrev pub resolved_meaning : Kind → PortFunction → List ℕ → List ℕ → Result Meaning Refusal
+resolved_meaning kind ports base reference =
+    result_map_both (meaning_of kind ports) (λ refusal. refusal)
+    (resolution_of_texts base reference)
 
 -- another text of the kind with the same meaning, such as the normal text
 pub record HasMeaningOf (kind : Kind) (ports : PortFunction) (text other : List ℕ) : Type 0 where

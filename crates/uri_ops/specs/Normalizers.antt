@@ -4,14 +4,14 @@ use Rattle.uri_parts.specs.Components.{components}
 use Rattle.uri_parts.specs.Grammar.{Kind}
 use Rattle.uri_ops.specs.Meaning.{meaning_of}
 use Rattle.uri_ops.specs.Normal.{normal_text}
-use Rattle.uri_ops.specs.NormalPaths.{path_underflows}
-use Rattle.uri_ops.specs.Ports.{PortFunction}
-use Rattle.uri_ops.specs.Texts.{IsTextOf}
+use Rattle.uri_ops.specs.Normal.{path_underflows}
+use Rattle.uri_parts.specs.Ports.{PortFunction}
+use Rattle.uri_parts.specs.Grammar.{IsTextOf}
 use Rattle.uri_ops.specs.declared.normalize.Normalizer.{Normalizer}
 
 -- the setting: dot segments may underflow
-abbrev pub allows_underflow : {P : Type 0} → Normalizer P → Bool
-allows_underflow n = n.allow_path_underflow
+abbrev pub normalizer_allows_underflow : {P : Type 0} → Normalizer P → Bool
+normalizer_allows_underflow n = n.allow_path_underflow
 
 -- the setting: the default ports
 abbrev pub ports_of : {P : Type 0} → Normalizer P → P

@@ -1,11 +1,21 @@
--- Resolving as a program answers it: RFC 3986, section 5.2.
-use Rattle.std.specs.Prelude.{◌≡◌, ℕ, Bool, true, false, List, Ok, Err, is_ok}
+-- What a resolver holds and answers: RFC 3986, section 5.2.
+use Rattle.std.specs.Prelude.{Bool, ◌≡◌, ℕ, true, false, List, Ok, Err, is_ok}
+use Rattle.uri_ops.specs.declared.resolve.Resolver.{Resolver}
 use Rattle.uri_parts.specs.Components.{Components, components}
 use Rattle.uri_ops.specs.declared.placed.Placed.{Placed}
 use Rattle.uri_ops.specs.declared.resolve.ResolveError.{ResolveError}
-use Rattle.uri_ops.specs.declared.resolve.ResolveError.TheVariants as Of
 use Rattle.uri_ops.specs.Target.{BaseWithFragment, InvalidReferenceAgainstOpaqueBase, cleaned_path}
 use Rattle.uri_ops.specs.Target.{guarded, target_underflows, resolution_of}
+use Rattle.uri_ops.specs.Encoded.{encoded_text}
+use Rattle.uri_ops.specs.declared.resolve.ResolveError.TheVariants as Of
+
+-- the base
+abbrev pub base_of : {R : Type 0} → Resolver R → R
+base_of r = r.base
+
+-- the setting: dot segments may underflow
+abbrev pub resolver_allows_underflow : {R : Type 0} → Resolver R → Bool
+resolver_allows_underflow r = r.allow_path_underflow
 
 -- the components of a text that a program holds with their places
 abbrev pub components_of : Placed → Components
@@ -37,3 +47,15 @@ IsRefusalFor base r Of.InvalidReferenceAgainstOpaqueBase =
     resolution_of base r ≡ Err InvalidReferenceAgainstOpaqueBase
 IsRefusalFor base r Of.PathUnderflow = ⊥
 IsRefusalFor base r Of.OutOfMemory = is_ok (resolution_of base r) ≡ true
+
+-- with its characters past ASCII as octets it is the target of the base and the reference changed
+-- so
+abbrev pub IsTargetOfEncoded : Bool → List ℕ → List ℕ → List ℕ → Type 0
+IsTargetOfEncoded allowed base reference target =
+    IsTarget allowed (components (encoded_text base)) (components (encoded_text reference))
+    (encoded_text target)
+
+-- it is the error for the base and the reference changed so, too
+abbrev pub IsErrorForEncoded : Bool → List ℕ → List ℕ → ResolveError → Type 0
+IsErrorForEncoded allowed base reference error =
+    IsErrorFor allowed (components (encoded_text base)) (components (encoded_text reference)) error

@@ -8,9 +8,9 @@ ghost use Rattle.uri_parts.specs.Grammar.{Kind, iri, iri_ref, uri, uri_ref};
 ghost use Rattle.uri_ops.specs.ComponentSets.{HasComponentSets, IsWithin};
 ghost use Rattle.uri_ops.specs.Encoded.{ascii_kind, encoded_text};
 ghost use Rattle.uri_ops.specs.Meaning.{bare_meaning_of, meaning_of};
-ghost use Rattle.uri_ops.specs.Ports.{PortFunction};
+ghost use Rattle.uri_parts.specs.Ports.{PortFunction};
 ghost use Rattle.uri_ops.specs.Target.{resolution_of_texts, target_underflows};
-ghost use Rattle.uri_ops.specs.Texts.{IsTextOf};
+ghost use Rattle.uri_parts.specs.Grammar.{IsTextOf};
 
 /// A text of a kind is of each kind with wider sets that needs no scheme where the one does not, as
 /// each URI is an IRI and a URI reference.

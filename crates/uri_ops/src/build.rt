@@ -1,7 +1,7 @@
 //! Building references (RFC 3986, section 5.3).
 ghost use Rattle.std.specs.Prelude.{◌≡◌, ◌↔◌, IfOk, IsOk, MatchOption, Some, [], false, true};
 ghost use Rattle.std.specs.Result.{result_err};
-ghost use Rattle.uri_pct.specs.EStrs.{text_of};
+ghost use Rattle.uri_pct.specs.EncodedTexts.{text_of};
 ghost use Rattle.uri_parts.specs.AuthorityTexts.{authority_text};
 ghost use Rattle.uri_parts.specs.Schemes.{scheme_text};
 ghost use Rattle.uri_ops.specs.BuilderParts.{Adds, Meets, no_parts, parts_text, with_authority};

@@ -4,8 +4,8 @@ ghost use Rattle.uri_parts.specs.Grammar.{Kind, iri, iri_ref, uri, uri_ref};
 ghost use Rattle.uri_ops.specs.ComponentSets.{HasComponentSets};
 ghost use Rattle.uri_ops.specs.Meaning.{bare_meaning_of, meaning_of, under};
 ghost use Rattle.uri_ops.specs.Normal.{normal_text};
-ghost use Rattle.uri_ops.specs.Ports.{PortFunction};
-ghost use Rattle.uri_ops.specs.Texts.{IsTextOf};
+ghost use Rattle.uri_parts.specs.Ports.{PortFunction};
+ghost use Rattle.uri_parts.specs.Grammar.{IsTextOf};
 
 /// The sets of the four kinds have what the laws below ask of a kind's (RFC 3986, sections 2.2, 2.3
 /// and 3, and RFC 3987, section 2.2).

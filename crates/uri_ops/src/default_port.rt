@@ -9,7 +9,7 @@ use uri_parts::component::Scheme;
 pub trait DefaultPort: Drop {
     ghost use Rattle.std.specs.Prelude.{◌≡◌};
     ghost use Rattle.uri_parts.specs.Schemes.{lowered_scheme};
-    ghost use Rattle.uri_ops.specs.Ports.{PortFunction};
+    ghost use Rattle.uri_parts.specs.Ports.{PortFunction};
 
     ghost port_of: { Self → PortFunction };
 

@@ -2,7 +2,7 @@
 ghost use Rattle.std.specs.Prelude.{◌≡◌, ◌≤◌, ◌<◌, ◌++◌, ◌+◌, IfOk, OnOk, false, true, length};
 ghost use Rattle.std.specs.Prelude.{drop, take, string_bytes};
 ghost use Rattle.std.specs.Str.{IsCharBoundary};
-ghost use Rattle.uri_parts.specs.Appending.{Pushes};
+ghost use Rattle.uri_pct.specs.Texts.{Pushes};
 ghost use Rattle.uri_parts.specs.Components.{IsRooted};
 ghost use Rattle.uri_ops.specs.Models.Directories.{IsLeft, IsPlainDirectory, parent_directory};
 ghost use Rattle.uri_ops.specs.Models.LeadingSegments.{IsNoDots};
@@ -37,8 +37,8 @@ fn end_of_slashes(bytes: &[u8], start: usize) -> usize
     left
 }
 
-/// Where the last `/` stands that is not before `start`, or `start` if there is none, of a text that
-/// has none from `limit` on.
+/// Where the last `/` stands that is not before `start`, or `start` if there is none, of a text
+/// that has none from `limit` on.
 #[inline(always)]
 fn slash_before(bytes: &[u8], start: usize, limit: usize) -> usize
     requires from { start ≤ limit }
@@ -114,7 +114,8 @@ pub(crate) fn has_dot_segments(path: &str) -> bool
 }
 
 /// Appends what the pieces make of the segments of a path, without dot segments, to the directory
-/// that stands in `out` from `start` on, and answers whether a double dot had nothing left to remove.
+/// that stands in `out` from `start` on, and answers whether a double dot had nothing left to
+/// remove.
 ///
 /// Segments that can't be dot segments are one piece, with the `/` between them. It is inlined, so
 /// that for each caller it is a constant how the pieces are appended.

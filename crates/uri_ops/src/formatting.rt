@@ -4,7 +4,7 @@ ghost use Rattle.std.specs.Prelude.{◌≡◌, ◌++◌, OnOk, string_bytes, tak
 ghost use Rattle.std.specs.List.{list_any};
 ghost use Rattle.std.specs.Str.{IsCharBoundary, chars};
 ghost use Rattle.uri_pct.specs.Reading.{is_bidi_formatting};
-ghost use Rattle.uri_ops.specs.Formatting.{written_char, written_text};
+ghost use Rattle.uri_pct.specs.Reading.{written_char, written_text};
 
 use std::alloc::AllocError;
 use uri_pct::encode::push_octets;

@@ -5,7 +5,7 @@ ghost use Rattle.std.specs.Char.{digit_value, is_ascii_hexdigit};
 ghost use Rattle.uri_pct.specs.Reading.{read_alone};
 ghost use Rattle.uri_pct.specs.Sets.{is_unreserved};
 ghost use Rattle.uri_pct.specs.Tokens.{Octet, print};
-ghost use Rattle.uri_parts.specs.Appending.{Pushes};
+ghost use Rattle.uri_pct.specs.Texts.{Pushes};
 ghost use Rattle.uri_ops.specs.Models.Readings.{cased, cased_code, cased_text};
 ghost use Rattle.uri_ops.specs.declared.fronts.TheConstants.{LOWERED, UNRESERVED};
 

@@ -3,7 +3,7 @@ ghost use Rattle.std.specs.Prelude.{◌≡◌, ◌==◌, [], IfOk, OnOk, codes, 
 ghost use Rattle.std.specs.Prelude.{string_bytes};
 ghost use Rattle.std.specs.Option.{option_map_or};
 ghost use Rattle.uri_pct.specs.Delimiters.{left_bracket};
-ghost use Rattle.uri_parts.specs.Appending.{Pushes};
+ghost use Rattle.uri_pct.specs.Texts.{Pushes};
 ghost use Rattle.uri_parts.specs.Authority.{authority_parts};
 ghost use Rattle.uri_parts.specs.AuthorityTexts.{authority_text};
 ghost use Rattle.uri_parts.specs.Components.{marked, starts};
@@ -12,8 +12,8 @@ ghost use Rattle.uri_parts.specs.Hosts.{host_kind};
 ghost use Rattle.uri_parts.specs.Schemes.{scheme_text};
 ghost use Rattle.uri_ops.specs.Meaning.{authority_meaning, host_meaning, port_meaning};
 ghost use Rattle.uri_ops.specs.Normal.{host_text, normal_authority, normal_part, normal_parts};
-ghost use Rattle.uri_ops.specs.NormalPorts.{default_of};
-ghost use Rattle.uri_ops.specs.Models.Written.{parts_at};
+ghost use Rattle.uri_ops.specs.Normal.{default_of};
+ghost use Rattle.uri_ops.specs.Models.Written.{authority_parts_at};
 
 use crate::default_port::DefaultPort;
 use crate::reading::{push_component, push_lower, push_read_host};
@@ -42,7 +42,7 @@ pub fn push_authority<U: Encoder, R: Encoder, P: DefaultPort>(
     ensures places { let default = default_of (P.port_of ports.now)
         (option_map scheme_text scheme.entry) in
         (kind : Kind) → kind.userinfo ≡ U.set → kind.reg_name ≡ R.set
-        → IfOk result (λ places. places ≡ parts_at (length (string_bytes out.old))
+        → IfOk result (λ places. places ≡ authority_parts_at (length (string_bytes out.old))
         (normal_parts (authority_meaning kind default (authority_text authority.entry)))) }
 {
     let start = out.len();

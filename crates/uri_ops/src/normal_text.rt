@@ -2,10 +2,10 @@
 ghost use Rattle.std.specs.Prelude.{◌≡◌, ◌+◌, ◌<◌, ◌++◌, ◌∷◌, ℕ, List, Option, [], IfOk, OnOk};
 ghost use Rattle.std.specs.Prelude.{codes, is_some, length, option_map, string_bytes, true};
 ghost use Rattle.uri_pct.specs.Delimiters.{slash};
-ghost use Rattle.uri_pct.specs.EStrs.{text_of};
+ghost use Rattle.uri_pct.specs.EncodedTexts.{text_of};
 ghost use Rattle.uri_pct.specs.Reading.{read};
 ghost use Rattle.uri_pct.specs.Tokens.{print, IsValidFor};
-ghost use Rattle.uri_parts.specs.Appending.{Pushes};
+ghost use Rattle.uri_pct.specs.Texts.{Pushes};
 ghost use Rattle.uri_parts.specs.AuthorityTexts.{authority_text};
 ghost use Rattle.uri_parts.specs.Components.{components, has_authority, marked};
 ghost use Rattle.uri_parts.specs.CoreTexts.{core_text};
@@ -16,10 +16,10 @@ ghost use Rattle.uri_ops.specs.Dots.{IsAbsolute, remove_dot_segments, underflows
 ghost use Rattle.uri_ops.specs.Meaning.{authority_meaning, meaning_of};
 ghost use Rattle.uri_ops.specs.Normal.{marked_authority, normal_components, normal_part};
 ghost use Rattle.uri_ops.specs.Normal.{normal_parts, normal_scheme, normal_text};
-ghost use Rattle.uri_ops.specs.NormalPaths.{path_text, path_underflows};
-ghost use Rattle.uri_ops.specs.NormalPorts.{default_of};
+ghost use Rattle.uri_ops.specs.Normal.{path_text, path_underflows};
+ghost use Rattle.uri_ops.specs.Normal.{default_of};
 ghost use Rattle.uri_ops.specs.Target.{guarded};
-ghost use Rattle.uri_ops.specs.Models.Written.{parts_at, written_at};
+ghost use Rattle.uri_ops.specs.Models.Written.{authority_parts_at, written_at};
 
 use crate::default_port::DefaultPort;
 use crate::dot_segments::has_dot_segments;
@@ -70,7 +70,7 @@ fn push_marked_authority<U: Encoder, R: Encoder, P: DefaultPort>(
         (option_map scheme_text scheme.entry) in
         (kind : Kind) → kind.userinfo ≡ U.set → kind.reg_name ≡ R.set
         → IfOk result (λ places. places
-        ≡ option_map (λ a. parts_at (length (string_bytes out.old) + 2)
+        ≡ option_map (λ a. authority_parts_at (length (string_bytes out.old) + 2)
         (normal_parts (authority_meaning kind default a)))
         (option_map authority_text authority.entry)) }
 {
@@ -119,7 +119,7 @@ fn guard_before(follows_authority: bool, path: &str) -> &'static str
 }
 
 /// Appends what is read of a path, with `/.` before it where it would be read as an authority.
-fn push_guarded<E: Encoder>(
+fn push_read_guarded<E: Encoder>(
     alloc: Global,
     follows_authority: bool,
     path: &str,
@@ -136,7 +136,7 @@ fn push_guarded<E: Encoder>(
 
 /// Appends what is read of a path without its dot segments, with `/.` before it where it would be
 /// read as an authority, and answers whether a double dot had nothing left to remove.
-fn push_cleaned<E: Encoder>(
+fn push_read_cleaned<E: Encoder>(
     alloc: Global,
     has_authority: bool,
     path: EStr<'_, E>,
@@ -175,15 +175,15 @@ fn push_absolute<E: Encoder>(
     ensures underflow { IfOk result (λ underflowed. underflowed ≡ underflows (text_of path.entry)) }
 {
     if has_dot_segments(path.as_str()) {
-        return push_cleaned(alloc, has_authority, path, out);
+        return push_read_cleaned(alloc, has_authority, path, out);
     }
-    push_guarded::<E>(alloc, has_authority, path.as_str(), out)?;
+    push_read_guarded::<E>(alloc, has_authority, path.as_str(), out)?;
     Ok(false)
 }
 
 /// Appends a path as it stands in a normal text, and answers whether a double dot had nothing left
 /// to remove. Only under a scheme and from a `/` on are dot segments removed.
-fn push_path<E: PathEncoder>(
+fn push_normal_path<E: PathEncoder>(
     alloc: Global,
     has_scheme: bool,
     has_authority: bool,
@@ -231,7 +231,7 @@ pub fn push_normal<K: Kind, P: DefaultPort>(
     let authority = push_marked_authority(alloc, core.authority(), scheme, ports, out)?;
     let path_start = out.len();
     let path = core.path();
-    let underflows = push_path(alloc, core.has_scheme(), core.has_authority(), path, out)?;
+    let underflows = push_normal_path(alloc, core.has_scheme(), core.has_authority(), path, out)?;
     let path_end = out.len();
     let query_end = push_marked(alloc, '?', core.query(), out)?;
     push_marked(alloc, '#', core.fragment(), out)?;

@@ -7,7 +7,8 @@ ghost use Rattle.uri_parts.specs.Grammar.{IsOfKind};
 ghost use Rattle.uri_parts.specs.Positions.{AreAt};
 ghost use Rattle.uri_parts.specs.SchemePorts.{default_port};
 ghost use Rattle.uri_ops.specs.ComponentSets.{HasComponentSets};
-ghost use Rattle.uri_ops.specs.Normalizers.{HasNormalText, IsNormalForm, allows_underflow};
+ghost use Rattle.uri_ops.specs.Normalizers.{HasNormalText, IsNormalForm};
+ghost use Rattle.uri_ops.specs.Normalizers.{normalizer_allows_underflow};
 ghost use Rattle.uri_ops.specs.Normalizers.{ports_of, text_underflows};
 ghost use Rattle.uri_ops.specs.declared.normalize.NormalizeError.TheVariants.{PathUnderflow};
 
@@ -149,7 +150,7 @@ impl Normalizer<SchemeDefaults> {
     ///
     /// It normalises `http://a:80/../b` to `http://a/b`.
     pub fn new() -> Normalizer<SchemeDefaults>
-        ensures { allows_underflow result ≡ true }
+        ensures { normalizer_allows_underflow result ≡ true }
     {
         Normalizer {
             allow_path_underflow: true,
@@ -159,7 +160,7 @@ impl Normalizer<SchemeDefaults> {
 }
 
 impl Default for Normalizer<SchemeDefaults> {
-    ghost is_default = { λ normalizer. allows_underflow normalizer ≡ true };
+    ghost is_default = { λ normalizer. normalizer_allows_underflow normalizer ≡ true };
 
     fn default() -> Self {
         Normalizer::new()
@@ -174,7 +175,7 @@ impl<P: DefaultPort> Normalizer<P> {
     ///
     /// `Normalizer::new().allow_path_underflow(false)` refuses `http://a/../b`.
     pub fn allow_path_underflow(self, value: bool) -> Normalizer<P>
-        ensures allows { allows_underflow result ≡ value }
+        ensures allows { normalizer_allows_underflow result ≡ value }
         ensures ports { ports_of result ≡ ports_of self }
     {
         Normalizer {
@@ -190,7 +191,7 @@ impl<P: DefaultPort> Normalizer<P> {
     /// With ports that answer 4673 for every scheme, `foo://localhost:4673` is normalised to
     /// `foo://localhost`.
     pub fn default_port_with<Q: DefaultPort>(self, ports: Q) -> Normalizer<Q>
-        ensures allows { allows_underflow result ≡ allows_underflow self }
+        ensures allows { normalizer_allows_underflow result ≡ normalizer_allows_underflow self }
         ensures ports { ports_of result ≡ ports }
     {
         Normalizer {
@@ -224,10 +225,12 @@ impl<P: DefaultPort> Normalizer<P> {
             IsNormalForm R.kind (P.port_of (ports_of self.now)) (R.text value.now)
             (R.owned_text normal)) }
         ensures allowed { IfOk result (λ _.
-            allows_underflow self.now ≡ false → text_underflows (R.text value.now) ≡ false) }
+            normalizer_allows_underflow self.now ≡ false
+            → text_underflows (R.text value.now) ≡ false) }
         ensures underflow { IfErr result (λ error.
             error ≡ PathUnderflow
-            → (allows_underflow self.now ≡ false) × (text_underflows (R.text value.now) ≡ true)) }
+            → (normalizer_allows_underflow self.now ≡ false)
+            × (text_underflows (R.text value.now) ≡ true)) }
     {
         let made = normal_form(alloc, value.core(), &self.ports)?;
         if made.underflows && !self.allow_path_underflow {

@@ -5,7 +5,7 @@ ghost use Rattle.uri_pct.specs.Delimiters.{slash};
 ghost use Rattle.uri_pct.specs.Reading.{read};
 ghost use Rattle.uri_pct.specs.Tables.{set_of};
 ghost use Rattle.uri_pct.specs.Tokens.{IsValidFor, print};
-ghost use Rattle.uri_parts.specs.Appending.{Pushes};
+ghost use Rattle.uri_pct.specs.Texts.{Pushes};
 ghost use Rattle.uri_ops.specs.Models.Pieces.{IsInPieces, in_pieces};
 
 use crate::reading::push_read;
@@ -19,8 +19,8 @@ fn is_slash(text: &[u8]) -> bool
     matches!(text, [b'/'])
 }
 
-/// Appends what is read of a piece of a path. A `/` by itself, as behind an empty segment, is read as
-/// it stands.
+/// Appends what is read of a piece of a path. A `/` by itself, as behind an empty segment, is read
+/// as it stands.
 #[inline(always)]
 fn push_piece(alloc: Global, table: &Table, piece: &str, out: &mut String) -> Result<(), AllocError>
     requires { IsValidFor widest_set piece.now }

@@ -38,8 +38,9 @@ fn plain_directory<'a>(base: &Placed<'a>) -> Option<&'a str>
     None
 }
 
-/// What of a base stands before a reference that has no path, where the base has an authority and its
-/// path no dot segments: all up to its query, or up to its fragment if the reference has no query.
+/// What of a base stands before a reference that has no path, where the base has an authority and
+/// its path no dot segments: all up to its query, or up to its fragment if the reference has no
+/// query.
 fn plain_base<'a>(base: &Placed<'a>, reference: &Placed<'_>) -> Option<&'a str>
     requires scheme { is_some (components_of reference.now).scheme ≡ false }
     requires authority { is_some (components_of reference.now).authority ≡ false }

@@ -4,7 +4,7 @@ ghost use Rattle.uri_pct.specs.Delimiters.{slash};
 ghost use Rattle.uri_pct.specs.Reading.{read};
 ghost use Rattle.uri_pct.specs.Tables.{set_of};
 ghost use Rattle.uri_pct.specs.Tokens.{IsValidFor, print};
-ghost use Rattle.uri_parts.specs.Appending.{Pushes};
+ghost use Rattle.uri_pct.specs.Texts.{Pushes};
 ghost use Rattle.uri_ops.specs.ComponentSets.{IsComponentSet};
 ghost use Rattle.uri_ops.specs.Dots.{IsAbsolute, remove_dot_segments, underflows};
 
@@ -14,8 +14,8 @@ use std::alloc::{AllocError, Global};
 use uri_pct::table::Table;
 
 /// Appends what is read of a path that begins with `/`, without its dot segments, and answers
-/// whether a double dot had nothing left to remove. A double dot takes back the last segment of what
-/// was appended.
+/// whether a double dot had nothing left to remove. A double dot takes back the last segment of
+/// what was appended.
 pub(crate) fn push_read_path(
     alloc: Global,
     table: &Table,

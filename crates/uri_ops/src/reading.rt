@@ -6,11 +6,11 @@ ghost use Rattle.std.specs.List.{position_or_len};
 ghost use Rattle.std.specs.Str.{str_to_ascii_lowercase};
 ghost use Rattle.uri_pct.specs.Chunks.{widest_set};
 ghost use Rattle.uri_pct.specs.Delimiters.{percent_sign};
-ghost use Rattle.uri_pct.specs.EStrs.{text_of};
+ghost use Rattle.uri_pct.specs.EncodedTexts.{text_of};
 ghost use Rattle.uri_pct.specs.Reading.{read, read_tokens, lower_token};
 ghost use Rattle.uri_pct.specs.Tables.{set_of};
 ghost use Rattle.uri_pct.specs.Tokens.{tokens, print, IsValidFor};
-ghost use Rattle.uri_parts.specs.Appending.{Pushes};
+ghost use Rattle.uri_pct.specs.Texts.{Pushes};
 ghost use Rattle.uri_ops.specs.Models.Readings.{cased};
 
 use crate::formatting::encode_formatting;

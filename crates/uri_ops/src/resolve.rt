@@ -4,13 +4,13 @@ ghost use Rattle.std.specs.Prelude.{string_bytes, Ok};
 ghost use Rattle.uri_parts.specs.Components.{components};
 ghost use Rattle.uri_parts.specs.Positions.{AreAt};
 ghost use Rattle.uri_ops.specs.Normalizers.{ports_of};
-ghost use Rattle.uri_ops.specs.EncodedTargets.{IsErrorForEncoded, IsTargetOfEncoded};
+ghost use Rattle.uri_ops.specs.Resolving.{IsErrorForEncoded, IsTargetOfEncoded};
 ghost use Rattle.uri_ops.specs.NormalTargets.{IsErrorOfMeanings, IsTargetOfMeanings};
 ghost use Rattle.uri_ops.specs.NormalTargets.{IsNormalTarget, IsRefusedAlike};
-ghost use Rattle.uri_ops.specs.Resolvers.{allows_underflow, base_of};
+ghost use Rattle.uri_ops.specs.Resolving.{resolver_allows_underflow, base_of};
 ghost use Rattle.uri_ops.specs.Resolving.{IsErrorFor, IsRefusalFor, IsTarget};
 ghost use Rattle.uri_ops.specs.Target.{resolution_of_texts};
-ghost use Rattle.uri_ops.specs.Texts.{IsTextOf};
+ghost use Rattle.uri_parts.specs.Grammar.{IsTextOf};
 
 use crate::default_port::DefaultPort;
 use crate::normalize::{Normalizer, normal_form_of};
@@ -162,7 +162,7 @@ impl<R: Ri> Resolver<R> {
     /// Against `http://a/b/c/d;p?q` it resolves `../../../g` to `http://a/g`.
     pub fn with_base(base: R) -> Resolver<R>
         ensures base { base_of result ≡ base }
-        ensures allows { allows_underflow result ≡ true }
+        ensures allows { resolver_allows_underflow result ≡ true }
     {
         Resolver {
             base,
@@ -179,7 +179,7 @@ impl<R: Ri> Resolver<R> {
     /// `http://a/b/c/d;p?q`.
     pub fn allow_path_underflow(self, value: bool) -> Resolver<R>
         ensures base { base_of result ≡ base_of self }
-        ensures allows { allows_underflow result ≡ value }
+        ensures allows { resolver_allows_underflow result ≡ value }
     {
         Resolver {
             base: self.base,
@@ -222,15 +222,15 @@ impl<R: Ri> Resolver<R> {
         reference: &Q,
     ) -> Result<R::Owned, ResolveError>
         ensures target { IfOk result (λ target.
-            IsTarget (allows_underflow self.now) (components (R.text (base_of self.now)))
+            IsTarget (resolver_allows_underflow self.now) (components (R.text (base_of self.now)))
             (components (Q.text reference.now)) (R.owned_text target)) }
         ensures error { IfErr result
-            (IsErrorFor (allows_underflow self.now) (components (R.text (base_of self.now)))
-            (components (Q.text reference.now))) }
+            (IsErrorFor (resolver_allows_underflow self.now)
+            (components (R.text (base_of self.now))) (components (Q.text reference.now))) }
         ensures encoded { IfOk result (λ target.
-            IsTargetOfEncoded (allows_underflow self.now) (R.text (base_of self.now))
+            IsTargetOfEncoded (resolver_allows_underflow self.now) (R.text (base_of self.now))
             (Q.text reference.now) (R.owned_text target)) }
-        ensures encoded_error { IfErr result (IsErrorForEncoded (allows_underflow self.now)
+        ensures encoded_error { IfErr result (IsErrorForEncoded (resolver_allows_underflow self.now)
             (R.text (base_of self.now)) (Q.text reference.now)) }
         ensures alike { IfOk result (λ target. IsTargetOfMeanings R.kind Q.kind
             (R.text (base_of self.now)) (Q.text reference.now) (R.owned_text target)) }

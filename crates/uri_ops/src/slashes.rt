@@ -21,8 +21,8 @@ pub fn begins_with_two_slashes(path: &[u8]) -> bool
     matches!(path, [b'/', b'/', ..])
 }
 
-/// Puts `/.` before the path that stands in `out` from `start` on, with no authority before it, where
-/// it would be read as one.
+/// Puts `/.` before the path that stands in `out` from `start` on, with no authority before it,
+/// where it would be read as one.
 pub(crate) fn guard_path(start: usize, out: &mut String) -> Result<(), AllocError>
     requires { IsCharBoundary (string_bytes out.old) start }
     ensures { OnOk result (string_bytes out.new

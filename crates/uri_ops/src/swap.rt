@@ -4,10 +4,10 @@ ghost use Rattle.uri_parts.specs.Grammar.{Kind};
 ghost use Rattle.uri_ops.specs.ComponentSets.{HasComponentSets};
 ghost use Rattle.uri_ops.specs.Meaning.{meaning_of};
 ghost use Rattle.uri_ops.specs.Normal.{normal_text};
-ghost use Rattle.uri_ops.specs.Ports.{PortFunction};
-ghost use Rattle.uri_ops.specs.References.{reference_kind, resolved_meaning};
+ghost use Rattle.uri_parts.specs.Ports.{PortFunction};
+ghost use Rattle.uri_ops.specs.NormalTargets.{reference_kind, resolved_meaning};
 ghost use Rattle.uri_ops.specs.Target.{resolution_of_texts};
-ghost use Rattle.uri_ops.specs.Texts.{IsTextOf};
+ghost use Rattle.uri_parts.specs.Grammar.{IsTextOf};
 
 /// The target of a reference against a base of a kind is a text of that kind (RFC 3986, section
 /// 5.2).

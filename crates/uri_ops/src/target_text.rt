@@ -2,7 +2,7 @@
 ghost use Rattle.std.specs.Prelude.{◌≡◌, ◌||◌, ◌+◌, ◌++◌, [], codes, false, length, IfOk};
 ghost use Rattle.std.specs.Prelude.{IfErr, OnOk, is_some, option_map, string_bytes, true};
 ghost use Rattle.uri_pct.specs.Delimiters.{number_sign};
-ghost use Rattle.uri_parts.specs.Appending.{Pushes};
+ghost use Rattle.uri_pct.specs.Texts.{Pushes};
 ghost use Rattle.uri_parts.specs.Components.{marked, recompose, starts};
 ghost use Rattle.uri_parts.specs.Positions.{AreAt, positions_of};
 ghost use Rattle.uri_ops.specs.Dots.{is_empty};
@@ -109,7 +109,7 @@ fn push_cleaned(path: &str, out: &mut String) -> Result<bool, AllocError>
 
 /// Appends the target's path without its dot segments, if it begins with `/`, and answers whether
 /// their removal underflows (RFC 3986, section 5.2.2).
-fn push_path(
+fn push_target_path(
     base: &Placed<'_>,
     reference: &Placed<'_>,
     out: &mut String,
@@ -134,7 +134,7 @@ fn push_path(
     push_merged(base.path(), path, out)
 }
 
-/// Appends a path like `push_path`, with `/.` before it where it would be read as an authority.
+/// Appends a path like `push_target_path`, with `/.` before it where it would be read as an authority.
 fn push_guarded(
     base: &Placed<'_>,
     reference: &Placed<'_>,
@@ -151,7 +151,7 @@ fn push_guarded(
         IfOk result (λ underflowed. underflowed ≡ cleaning_underflows t.path) }
 {
     let start = out.len();
-    let underflowed = push_path(base, reference, out)?;
+    let underflowed = push_target_path(base, reference, out)?;
     if !follows_authority {
         guard_path(start, out)?;
     }

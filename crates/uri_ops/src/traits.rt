@@ -23,7 +23,7 @@ pub trait RiMaybeRef {
     ghost use Rattle.std.specs.Prelude.{ℕ, List};
     ghost use Rattle.uri_parts.specs.Grammar as grammar;
     ghost use Rattle.uri_ops.specs.ComponentSets.{HasComponentSets};
-    ghost use Rattle.uri_pct.specs.EStrs.{text_of};
+    ghost use Rattle.uri_pct.specs.EncodedTexts.{text_of};
     ghost use Rattle.uri_parts.specs.AuthorityTexts.{authority_text};
     ghost use Rattle.uri_parts.specs.Components.{components};
     ghost use Rattle.uri_parts.specs.Schemes.{scheme_text};

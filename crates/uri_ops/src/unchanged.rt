@@ -12,7 +12,7 @@ ghost use Rattle.uri_ops.specs.Models.Unchanged.{IsKeptAuthority, IsKeptPath, Is
 ghost use Rattle.uri_ops.specs.Models.Unchanged.{is_plain_byte};
 ghost use Rattle.uri_ops.specs.Normal.{normal_scheme};
 ghost use Rattle.uri_ops.specs.Normalizers.{HasNormalText, text_underflows};
-ghost use Rattle.uri_ops.specs.Ports.{PortFunction};
+ghost use Rattle.uri_parts.specs.Ports.{PortFunction};
 
 use crate::dot_segments::has_dot_segments;
 use crate::normal_authority::is_bracketed;

@@ -11,3 +11,4 @@ pub mod HostReading
 pub mod FoundAuthorities
 pub mod Authority
 mod AuthorityRows
+pub mod PlacedHosts

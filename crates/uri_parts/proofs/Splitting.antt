@@ -8,3 +8,4 @@ pub mod Hierarchies
 pub mod Places
 pub mod Fragments
 mod ComponentRows
+pub mod PlacedComponents

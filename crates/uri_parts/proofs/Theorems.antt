@@ -12,8 +12,8 @@ use Rattle.uri_parts.proofs.TextKinds.KindSets.{known_separates}
 use Rattle.uri_parts.proofs.Parsing.ReadPositions.{positions_read}
 use Rattle.uri_parts.proofs.TextKinds.Separations.{Separates}
 use Rattle.uri_parts.proofs.Parsing.Texts.{reads_of_kind}
--- The components of a text are a split of it, and its only one, and are together the text: RFC 3986,
--- appendix B and section 5.3.
+-- The components of a text are a split of it, and its only one, and are together the text: RFC
+-- 3986, appendix B and section 5.3.
 pub use Rattle.uri_parts.proofs.Splitting.Recompose.{IsSplitOf-components, recompose-components}
 pub use Rattle.uri_parts.proofs.Splitting.Splits.{components-recompose}
 -- An authority has one cut, and passes its test exactly where that cut meets the grammar: RFC 3986,
@@ -44,13 +44,15 @@ pub whole_positions : (kind read : Kind) (segment : TableSet)
     → segment ≡ first_segment_set kind
     → (text : List ℕ) → IsUtf8 text → reads segment read text ≡ true
     → read_positions segment read text ≡ positions_of (components text)
-whole_positions kind read segment known k s = positions_read segment read (tables_of kind read segment known k s)
+whole_positions kind read segment known k s =
+    positions_read segment read (tables_of kind read segment known k s)
 
 -- what is answered by what is read
 pub answered : {E : Type 0} (segment : TableSet) (read : Kind) (text : List ℕ)
     (result : Result Positions E)
     → is_ok result ≡ reads segment read text
-    → (reads segment read text ≡ true → read_positions segment read text ≡ positions_of (components text))
+    → (reads segment read text ≡ true → read_positions segment read text
+    ≡ positions_of (components text))
     → IfOk result (λ p. p ≡ read_positions segment read text) → IfOk result (AreAt text)
 answered segment read text (Ok p) accepts whole places = places ∙ whole (sym accepts)
 answered segment read text (Err e) accepts whole places = places

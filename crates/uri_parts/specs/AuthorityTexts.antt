@@ -1,7 +1,27 @@
--- What an `Authority` holds: RFC 3986, section 3.2.
-use Rattle.std.specs.Prelude.{ℕ, List}
+-- What an `Authority` holds, and which host a `HostOf` is: RFC 3986, sections 3.2 and 3.2.2.
+use Rattle.std.specs.Prelude.{ℕ, List, ◌≡◌, ⊤}
 use Rattle.uri_parts.specs.declared.component.Authority.{Authority}
+use Rattle.uri_pct.specs.declared.pct_enc.EStr.{EStr}
+use Rattle.uri_pct.specs.EncodedTexts.{text_of}
+use Rattle.uri_parts.specs.declared.component.HostOf.{HostOf}
+use Rattle.uri_parts.specs.Addresses.{ipv4_octets, ipv6_segments}
+use Rattle.uri_parts.specs.declared.component.HostOf.TheVariants as Of
+use Rattle.uri_parts.specs.Hosts as Hosts
 
 -- the text of an authority
 abbrev pub authority_text : {U R : _} {g : _} {h : _} → Authority U R g h → List ℕ
 authority_text a = a.text.now
+
+-- which host it is, an address with its numbers
+abbrev pub host_kind_of : {N : Type 0} → HostOf N → Hosts.HostKind
+host_kind_of (Of.Ipv4 a) = Hosts.Ipv4 (ipv4_octets a)
+host_kind_of (Of.Ipv6 a) = Hosts.Ipv6 (ipv6_segments a)
+host_kind_of Of.IpvFuture = Hosts.IpvFuture
+host_kind_of (Of.RegName name) = Hosts.RegName
+
+-- a registered name has this text
+abbrev pub IsNamed : {R : _} {g : _} → HostOf (EStr R g) → List ℕ → Type 0
+IsNamed (Of.Ipv4 a) text = ⊤
+IsNamed (Of.Ipv6 a) text = ⊤
+IsNamed Of.IpvFuture text = ⊤
+IsNamed (Of.RegName name) text = text_of name ≡ text

@@ -1,7 +1,7 @@
 -- What a refusal of the parser tells.
 use Rattle.std.specs.Prelude.{◌≡◌, ℕ, ◌<◌, ◌-◌, List, ⊤, slice_index}
 use Rattle.std.specs.Str.{IsCharBoundary}
-use Rattle.uri_pct.specs.PercentSigns.{IsStrayPercent}
+use Rattle.uri_pct.specs.Texts.{IsStrayPercent}
 use Rattle.uri_parts.specs.declared.error.ParseError.{ParseError}
 use Rattle.uri_parts.specs.declared.error.ParseErrorKind.{ParseErrorKind}
 use Rattle.uri_parts.specs.declared.error.ParseErrorKind.TheVariants.{InvalidPctEncodedOctet}

@@ -10,6 +10,7 @@ use Rattle.uri_pct.specs.Tokens.{is_valid_for}
 use Rattle.uri_parts.specs.Authority.{is_authority_for}
 use Rattle.uri_parts.specs.Components.{Components, components, before_any}
 use Rattle.uri_pct.specs.Delimiters.{colon}
+use Rattle.std.specs.Str.{IsUtf8}
 
 -- what tells the kinds apart: the sets of their components, and whether a scheme is needed
 pub record Kind : Type 0 where
@@ -93,3 +94,8 @@ is_of_kind kind text = are_components kind (components text)
 
 abbrev pub IsOfKind : Kind → List ℕ → Type 0
 IsOfKind kind text = is_of_kind kind text ≡ true
+
+-- UTF-8 that is of the kind
+pub record IsTextOf (kind : Kind) (text : List ℕ) : Type 0 where
+  pub utf8 : IsUtf8 text
+  pub grammar : IsOfKind kind text

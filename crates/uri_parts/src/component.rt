@@ -45,9 +45,9 @@ impl<'a, U: Encoder, R: Encoder> Clone for Authority<'a, U, R> {
 impl<'a, U: Encoder, R: Encoder> Copy for Authority<'a, U, R> {}
 
 impl<'a, U: Encoder, R: Encoder> Authority<'a, U, R> {
-    ghost use Rattle.uri_pct.specs.EStrs.{text_of};
+    ghost use Rattle.uri_pct.specs.EncodedTexts.{text_of};
     ghost use Rattle.uri_parts.specs.AuthorityTexts.{authority_text};
-    ghost use Rattle.uri_parts.specs.HostTexts.{host_kind_of, IsNamed};
+    ghost use Rattle.uri_parts.specs.AuthorityTexts.{host_kind_of, IsNamed};
 
     #[doc(hidden)]
     pub fn new_unchecked(text: &'a str, host_start: usize, host_end: usize) -> Self

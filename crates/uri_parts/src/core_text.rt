@@ -122,7 +122,7 @@ impl<K: Kind, T: AsStr> Core<K, T> {
 
 #[tactic(auto, using(crate::proofs::TextKinds::ComponentRules::parts_valid))]
 impl<'a, K: Kind> Core<K, &'a str> {
-    ghost use Rattle.uri_pct.specs.EStrs.{text_of};
+    ghost use Rattle.uri_pct.specs.EncodedTexts.{text_of};
     ghost use Rattle.uri_parts.specs.Schemes.{scheme_text};
     ghost use Rattle.uri_parts.specs.AuthorityTexts.{authority_text};
     ghost use Rattle.uri_parts.specs.CoreTexts.{core_text};

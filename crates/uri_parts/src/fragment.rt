@@ -4,10 +4,10 @@ ghost use Rattle.std.specs.Prelude.{length, take, option_map, string_bytes};
 ghost use Rattle.std.specs.Str.{IsCharBoundary};
 ghost use Rattle.std.specs.String.{string_capacity};
 ghost use Rattle.uri_pct.specs.Delimiters.{number_sign};
-ghost use Rattle.uri_parts.specs.Appending.{Pushes};
+ghost use Rattle.uri_pct.specs.Texts.{Pushes};
 ghost use Rattle.uri_parts.specs.Fragments.{IsWithFragment, StaysOfKind};
 ghost use Rattle.uri_parts.specs.Positions.{AreAt};
-ghost use Rattle.uri_pct.specs.EStrs.{text_of};
+ghost use Rattle.uri_pct.specs.EncodedTexts.{text_of};
 
 use crate::positions::Positions;
 use std::alloc::{AllocError, Global};

@@ -5,7 +5,7 @@ ghost use Rattle.std.specs.Str.{IsCharBoundary};
 ghost use Rattle.uri_pct.specs.Tables.{set_of};
 ghost use Rattle.uri_parts.specs.Components.{starts};
 ghost use Rattle.uri_parts.specs.Models.Literals.{IsLiteralRefusal, reads_literal, literal_length};
-ghost use Rattle.uri_parts.specs.Models.Literals.{IsMissing, reads_marked, marked_length};
+ghost use Rattle.uri_parts.specs.Models.Literals.{IsMissing, reads_marked, length_to_mark};
 ghost use Rattle.uri_parts.specs.Models.Literals.{reads_future, future_length};
 
 use crate::address_reader::after_ipv6;
@@ -147,13 +147,13 @@ fn refusal(text: &str, start: usize) -> ParseError
 
 /// Where one or more characters of the table end that stand at `start`, with the `mark` behind
 /// them; or where one of these is missing.
-#[tactic(auto, unfolding(crate::specs::Models::Literals::reads_marked, crate::specs::Models::Literals::marked_length))]
+#[tactic(auto, unfolding(crate::specs::Models::Literals::reads_marked, crate::specs::Models::Literals::length_to_mark))]
 fn marked_end(text: &str, start: usize, table: &Table, mark: u8) -> Result<usize, ParseError>
     requires boundary { IsCharBoundary text.now start }
     requires ascii { mark < 128 }
     ensures accepts { is_ok result ≡ reads_marked (set_of table.now) mark (drop start text.now) }
     ensures end { IfOk result (λ end.
-        end ≡ start + marked_length (set_of table.now) (drop start text.now)) }
+        end ≡ start + length_to_mark (set_of table.now) (drop start text.now)) }
     ensures boundary { IfOk result (λ end. IsCharBoundary text.now end) }
     ensures err { IfErr result (IsMissing text.now) }
 {

@@ -4,7 +4,7 @@ ghost use Rattle.std.specs.Result.{OkIff};
 ghost use Rattle.std.specs.Str.Parse.{error_kind};
 ghost use Rattle.std.specs.declared.num.IntErrorKind.TheVariants.{PosOverflow};
 ghost use Rattle.uri_parts.specs.Authority.{authority_parts};
-ghost use Rattle.uri_parts.specs.PortNumbers.{port_number, FitsPort};
+ghost use Rattle.uri_parts.specs.Ports.{port_number, FitsPort};
 
 use crate::component::Authority;
 use std::num::ParseIntError;

@@ -7,3 +7,4 @@ pub mod Lossy
 pub mod Runs
 pub mod Unfinished
 pub mod PartPieces
+pub mod FirstBytes

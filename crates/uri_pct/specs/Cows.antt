@@ -26,6 +26,6 @@ AreBorrowedItems (slice.Borrowed s) = ⊤
 AreBorrowedItems (slice.Owned v) = ⊥
 
 -- why bytes do not decode to text
-abbrev pub IsRefusalOf : List ℕ → DecodeError → Type 0
-IsRefusalOf bytes (NotUtf8 held) = (held.items ≡ bytes) × ¬ (IsUtf8 bytes)
-IsRefusalOf bytes OutOfMemory = ⊤
+abbrev pub IsDecodeRefusal : List ℕ → DecodeError → Type 0
+IsDecodeRefusal bytes (NotUtf8 held) = (held.items ≡ bytes) × ¬ (IsUtf8 bytes)
+IsDecodeRefusal bytes OutOfMemory = ⊤

@@ -1,9 +1,16 @@
--- What a `Decode` still has to answer: RFC 3986, section 2.1.
+-- What a `Decode` still has to answer, and what its items stand for: RFC 3986, section 2.1.
+use Rattle.uri_pct.specs.Chunks.{Chunk, Text, Byte, chunk_bytes, chunks}
+use Rattle.uri_pct.specs.declared.decode.DecodedChunk.{DecodedChunk}
+use Rattle.uri_pct.specs.declared.decode.DecodedChunk.TheVariants.{Unencoded, PctDecoded}
 use Rattle.std.specs.Prelude.{ℕ, List}
 use Rattle.std.specs.List.{flat_map}
-use Rattle.uri_pct.specs.Chunks.{Chunk, chunk_bytes, chunks}
 use Rattle.uri_pct.specs.Tokens.{tokens, token_bytes}
 use Rattle.uri_pct.specs.declared.decode.Decode.{Decode}
+
+-- what an item stands for
+abbrev pub chunk_of : DecodedChunk → Chunk
+chunk_of (Unencoded text) = Text text.now
+chunk_of (PctDecoded value) = Byte value
 
 -- the text that is left to decode, its chunks, and what it decodes to
 abbrev pub undecoded : Decode → List ℕ

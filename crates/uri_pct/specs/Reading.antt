@@ -5,9 +5,9 @@ use Rattle.std.specs.Prelude.{◌++◌, map, if◌then◌else◌}
 use Rattle.std.specs.Int.{is_in_range}
 use Rattle.std.specs.List.{flat_map}
 use Rattle.std.specs.Char.{encode_utf8, to_ascii_lowercase}
-use Rattle.std.specs.Str.{all_scalars}
+use Rattle.std.specs.Str.{all_scalars, chars}
 use Rattle.uri_pct.specs.Sets.{TableSet, is_unreserved, allows_past_ascii}
-use Rattle.uri_pct.specs.Tokens.{Token, Char, Octet, tokens}
+use Rattle.uri_pct.specs.Tokens.{Token, Char, Octet, tokens, print}
 use Rattle.uri_pct.specs.Pieces.{Piece, WellFormed, IllFormed, char_of, utf8_pieces}
 use Rattle.uri_pct.specs.Delimiters.{percent_sign}
 
@@ -83,3 +83,10 @@ lower_token (Octet value) = Octet value
 abbrev pub is_printable : Token → Bool
 is_printable (Char c) = all_scalars (c ∷ []) && not (c == percent_sign)
 is_printable (Octet value) = nat_lt value 256
+
+-- a character as it is written
+abbrev pub written_char : ℕ → List ℕ
+written_char c = if is_bidi_formatting c then print (map Octet (encode_utf8 c)) else encode_utf8 c
+
+abbrev pub written_text : List ℕ → List ℕ
+written_text text = flat_map written_char (chars text)

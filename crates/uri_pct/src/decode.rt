@@ -123,7 +123,7 @@ impl<'a> Clone for Decode<'a> {
 
 impl<'a> Iterator for Decode<'a> {
     ghost use Rattle.std.specs.Iterator.{YieldsFirstBy, item_count};
-    ghost use Rattle.uri_pct.specs.DecodedChunks.{chunk_of};
+    ghost use Rattle.uri_pct.specs.Decodes.{chunk_of};
     ghost use Rattle.uri_pct.specs.Decodes.{chunks_left};
 
     type Item = DecodedChunk<'a>;
@@ -153,7 +153,7 @@ impl<'a> FusedIterator for Decode<'a> {}
 
 impl<'a, E: Encoder> EStr<'a, E> {
     ghost use Rattle.uri_pct.specs.Decodes.{undecoded, chunks_left};
-    ghost use Rattle.uri_pct.specs.EStrs.{text_of};
+    ghost use Rattle.uri_pct.specs.EncodedTexts.{text_of};
 
     /// The text to be decoded. The table of `E` allows percent-encoded octets:
     /// `E::table().allows_pct_encoded` tests it. The number of its parts fits `usize`, so that

@@ -2,7 +2,7 @@
 ghost use Rattle.std.specs.Prelude.{◌≡◌, ◌++◌, ◌&&◌, IsTrue, IfOk, IfErr, IsOk, IsOkAnd};
 ghost use Rattle.std.specs.Prelude.{string_bytes, IsUtf8};
 ghost use Rattle.std.specs.List.{flat_map, list_all};
-ghost use Rattle.uri_pct.specs.Cows.{cow_text, IsBorrowedText, IsRefusalOf};
+ghost use Rattle.uri_pct.specs.Cows.{cow_text, IsBorrowedText, IsDecodeRefusal};
 ghost use Rattle.uri_pct.specs.Parts.{pieces_of};
 ghost use Rattle.uri_pct.specs.Pieces.{is_well_formed, bytes_of_pieces, lossy_piece, lossy_text};
 ghost use Rattle.uri_pct.specs.Texts.{is_unencoded};
@@ -97,9 +97,9 @@ impl<'a> Decode<'a> {
     pub fn to_string(self, alloc: Global) -> Result<CowStr<'a>, DecodeError>
         ensures text { IfOk result (λ text. cow_text text ≡ decoded self.entry) }
         ensures utf8 { IsOk result → IsUtf8 (decoded self.entry) }
-        ensures refused { IfErr result (IsRefusalOf (decoded self.entry)) }
+        ensures refused { IfErr result (IsDecodeRefusal (decoded self.entry)) }
         ensures left { IfOk result (λ text. cow_text text ≡ bytes_left self.entry) }
-        ensures left_refused { IfErr result (IsRefusalOf (bytes_left self.entry)) }
+        ensures left_refused { IfErr result (IsDecodeRefusal (bytes_left self.entry)) }
         ensures borrows { IsTrue (is_unencoded (undecoded self.entry))
             → IsOkAnd result IsBorrowedText }
     {

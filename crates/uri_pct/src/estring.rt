@@ -2,7 +2,7 @@
 ghost use Rattle.std.specs.Prelude.{◌≡◌, ◌==◌, ◌<◌, ◌≤◌, ◌+◌, ◌++◌, ◌∷◌, [], OnOk, OnErr, IfOk};
 ghost use Rattle.std.specs.Prelude.{IsTrue, true, encode_utf8, length, string_bytes};
 ghost use Rattle.std.specs.String.{string_capacity};
-ghost use Rattle.uri_pct.specs.EStrs.{text_of};
+ghost use Rattle.uri_pct.specs.EncodedTexts.{text_of};
 ghost use Rattle.uri_pct.specs.Encoding.{encode_text, encode_bytes};
 ghost use Rattle.uri_pct.specs.Sets.{IsSubset, LacksPercent, allows};
 ghost use Rattle.uri_pct.specs.Tokens.{Char, tokens, print, is_valid_for, IsValidFor};

@@ -5,7 +5,7 @@ ghost use Rattle.std.specs.Simd.Lanes.{mask_l, chunk};
 ghost use Rattle.std.specs.Int.{bit_at};
 ghost use Rattle.uri_pct.specs.Delimiters.{percent_sign};
 ghost use Rattle.uri_pct.specs.Models.ByteRuns.{IsRun, AreSpelt};
-ghost use Rattle.uri_pct.specs.PercentSigns.{has_digits};
+ghost use Rattle.uri_pct.specs.Texts.{has_digits};
 ghost use Rattle.uri_pct.specs.Models.LaneMasks.{bytes_of_masks, bit_of};
 ghost use Rattle.uri_pct.specs.Masks.{has_bit};
 

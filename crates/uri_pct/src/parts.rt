@@ -1,7 +1,7 @@
 //! Octets that are read as UTF-8.
 ghost use Rattle.std.specs.Prelude.{◌≡◌, ◌<◌, OnOk, List, [], ◌∷◌, ◌++◌, length, map};
 ghost use Rattle.uri_pct.specs.Chunks.{Chunk, Byte};
-ghost use Rattle.uri_pct.specs.DecodedChunks.{chunk_of};
+ghost use Rattle.uri_pct.specs.Decodes.{chunk_of};
 ghost use Rattle.uri_pct.specs.Models.Windows.{held};
 ghost use Rattle.uri_pct.specs.Parts.{Part, Plain, Read, parts, parts_from, fault_pieces};
 ghost use Rattle.uri_pct.specs.Pieces.{WellFormed, IllFormed, utf8_pieces};

@@ -45,7 +45,7 @@ impl<'a, E: Encoder> Copy for EStr<'a, E> {}
 
 #[tactic(auto, using(crate::proofs::ValidTexts::EStrs::valid_empty, crate::proofs::ValidTexts::EStrs::valid_octet, crate::proofs::ValidTexts::EStrs::valid_in_more))]
 impl<'a, E: Encoder> EStr<'a, E> {
-    ghost use Rattle.uri_pct.specs.EStrs.{text_of};
+    ghost use Rattle.uri_pct.specs.EncodedTexts.{text_of};
 
     /// The empty text.
     ///
@@ -168,7 +168,7 @@ impl<'a, E: Encoder> EStr<'a, E> {
 }
 
 impl<'a, E: PathEncoder> EStr<'a, E> {
-    ghost use Rattle.uri_pct.specs.EStrs.{text_of};
+    ghost use Rattle.uri_pct.specs.EncodedTexts.{text_of};
 
     /// Whether the path begins with `/`.
     ///
@@ -196,7 +196,7 @@ impl<'a, E: PathEncoder> EStr<'a, E> {
 #[tactic(auto, using(crate::proofs::ValidTexts::EStrs::valid_empty))]
 impl<'a, E: Encoder> Default for EStr<'a, E> {
     ghost use Rattle.std.specs.Prelude.{[]};
-    ghost use Rattle.uri_pct.specs.EStrs.{text_of};
+    ghost use Rattle.uri_pct.specs.EncodedTexts.{text_of};
 
     ghost is_default = { λ e. text_of e ≡ [] };
 
@@ -209,7 +209,7 @@ impl<'a, E: Encoder> Default for EStr<'a, E> {
 impl<'a, E: Encoder> fmt::Display for EStr<'a, E> {
     ghost use Rattle.std.specs.Prelude.{Some};
     ghost use Rattle.std.specs.Fmt.{styled_text};
-    ghost use Rattle.uri_pct.specs.EStrs.{text_of};
+    ghost use Rattle.uri_pct.specs.EncodedTexts.{text_of};
 
     ghost output = { λ e. Some (text_of e) };
 
@@ -223,7 +223,7 @@ impl<'a, E: Encoder> fmt::Display for EStr<'a, E> {
 
 impl<'a, E: Encoder> fmt::Debug for EStr<'a, E> {
     ghost use Rattle.std.specs.Fmt.{debug_str};
-    ghost use Rattle.uri_pct.specs.EStrs.{text_of};
+    ghost use Rattle.uri_pct.specs.EncodedTexts.{text_of};
 
     ghost debug_output = { λ e. debug_str (text_of e) };
 
@@ -238,7 +238,7 @@ impl<'a, E: Encoder> PartialEq for EStr<'a, E> {
     ghost use Rattle.std.specs.Cmp.Rules.{comparing};
     ghost use Rattle.std.specs.Ordering.{on};
     ghost use Rattle.std.specs.Cmp.Lexicographic.{pointwise};
-    ghost use Rattle.uri_pct.specs.EStrs.{text_of};
+    ghost use Rattle.uri_pct.specs.EncodedTexts.{text_of};
 
     ghost eq = { on text_of (pointwise ◌==◌) };
 
@@ -261,7 +261,7 @@ impl<'a, E: Encoder> Ord for EStr<'a, E> {
     ghost use Rattle.std.specs.Cmp.Rules.{comparing};
     ghost use Rattle.std.specs.Ordering.{on, nat_cmp};
     ghost use Rattle.std.specs.Cmp.Lexicographic.{slice_cmp};
-    ghost use Rattle.uri_pct.specs.EStrs.{text_of};
+    ghost use Rattle.uri_pct.specs.EncodedTexts.{text_of};
 
     ghost cmp = { on text_of (slice_cmp nat_cmp) };
 
@@ -282,7 +282,7 @@ impl<'a, E: Encoder> PartialOrd for EStr<'a, E> {
     ghost use Rattle.std.specs.Cmp.{partial_order_from_own_ties};
     ghost use Rattle.std.specs.Ordering.{on, nat_cmp, as_partial_cmp};
     ghost use Rattle.std.specs.Cmp.Lexicographic.{slice_cmp};
-    ghost use Rattle.uri_pct.specs.EStrs.{text_of};
+    ghost use Rattle.uri_pct.specs.EncodedTexts.{text_of};
 
     ghost partial_cmp = { as_partial_cmp (on text_of (slice_cmp nat_cmp)) };
 
@@ -298,7 +298,7 @@ impl<'a, E: Encoder> Hash for EStr<'a, E> {
     ghost use Rattle.std.proofs.Common.{rules};
     ghost use Rattle.std.specs.Hash as fed;
     ghost use Rattle.std.specs.Cmp.Rules.{comparing, hashing};
-    ghost use Rattle.uri_pct.specs.EStrs.{text_of};
+    ghost use Rattle.uri_pct.specs.EncodedTexts.{text_of};
 
     ghost hash_input = { λ e. fed.str (text_of e) };
 

@@ -3,7 +3,7 @@ ghost use Rattle.std.specs.Prelude.{◌≡◌, ◌<◌, ◌≤◌, ◌+◌, IsTr
 ghost use Rattle.std.specs.Prelude.{slice_index};
 ghost use Rattle.std.specs.Str.{IsCharBoundary};
 ghost use Rattle.uri_pct.specs.Models.Fronts.{front, may_go_on};
-ghost use Rattle.uri_pct.specs.PercentSigns.{has_digits};
+ghost use Rattle.uri_pct.specs.Texts.{has_digits};
 ghost use Rattle.uri_pct.specs.Tokens.{is_valid_for};
 
 use crate::lanes::{LANES, has, holds, run_end, spelt_length, words};
@@ -11,7 +11,7 @@ use crate::table::Table;
 use crate::utf8::char_at;
 
 /// Whether two hexadecimal digits stand behind the byte at `index`.
-#[tactic(auto, unfolding(crate::specs::PercentSigns::has_digits))]
+#[tactic(auto, unfolding(crate::specs::Texts::has_digits))]
 fn begins_octet(bytes: &[u8], index: usize) -> bool
     requires { index < length bytes.now }
     ensures value { result ≡ has_digits bytes.now index }

@@ -26,7 +26,7 @@ pub struct Split<'a, E: Encoder> {
 
 impl<'a, E: Encoder> Clone for Split<'a, E> {
     ghost use Rattle.std.specs.Prelude.{⊤};
-    ghost use Rattle.uri_pct.specs.Splits.{pieces_left};
+    ghost use Rattle.uri_pct.specs.EncodedTexts.{pieces_left};
 
     ghost is_clone = { λ value copy. pieces_left copy ≡ pieces_left value };
 
@@ -42,8 +42,8 @@ impl<'a, E: Encoder> Clone for Split<'a, E> {
 
 impl<'a, E: Encoder> Iterator for Split<'a, E> {
     ghost use Rattle.std.specs.Iterator.{YieldsFirstBy, item_count};
-    ghost use Rattle.uri_pct.specs.EStrs.{text_of};
-    ghost use Rattle.uri_pct.specs.Splits.{pieces_left};
+    ghost use Rattle.uri_pct.specs.EncodedTexts.{text_of};
+    ghost use Rattle.uri_pct.specs.EncodedTexts.{pieces_left};
 
     type Item = EStr<'a, E>;
 
@@ -68,8 +68,8 @@ impl<'a, E: Encoder> Iterator for Split<'a, E> {
 
 impl<'a, E: Encoder> DoubleEndedIterator for Split<'a, E> {
     ghost use Rattle.std.specs.Iterator.{YieldsLastBy};
-    ghost use Rattle.uri_pct.specs.EStrs.{text_of};
-    ghost use Rattle.uri_pct.specs.Splits.{pieces_left};
+    ghost use Rattle.uri_pct.specs.EncodedTexts.{text_of};
+    ghost use Rattle.uri_pct.specs.EncodedTexts.{pieces_left};
 
     ghost next_back_gives = { YieldsLastBy text_of pieces_left };
 
@@ -91,8 +91,8 @@ impl<'a, E: Encoder> DoubleEndedIterator for Split<'a, E> {
 impl<'a, E: Encoder> FusedIterator for Split<'a, E> {}
 
 impl<'a, E: Encoder> EStr<'a, E> {
-    ghost use Rattle.uri_pct.specs.EStrs.{text_of};
-    ghost use Rattle.uri_pct.specs.Splits.{pieces_left};
+    ghost use Rattle.uri_pct.specs.EncodedTexts.{text_of};
+    ghost use Rattle.uri_pct.specs.EncodedTexts.{pieces_left};
 
     /// What stands before the first `delimiter` and what stands behind it, or `None` exactly if
     /// there is none. The delimiter is reserved (RFC 3986, section 2.2): `RESERVED.allows` tests
@@ -152,8 +152,8 @@ impl<'a, E: Encoder> EStr<'a, E> {
 }
 
 impl<'a, E: PathEncoder> EStr<'a, E> {
-    ghost use Rattle.uri_pct.specs.EStrs.{text_of};
-    ghost use Rattle.uri_pct.specs.Splits.{pieces_left};
+    ghost use Rattle.uri_pct.specs.EncodedTexts.{text_of};
+    ghost use Rattle.uri_pct.specs.EncodedTexts.{pieces_left};
 
     /// The segments of the path (RFC 3986, section 3.3): what stands behind its first `/`, cut at
     /// each further `/`; or `None` exactly if the path does not begin with `/`. Their number fits

@@ -1,7 +1,7 @@
 //! IRI references over a text of their own.
 ghost use Rattle.std.specs.Prelude.{◌↔◌, ◌≡◌, IfErr, IfOk, IsOk, None, Ok, OnErr, OnOk, option_map};
 ghost use Rattle.std.specs.Prelude.{string_bytes, true};
-ghost use Rattle.uri_pct.specs.EStrs.{text_of};
+ghost use Rattle.uri_pct.specs.EncodedTexts.{text_of};
 ghost use Rattle.uri_parts.specs.AuthorityTexts.{authority_text};
 ghost use Rattle.uri_parts.specs.Components.{components};
 ghost use Rattle.uri_parts.specs.Errors.{IsErrorIn};
@@ -11,12 +11,12 @@ ghost use Rattle.uri_parts.specs.SchemePorts.{default_port};
 ghost use Rattle.uri_parts.specs.Schemes.{scheme_text};
 ghost use Rattle.uri_ops.specs.BuilderParts.{no_parts};
 ghost use Rattle.uri_ops.specs.BuilderStates.{held_of, parts_at};
-ghost use Rattle.uri_ops.specs.EncodedTargets.{IsErrorForEncoded, IsTargetOfEncoded};
+ghost use Rattle.uri_ops.specs.Resolving.{IsErrorForEncoded, IsTargetOfEncoded};
 ghost use Rattle.uri_ops.specs.NormalTargets.{IsErrorOfMeanings, IsTargetOfMeanings};
 ghost use Rattle.uri_ops.specs.Normalizers.{IsNormalForm};
 ghost use Rattle.uri_ops.specs.Resolving.{IsRefusalFor};
 ghost use Rattle.uri_ops.specs.Target.{resolution_of_texts};
-ghost use Rattle.fluent_uri.specs.IriRefs.{iri_ref_text};
+ghost use Rattle.fluent_uri.specs.Iris.{iri_ref_text};
 ghost use Rattle.fluent_uri.specs.Iris.{iri_text};
 
 use crate::component::IAuthority;

@@ -1,6 +1,6 @@
 //! URI references over a text that is borrowed.
 ghost use Rattle.std.specs.Prelude.{◌↔◌, ◌≡◌, IfErr, IfOk, IsOk, None, Ok, option_map, true};
-ghost use Rattle.uri_pct.specs.EStrs.{text_of};
+ghost use Rattle.uri_pct.specs.EncodedTexts.{text_of};
 ghost use Rattle.uri_parts.specs.AuthorityTexts.{authority_text};
 ghost use Rattle.uri_parts.specs.Components.{components};
 ghost use Rattle.uri_parts.specs.Errors.{IsErrorIn};
@@ -8,12 +8,12 @@ ghost use Rattle.uri_parts.specs.Fragments.{IsWithFragment};
 ghost use Rattle.uri_parts.specs.Grammar.{IsOfKind, uri, uri_ref};
 ghost use Rattle.uri_parts.specs.SchemePorts.{default_port};
 ghost use Rattle.uri_parts.specs.Schemes.{scheme_text};
-ghost use Rattle.uri_ops.specs.EncodedTargets.{IsErrorForEncoded, IsTargetOfEncoded};
+ghost use Rattle.uri_ops.specs.Resolving.{IsErrorForEncoded, IsTargetOfEncoded};
 ghost use Rattle.uri_ops.specs.NormalTargets.{IsErrorOfMeanings, IsTargetOfMeanings};
 ghost use Rattle.uri_ops.specs.Normalizers.{IsNormalForm};
 ghost use Rattle.uri_ops.specs.Resolving.{IsRefusalFor};
 ghost use Rattle.uri_ops.specs.Target.{resolution_of_texts};
-ghost use Rattle.uri_ascii.specs.UriRefs.{uri_ref_text};
+ghost use Rattle.uri_ascii.specs.Uris.{uri_ref_text};
 ghost use Rattle.uri_ascii.specs.Uris.{uri_text};
 
 use crate::uri::Uri;

@@ -49,7 +49,14 @@ use Rattle.uri_pct.proofs.Tests.{both_some}
 ascii_component : (marks : List ℕ) (set : TableSet) → IsComponentSet marks set
     → IsComponentSet marks (ascii_set set)
 ascii_component marks set w = record {
-  unreserved = record { ascii = w.unreserved.ascii; pct_encoded = w.unreserved.pct_encoded; ucschar = λ e. absurd (false≢true e); iprivate = λ e. absurd (false≢true e) };
+  unreserved = record {
+    ascii = w.unreserved.ascii;
+    pct_encoded =
+        w.unreserved.pct_encoded;
+    ucschar = λ e. absurd (false≢true e);
+    iprivate =
+        λ e. absurd (false≢true e);
+  };
   percent = w.percent;
   octets = w.octets;
   ends = w.ends;
@@ -86,7 +93,8 @@ address_ascii text e = plain_ascii is_address_char text (plain_addresses text e)
 pub dotted_ascii : (text octets : List ℕ) → IsDotted text octets
     → list_all (λ c. ltb c 128) text ≡ true
 dotted_ascii text octets h =
-    list_all-from_AllPass (λ c. ltb c 128) text (All-weaker IsDigitOrDot (λ c. ltb c 128 ≡ true) below text (ipv4_digits text octets h))
+    list_all-from_AllPass (λ c. ltb c 128) text
+    (All-weaker IsDigitOrDot (λ c. ltb c 128 ≡ true) below text (ipv4_digits text octets h))
   where
     below : (c : ℕ) → IsDigitOrDot c → ltb c 128 ≡ true
     below c (inl range) = grind (arith, nat_tests)
@@ -102,50 +110,79 @@ kept_host : (names : TableSet) (text : List ℕ) (h : HostKind) → IsHost (asci
     → list_all (λ c. ltb c 128) text ≡ true → KeepsHost names text
 kept_host names text h is_h e =
     let same = encoded-ascii text e in
-    record { host = (h, subst (λ t. IsHost (ascii_set names) t h) (sym same) is_h); meaning = ap (λ t. host_meaning names t (host_kind t)) same }
+    record {
+      host = (h, subst (λ t. IsHost (ascii_set names) t h) (sym same) is_h);
+      meaning =
+          ap (λ t. host_meaning names t (host_kind t)) same;
+    }
 
 module _ (names : TableSet) (w : IsComponentSet (codes "/?#[]@:") names)
     (apart : excludes names (codes "@:[") ≡ true) where
   name_kept : (text : List ℕ) → is_part names text ≡ true → KeepsHost names text
   name_kept text part =
-      let first = lacks_starts (codes "@:[") text 91 refl (valid_lacks names (codes "@:[") w.percent apart text (part_utf8 names text part) (part_valid names text part)) in
+      let first =
+      lacks_starts (codes "@:[") text 91 refl
+      (valid_lacks names (codes "@:[") w.percent apart text (part_utf8 names text part)
+      (part_valid names text part)) in
       let other = starts_encoded 91 refl text ∙ first in
       let encoded_part = part_encoded names w.octets text part in
-      let at = at_name (ascii_set names) (ascii_component (codes "/?#[]@:") names w) apart (encoded_text text) other (part_valid (ascii_set names) (encoded_text text) encoded_part) in
+      let at = at_name (ascii_set names) (ascii_component (codes "/?#[]@:") names w) apart
+      (encoded_text text) other
+      (part_valid (ascii_set names) (encoded_text text) encoded_part) in
       let was = at_name names w apart text first (part_valid names text part) in
       record {
-        host = (host_kind (encoded_text text), is_host-sound (ascii_set names) (encoded_text text) at.1);
+        host = (
+          host_kind (encoded_text text),
+          is_host-sound (ascii_set names) (encoded_text text)
+              at.1,
+        );
         meaning = ap (host_meaning names (encoded_text text)) at.0
             ∙ name_meaning names w apart (encoded_text text) (ipv4_value (encoded_text text))
             ∙ ap (λ ts. Name (map lower_token ts)) (read-encoded names text part)
-            ∙ sym (ap (host_meaning names text) was.0 ∙ name_meaning names w apart text (ipv4_value text));
+            ∙ sym (ap (host_meaning names text) was.0
+            ∙ name_meaning names w apart text (ipv4_value text));
       }
 
   pub host_kept : (text : List ℕ) (h : HostKind) → IsUtf8 text → IsHost names text h
       → KeepsHost names text
   host_kept text (Ipv6 segments) u (address, e, groups) =
-      kept_host names text (Ipv6 segments) (address, e, groups) (ap (list_all (λ c. ltb c 128)) e ∙ bracketed_ascii address (address_ascii address (address_text-ipv6 address segments groups)))
+      kept_host names text (Ipv6 segments) (address, e, groups)
+      (ap (list_all (λ c. ltb c 128)) e
+      ∙ bracketed_ascii address
+      (address_ascii address (address_text-ipv6 address segments groups)))
   host_kept text IpvFuture u (address, e, future) =
       let plain = plain_future address (utf8_bracketed address (subst IsUtf8 e u)) future in
-      kept_host names text IpvFuture (address, e, future) (ap (list_all (λ c. ltb c 128)) e ∙ bracketed_ascii address (plain_ascii is_userinfo_char address (future_chars address future plain)))
-  host_kept text (Ipv4 octets) u dotted = kept_host names text (Ipv4 octets) dotted (dotted_ascii text octets dotted)
+      kept_host names text IpvFuture (address, e, future)
+      (ap (list_all (λ c. ltb c 128)) e
+      ∙ bracketed_ascii address
+      (plain_ascii is_userinfo_char address (future_chars address future plain)))
+  host_kept text (Ipv4 octets) u dotted =
+      kept_host names text (Ipv4 octets) dotted (dotted_ascii text octets dotted)
   host_kept text RegName u (valid, other) = name_kept text (part_from names text u valid)
 
 -- an authority
 abbrev pub encoded_parts : AuthorityParts → AuthorityParts
-encoded_parts p = record { userinfo = option_map encoded_text p.userinfo; host = encoded_text p.host; port = option_map encoded_text p.port }
+encoded_parts p = record {
+  userinfo = option_map encoded_text p.userinfo;
+  host =
+      encoded_text p.host;
+  port = option_map encoded_text p.port;
+}
 
 pub recompose_authority-encoded : (p : AuthorityParts)
     → encoded_text (recompose_authority p) ≡ recompose_authority (encoded_parts p)
 recompose_authority-encoded p =
     let port = marked (codes ":") p.port [] in
     encoded-append (marked [] p.userinfo (codes "@")) (p.host ++ port)
-    ∙ ap (λ x. x ++ encoded_text (p.host ++ port)) (marked_encoded [] (codes "@") p.userinfo refl refl)
+    ∙ ap (λ x. x ++ encoded_text (p.host ++ port))
+    (marked_encoded [] (codes "@") p.userinfo refl refl)
     ∙ ap (λ x. marked [] (option_map encoded_text p.userinfo) (codes "@") ++ x)
-    (encoded-append p.host port ∙ ap (λ x. encoded_text p.host ++ x) (marked_encoded (codes ":") [] p.port refl refl))
+    (encoded-append p.host port ∙ ap (λ x. encoded_text p.host ++ x)
+    (marked_encoded (codes ":") [] p.port refl refl))
 
 digits_ascii : (text : List ℕ) → IsUtf8 text → IsValidFor digit_set text → encoded_text text ≡ text
-digits_ascii text u e = encoded-ascii text (plain_ascii is_ascii_digit text (sym (valid_plain is_ascii_digit refl text u) ∙ e))
+digits_ascii text u e = encoded-ascii text
+    (plain_ascii is_ascii_digit text (sym (valid_plain is_ascii_digit refl text u) ∙ e))
 
 port_ascii : (port : Option (List ℕ)) → IfSome port IsUtf8 → IfSome port (IsValidFor digit_set)
     → option_map encoded_text port ≡ port
@@ -186,29 +223,43 @@ module _ (kind : Kind) (sets : HasComponentSets kind) (a : List ℕ) (u : IsUtf8
   utf8 = utf8_parts parts.userinfo parts.port parts.host (subst IsUtf8 (sym grammar.whole) u)
 
   host : KeepsHost names parts.host
-  host = host_kept names sets.reg_name (names_outside users names apart) parts.host grammar.host.0 utf8.host grammar.host.1
+  host = host_kept names sets.reg_name (names_outside users names apart) parts.host grammar.host.0
+      utf8.host grammar.host.1
 
   user : IfSome parts.userinfo (λ x. is_part users x ≡ true)
-  user = both_some parts.userinfo IsUtf8 (IsValidFor users) (λ x. is_part users x ≡ true) (λ x v h. part_from users x v h) utf8.userinfo grammar.userinfo
+  user = both_some parts.userinfo IsUtf8 (IsValidFor users) (λ x. is_part users x ≡ true)
+      (λ x v h. part_from users x v h) utf8.userinfo grammar.userinfo
 
-  encoded_grammar : IsAuthorityFor (ascii_set users) (ascii_set names) (encoded_text a) (encoded_parts parts)
+  encoded_grammar : IsAuthorityFor (ascii_set users) (ascii_set names) (encoded_text a)
+      (encoded_parts parts)
   encoded_grammar = record {
     whole = sym (recompose_authority-encoded parts) ∙ ap encoded_text grammar.whole;
-    userinfo = map_some parts.userinfo (λ x. is_part users x ≡ true) (IsValidFor (ascii_set users)) (λ x h. part_valid (ascii_set users) (encoded_text x) (part_encoded users sets.userinfo.octets x h)) user;
+    userinfo = map_some parts.userinfo (λ x. is_part users x ≡ true) (IsValidFor (ascii_set users))
+        (λ x h. part_valid (ascii_set users) (encoded_text x)
+        (part_encoded users sets.userinfo.octets x h)) user;
     host = host.host;
-    port = subst (λ o. IfSome o (IsValidFor digit_set)) (sym (port_ascii parts.port utf8.port grammar.port)) grammar.port;
+    port = subst (λ o. IfSome o (IsValidFor digit_set))
+        (sym (port_ascii parts.port utf8.port grammar.port)) grammar.port;
   }
 
   pub authority_encoded : is_authority (ascii_kind kind) (encoded_text a) ≡ true
-  authority_encoded = is_authority_for-complete (ascii_set users) (ascii_set names) ascii_apart (encoded_text a) (encoded_parts parts) (IsUtf8-encoded a u) encoded_grammar
+  authority_encoded = is_authority_for-complete (ascii_set users) (ascii_set names) ascii_apart
+      (encoded_text a) (encoded_parts parts) (IsUtf8-encoded a u) encoded_grammar
 
   pub authority_parts-encoded : authority_parts (encoded_text a) ≡ encoded_parts parts
-  authority_parts-encoded = authority_parts-only (ascii_set users) (ascii_set names) ascii_apart (encoded_text a) (encoded_parts parts) (IsUtf8-encoded a u) encoded_grammar
+  authority_parts-encoded = authority_parts-only (ascii_set users) (ascii_set names) ascii_apart
+      (encoded_text a) (encoded_parts parts) (IsUtf8-encoded a u) encoded_grammar
 
   pub authority_meaning-encoded : (default : Option ℕ)
       → authority_meaning kind default (encoded_text a) ≡ authority_meaning kind default a
   authority_meaning-encoded default =
-      let of_parts : AuthorityParts → AuthorityMeaning = λ p. record { userinfo = option_map (read users) p.userinfo; host = host_meaning names p.host (host_kind p.host); port = port_meaning default p.port } in
+      let of_parts : AuthorityParts → AuthorityMeaning =
+      λ p. record {
+        userinfo = option_map (read users) p.userinfo;
+        host =
+            host_meaning names p.host (host_kind p.host);
+        port = port_meaning default p.port;
+      } in
       let user_read = read_some users parts.userinfo user in
       let host_read = host.meaning in
       let port_read = ap (port_meaning default) (port_ascii parts.port utf8.port grammar.port) in

@@ -1,4 +1,5 @@
--- A text without characters past ASCII is of the kind of URIs that goes with its kind, and means what the text means.
+-- A text without characters past ASCII is of the kind of URIs that goes with its kind, and means
+-- what the text means.
 use Rattle.std.proofs.Common.{◌≡◌, ℕ, true, false, eqb, ltb, not, List, refl, sym, ap, subst, ◌∙◌}
 use Rattle.std.proofs.Common.{◌&&◌, ◌||◌, option_map}
 use Rattle.std.specs.Prelude.{codes, Option, Some, None, IfSome, is_some, slice_index}
@@ -16,8 +17,8 @@ use Rattle.uri_parts.specs.Grammar.{Kind, is_scheme, is_authority, has_colon_fir
 use Rattle.uri_parts.proofs.Authorities.NamesAndPorts.{utf8_before}
 use Rattle.uri_ops.specs.Target.{cleaned_path}
 use Rattle.uri_ops.specs.ComponentSets.{HasComponentSets}
-use Rattle.uri_ops.specs.Texts.{IsTextOf}
-use Rattle.uri_ops.specs.Ports.{PortFunction}
+use Rattle.uri_parts.specs.Grammar.{IsTextOf}
+use Rattle.uri_parts.specs.Ports.{PortFunction}
 use Rattle.uri_ops.specs.Meaning.{authority_meaning, plain_path, components_meaning, meaning_of}
 use Rattle.uri_ops.specs.Encoded.{encoded_text, ascii_set, ascii_kind}
 use Rattle.uri_ops.proofs.Paths.PathCharacters.{lacks_test, test_lacks}
@@ -58,7 +59,9 @@ colon_encoded path u e =
   where
     no_colon : (s : List ℕ) → IsUtf8 s → list_any (λ c. eqb c 58) s ≡ false
         → list_any (λ c. eqb c 58) (encoded_text s) ≡ false
-    no_colon s v f = has_lacks 58 (encoded_text s) (lacks_test (codes ":") (encoded_text s) (Lacks-encoded (codes ":") refl s v (test_lacks (codes ":") s (lacks_has 58 s f))))
+    no_colon s v f = has_lacks 58 (encoded_text s)
+        (lacks_test (codes ":") (encoded_text s)
+        (Lacks-encoded (codes ":") refl s v (test_lacks (codes ":") s (lacks_has 58 s f))))
 
 part_some : (set : TableSet) → set.pct_encoded ≡ true → (o : Option (List ℕ))
     → IfSome o (λ x. is_part set x ≡ true)
@@ -68,26 +71,32 @@ part_some set octets (Some x) h = part_encoded set octets x h
 
 module _ (kind : Kind) (sets : HasComponentSets kind) where
   authority_some : (o : Option (List ℕ)) → IfSome o (λ a. IsUtf8 a × (is_authority kind a ≡ true))
-      → IfSome (option_map encoded_text o) (λ a. IsUtf8 a × (is_authority (ascii_kind kind) a ≡ true))
+      → IfSome (option_map encoded_text o)
+      (λ a. IsUtf8 a × (is_authority (ascii_kind kind) a ≡ true))
   authority_some None h = tt
   authority_some (Some a) h = (IsUtf8-encoded a h.0, authority_encoded kind sets a h.0 h.1)
 
   needs_encoded : (scheme authority : Option (List ℕ)) (path : List ℕ)
       → is_part kind.path path ≡ true
-      → (is_some scheme || (not kind.needs_scheme && (is_some authority || not (has_colon_first path))))
+      → (is_some scheme
+      || (not kind.needs_scheme && (is_some authority || not (has_colon_first path))))
       ≡ true
-      → (is_some (option_map encoded_text scheme) || (not kind.needs_scheme && (is_some (option_map encoded_text authority) || not (has_colon_first (encoded_text path)))))
+      → (is_some (option_map encoded_text scheme)
+      || (not kind.needs_scheme && (is_some (option_map encoded_text authority)
+      || not (has_colon_first (encoded_text path)))))
       ≡ true
   needs_encoded (Some s) authority path part h = refl
   needs_encoded None (Some a) path part h = h
   needs_encoded None None path part h =
       let q = and_parts (not kind.needs_scheme) (not (has_colon_first path)) h in
-      and_from _ _ q.0 (not_from_false _ (colon_encoded path (part_utf8 kind.path path part) (not-true _ q.1)))
+      and_from _ _ q.0
+      (not_from_false _ (colon_encoded path (part_utf8 kind.path path part) (not-true _ q.1)))
 
   parts_encoded : (p : Components) → AreParts kind p
       → AreParts (ascii_kind kind) (encoded_components p)
   parts_encoded p parts = record {
-    scheme = subst (λ o. IfSome o (λ s. IsUtf8 s × (is_scheme s ≡ true))) (sym (scheme_kept p.scheme parts.scheme)) parts.scheme;
+    scheme = subst (λ o. IfSome o (λ s. IsUtf8 s × (is_scheme s ≡ true)))
+        (sym (scheme_kept p.scheme parts.scheme)) parts.scheme;
     authority = authority_some p.authority parts.authority;
     path = part_encoded kind.path sets.path.octets p.path parts.path;
     query = part_some kind.query sets.query.octets p.query parts.query;
@@ -100,7 +109,8 @@ module _ (kind : Kind) (sets : HasComponentSets kind) where
   encoded_is_text text w = record {
     utf8 = IsUtf8-encoded text w.utf8;
     grammar = ap (are_components (ascii_kind kind)) (components-encoded text w.utf8)
-        ∙ parts_meet (ascii_kind kind) (encoded_components (components text)) (parts_encoded (components text) (parts_of kind text w));
+        ∙ parts_meet (ascii_kind kind) (encoded_components (components text))
+        (parts_encoded (components text) (parts_of kind text w));
   }
 
   -- the meaning
@@ -109,7 +119,8 @@ module _ (kind : Kind) (sets : HasComponentSets kind) where
       → option_map (authority_meaning kind default) (option_map encoded_text o)
       ≡ option_map (authority_meaning kind default) o
   authority_kept default None h = refl
-  authority_kept default (Some a) h = ap Some (authority_meaning-encoded kind sets a h.0 h.1 default)
+  authority_kept default (Some a) h =
+      ap Some (authority_meaning-encoded kind sets a h.0 h.1 default)
 
   path_kept : (scheme : Option (List ℕ)) (path : List ℕ) → is_part kind.path path ≡ true
       → read kind.path (plain_path scheme (encoded_text path))
@@ -117,22 +128,35 @@ module _ (kind : Kind) (sets : HasComponentSets kind) where
   path_kept None path part = read-encoded kind.path path part
   path_kept (Some s) path part =
       ap (read kind.path) (cleaned_encoded path (part_utf8 kind.path path part))
-      ∙ read-encoded kind.path (cleaned_path path) (part_cleaned kind.path sets.path sets.slash path part)
+      ∙ read-encoded kind.path (cleaned_path path)
+      (part_cleaned kind.path sets.path sets.slash path part)
 
   meaning_encoded : (ports : PortFunction) (p : Components) → AreParts kind p
       → components_meaning kind ports (encoded_components p) ≡ components_meaning kind ports p
   meaning_encoded ports p parts =
       let scheme = scheme_kept p.scheme parts.scheme in
       let default = option_and_then ports (option_map str_to_ascii_lowercase p.scheme) in
-      let authority = ap (λ s. option_map (authority_meaning kind (option_and_then ports (option_map str_to_ascii_lowercase s))) (option_map encoded_text p.authority)) scheme
+      let authority =
+      ap
+      (λ s. option_map (authority_meaning kind
+      (option_and_then ports (option_map str_to_ascii_lowercase s)))
+      (option_map encoded_text p.authority)) scheme
       ∙ authority_kept default p.authority parts.authority in
       let path = ap (λ s. read kind.path (plain_path s (encoded_text p.path))) scheme
       ∙ path_kept p.scheme p.path parts.path in
       let query = read_some kind.query p.query parts.query in
       let fragment = read_some kind.fragment p.fragment parts.fragment in
-      λ i. record { scheme = option_map str_to_ascii_lowercase (scheme i); authority = authority i; path = path i; query = query i; fragment = fragment i }
+      λ i. record {
+        scheme = option_map str_to_ascii_lowercase (scheme i);
+        authority =
+            authority i;
+        path = path i;
+        query = query i;
+        fragment = fragment i;
+      }
 
   pub meaning_of-encoded : (ports : PortFunction) (text : List ℕ) → IsTextOf kind text
       → meaning_of kind ports (encoded_text text) ≡ meaning_of kind ports text
-  meaning_of-encoded ports text w = ap (components_meaning kind ports) (components-encoded text w.utf8)
+  meaning_of-encoded ports text w =
+      ap (components_meaning kind ports) (components-encoded text w.utf8)
       ∙ meaning_encoded ports (components text) (parts_of kind text w)

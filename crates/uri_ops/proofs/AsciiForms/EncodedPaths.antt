@@ -84,7 +84,8 @@ module _ (p : ℕ → Bool) (percent : p 37 ≡ true)
   octet_passes b e =
       let d = and_parts _ _ (digits_of b (ltb-true b 256 e)) in
       let q = and_parts (is_ascii_hexdigit (digit_glyph true (b / 16))) _ d.0 in
-      and_from _ _ percent (and_from _ _ (hex (digit_glyph true (b / 16)) q.0) (and_from _ _ (hex (digit_glyph true (b % 16)) q.1) refl))
+      and_from _ _ percent (and_from _ _ (hex (digit_glyph true (b / 16)) q.0)
+      (and_from _ _ (hex (digit_glyph true (b % 16)) q.1) refl))
 
   bytes_pass : (text : List ℕ) → list_all is_byte text ≡ true → list_all p text ≡ true
       → list_all p (encoded_text text) ≡ true
@@ -94,7 +95,9 @@ module _ (p : ℕ → Bool) (percent : p 37 ≡ true)
       let r = and_parts (p b) (list_all p text) f in
       ⊎_elim
       (λ h. ap (list_all p) (encoded_first b text h) ∙ and_from _ _ r.0 (bytes_pass text q.1 r.1))
-      (λ h. ap (list_all p) (encoded_octet b text h) ∙ list_all-append p (octet_text b) (encoded_text text) ∙ and_from _ _ (octet_passes b q.0) (bytes_pass text q.1 r.1))
+      (λ h. ap (list_all p) (encoded_octet b text h)
+      ∙ list_all-append p (octet_text b) (encoded_text text)
+      ∙ and_from _ _ (octet_passes b q.0) (bytes_pass text q.1 r.1))
       (cases_lt b 128)
 
   pub encoded_passes : (text : List ℕ) → IsUtf8 text → list_all p text ≡ true
@@ -104,14 +107,17 @@ module _ (p : ℕ → Bool) (percent : p 37 ≡ true)
 -- so no mark comes in
 plain_other : (marks : List ℕ) → list_all is_plain_mark marks ≡ true → (c : ℕ)
     → is_plain_mark c ≡ false → is_one_of marks c ≡ false
-plain_other marks e c f = false_from_ne_true _ (λ m. both_ways _ f (of_each is_plain_mark marks e c m))
+plain_other marks e c f = false_from_ne_true _
+    (λ m. both_ways _ f (of_each is_plain_mark marks e c m))
 
 pub Lacks-encoded : (marks : List ℕ) → list_all is_plain_mark marks ≡ true → (text : List ℕ)
     → IsUtf8 text → Lacks marks text → Lacks marks (encoded_text text)
 Lacks-encoded marks plain text u lacks =
     test_lacks marks (encoded_text text)
-    (encoded_passes (λ c. not (is_one_of marks c)) (not_from_false _ (plain_other marks plain 37 refl))
-    (λ c h. not_from_false _ (plain_other marks plain c (hex_other c h))) text u (lacks_test marks text lacks))
+    (encoded_passes (λ c. not (is_one_of marks c))
+    (not_from_false _ (plain_other marks plain 37 refl))
+    (λ c h. not_from_false _ (plain_other marks plain c (hex_other c h))) text u
+    (lacks_test marks text lacks))
   where
     hex_other : (c : ℕ) → is_ascii_hexdigit c ≡ true → is_plain_mark c ≡ false
     hex_other c h = ap (λ t. nat_lt c 128 && (not t && not (eqb c 37))) h ∙ and_right _ _ refl
@@ -133,7 +139,8 @@ starts_encoded mark plain (b ∷ x) = ⊎_elim
 
 pub empty_encoded : (x : List ℕ) → is_empty (encoded_text x) ≡ is_empty x
 empty_encoded [] = ap is_empty encoded-nil
-empty_encoded (b ∷ x) = ⊎_elim (λ h. ap is_empty (encoded_first b x h)) (λ h. ap is_empty (encoded_octet b x h)) (cases_lt b 128)
+empty_encoded (b ∷ x) = ⊎_elim (λ h. ap is_empty (encoded_first b x h))
+    (λ h. ap is_empty (encoded_octet b x h)) (cases_lt b 128)
 
 pub has_authority_encoded : (x : List ℕ) → has_authority (encoded_text x) ≡ has_authority x
 has_authority_encoded x = ⊎_elim
@@ -142,14 +149,19 @@ has_authority_encoded x = ⊎_elim
     ap (λ t. has_authority (encoded_text t)) w.1 ∙ ap has_authority (encoded_first 47 w.0 (lit< tt))
     ∙ authority_slash (encoded_text w.0)
     ∙ starts_encoded 47 refl w.0 ∙ sym (ap has_authority w.1 ∙ authority_slash w.0))
-    (λ h. no_authority_first (encoded_text x) (starts_encoded 47 refl x ∙ h) ∙ sym (no_authority_first x h))
+    (λ h. no_authority_first (encoded_text x) (starts_encoded 47 refl x ∙ h)
+    ∙ sym (no_authority_first x h))
     (cases_Bool (starts 47 x))
 
 -- where it is cut
 Begins-encoded : (marks : List ℕ) → list_all is_plain_mark marks ≡ true → (x : List ℕ)
     → Begins marks x → Begins marks (encoded_text x)
 Begins-encoded marks plain [] begins = subst (Begins marks) (sym encoded-nil) tt
-Begins-encoded marks plain (c ∷ x) begins = subst (Begins marks) (sym (encoded_first c x (ltb-true c 128 (and_parts (ltb c 128) _ (of_each is_plain_mark marks plain c begins)).0))) begins
+Begins-encoded marks plain (c ∷ x) begins =
+    subst (Begins marks)
+    (sym
+    (encoded_first c x (ltb-true c 128
+    (and_parts (ltb c 128) _ (of_each is_plain_mark marks plain c begins)).0))) begins
 
 pub cut_encoded : (marks : List ℕ) → list_all is_plain_mark marks ≡ true → (x : List ℕ) → IsUtf8 x
     → IsUtf8 (before_any marks x)
@@ -157,9 +169,13 @@ pub cut_encoded : (marks : List ℕ) → list_all is_plain_mark marks ≡ true �
     × (from_any marks (encoded_text x) ≡ encoded_text (from_any marks x))
 cut_encoded marks plain x u v =
     let cut = IsCut-any marks x in
-    let whole : encoded_text x ≡ encoded_text (before_any marks x) ++ encoded_text (from_any marks x) = ap encoded_text (sym cut.whole)
+    let whole : encoded_text x ≡ encoded_text (before_any marks x)
+    ++ encoded_text (from_any marks x) = ap encoded_text (sym cut.whole)
     ∙ encoded-append (before_any marks x) (from_any marks x) in
-    let parts = cut-append marks (encoded_text (before_any marks x)) (encoded_text (from_any marks x)) (Lacks-encoded marks plain (before_any marks x) v cut.lacks) (Begins-encoded marks plain (from_any marks x) cut.begins) in
+    let parts = cut-append marks (encoded_text (before_any marks x))
+    (encoded_text (from_any marks x))
+    (Lacks-encoded marks plain (before_any marks x) v cut.lacks)
+    (Begins-encoded marks plain (from_any marks x) cut.begins) in
     (ap (before_any marks) whole ∙ parts.0, ap (from_any marks) whole ∙ parts.1)
 
 -- segment by segment
@@ -168,13 +184,15 @@ encoded_slashed : (segs : List (List ℕ))
 unfolding slashed
 encoded_slashed [] = encoded-nil
 encoded_slashed (s ∷ rest) = encoded_first 47 (s ++ slashed rest) (lit< tt)
-    ∙ ap (λ t. 47 ∷ t) (encoded-append s (slashed rest) ∙ ap (λ t. encoded_text s ++ t) (encoded_slashed rest))
+    ∙ ap (λ t. 47 ∷ t) (encoded-append s (slashed rest)
+    ∙ ap (λ t. encoded_text s ++ t) (encoded_slashed rest))
 
 utf8_behind : (s : List ℕ) (rest : List (List ℕ)) → IsUtf8 (s ++ slashed rest)
     → Passes is_utf8 (s ∷ rest)
 unfolding slashed
 utf8_behind s [] u = and_from _ _ (is_utf8-from_IsUtf8 s (subst IsUtf8 (append-nil s) u)) refl
-utf8_behind s (t ∷ rest) u = let p = utf8_apart s 47 (t ++ slashed rest) (lit< tt) u in and_from _ _ (is_utf8-from_IsUtf8 s p.0) (utf8_behind t rest p.1)
+utf8_behind s (t ∷ rest) u = let p = utf8_apart s 47 (t ++ slashed rest) (lit< tt) u in
+    and_from _ _ (is_utf8-from_IsUtf8 s p.0) (utf8_behind t rest p.1)
 
 pub utf8_slashed : (s : List ℕ) (rest : List (List ℕ)) → IsUtf8 (slashed (s ∷ rest))
     → Passes is_utf8 (s ∷ rest)
@@ -186,11 +204,18 @@ keeps s e =
     let u = IsUtf8-from_is_utf8 s e in
     let v = IsUtf8-encoded s u in
     let same = token_bytes-encoded s u in
-    record { single = same_single_dot (encoded_text s) s v u same; double = same_double_dot (encoded_text s) s v u same }
+    record {
+      single = same_single_dot (encoded_text s) s v u same;
+      double =
+          same_double_dot (encoded_text s) s v u same;
+    }
 
 no_slash : (s : List ℕ) → is_utf8 s ≡ true → has_slash s ≡ false
     → has_slash (encoded_text s) ≡ false
-no_slash s e f = has_lacks 47 (encoded_text s) (lacks_test (codes "/") (encoded_text s) (Lacks-encoded (codes "/") refl s (IsUtf8-from_is_utf8 s e) (test_lacks (codes "/") s (lacks_has 47 s f))))
+no_slash s e f = has_lacks 47 (encoded_text s)
+    (lacks_test (codes "/") (encoded_text s)
+    (Lacks-encoded (codes "/") refl s (IsUtf8-from_is_utf8 s e)
+    (test_lacks (codes "/") s (lacks_has 47 s f))))
 
 no_slashes : (segs : List (List ℕ)) → Passes is_utf8 segs → NoSlashes segs
     → NoSlashes (map encoded_text segs)
@@ -202,7 +227,8 @@ no_slashes (s ∷ rest) e f =
 
 pub removed_encoded : (path : List ℕ) → IsAbsolute path → IsUtf8 path
     → remove_dot_segments (encoded_text path) ≡ encoded_text (remove_dot_segments path)
-removed_encoded = by_segments (λ path. IsUtf8 path → remove_dot_segments (encoded_text path) ≡ encoded_text (remove_dot_segments path))
+removed_encoded = by_segments (λ path. IsUtf8 path → remove_dot_segments (encoded_text path)
+    ≡ encoded_text (remove_dot_segments path))
     (λ s rest f u.
     let p = utf8_slashed s rest u in
     ap remove_dot_segments (encoded_slashed (s ∷ rest))
@@ -213,7 +239,8 @@ removed_encoded = by_segments (λ path. IsUtf8 path → remove_dot_segments (enc
 
 pub underflows_encoded : (path : List ℕ) → IsAbsolute path → IsUtf8 path
     → underflows (encoded_text path) ≡ underflows path
-underflows_encoded = by_segments (λ path. IsUtf8 path → underflows (encoded_text path) ≡ underflows path)
+underflows_encoded =
+    by_segments (λ path. IsUtf8 path → underflows (encoded_text path) ≡ underflows path)
     (λ s rest f u.
     let p = utf8_slashed s rest u in
     ap underflows (encoded_slashed (s ∷ rest))
@@ -224,9 +251,12 @@ underflows_encoded = by_segments (λ path. IsUtf8 path → underflows (encoded_t
 pub directory_encoded : (path : List ℕ) → IsRooted path → IsUtf8 path
     → directory (encoded_text path) ≡ encoded_text (directory path)
 unfolding directory
-directory_encoded = rooted (λ path. IsUtf8 path → directory (encoded_text path) ≡ encoded_text (directory path))
-    (λ u. ap directory encoded-nil ∙ sym (encoded_first 47 [] (lit< tt) ∙ ap (λ t. 47 ∷ t) encoded-nil))
-    (by_segments (λ path. IsUtf8 path → directory (encoded_text path) ≡ encoded_text (directory path))
+directory_encoded =
+    rooted (λ path. IsUtf8 path → directory (encoded_text path) ≡ encoded_text (directory path))
+    (λ u. ap directory encoded-nil
+    ∙ sym (encoded_first 47 [] (lit< tt) ∙ ap (λ t. 47 ∷ t) encoded-nil))
+    (by_segments (λ path. IsUtf8 path
+    → directory (encoded_text path) ≡ encoded_text (directory path))
     (λ s rest f u.
     let p = utf8_slashed s rest u in
     ap directory (encoded_slashed (s ∷ rest))
@@ -243,7 +273,8 @@ pub cleaned_encoded : (path : List ℕ) → IsUtf8 path
 cleaned_encoded path u =
     let first = starts_encoded 47 refl path in
     ⊎_elim
-    (λ e. cond-true _ _ _ (first ∙ e) ∙ removed_encoded path (true_to _ e) u ∙ ap encoded_text (sym (cond-true _ _ _ e)))
+    (λ e. cond-true _ _ _ (first ∙ e) ∙ removed_encoded path (true_to _ e) u
+    ∙ ap encoded_text (sym (cond-true _ _ _ e)))
     (λ e. cond-false _ _ _ (first ∙ e) ∙ ap encoded_text (sym (cond-false _ _ _ e)))
     (cases_Bool (starts 47 path))
 
@@ -251,9 +282,13 @@ pub guarded_encoded : (authority other : Option (List ℕ)) (path : List ℕ)
     → is_absent other ≡ is_absent authority
     → guarded other (encoded_text path) ≡ encoded_text (guarded authority path)
 guarded_encoded authority other path e =
-    let same : (is_absent other && has_authority (encoded_text path)) ≡ (is_absent authority && has_authority path) = ap (λ t. t && has_authority (encoded_text path)) e
+    let same : (is_absent other && has_authority (encoded_text path))
+    ≡ (is_absent authority && has_authority path) =
+    ap (λ t. t && has_authority (encoded_text path)) e
     ∙ ap (λ t. is_absent authority && t) (has_authority_encoded path) in
     ⊎_elim
-    (λ h. cond-true _ _ _ (same ∙ h) ∙ sym (ap encoded_text (cond-true _ _ _ h) ∙ encoded-append (codes "/.") path ∙ ap (λ t. t ++ encoded_text path) (encoded-ascii (codes "/.") refl)))
+    (λ h. cond-true _ _ _ (same ∙ h)
+    ∙ sym (ap encoded_text (cond-true _ _ _ h) ∙ encoded-append (codes "/.") path
+    ∙ ap (λ t. t ++ encoded_text path) (encoded-ascii (codes "/.") refl)))
     (λ h. cond-false _ _ _ (same ∙ h) ∙ ap encoded_text (sym (cond-false _ _ _ h)))
     (cases_Bool (is_absent authority && has_authority path))

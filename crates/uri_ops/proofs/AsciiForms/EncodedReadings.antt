@@ -34,12 +34,14 @@ module _ (set : TableSet) (octets : set.pct_encoded ≡ true) where
       and_from _ _ octets (allows_encoded ts p.1)
   allows_encoded (Char c ∷ ts) e =
       let p = and_parts (allows set c) (list_all (allows_token set) ts) e in
-      list_all-append (allows_token (ascii_set set)) (encoded_token (Char c)) (flat_map encoded_token ts)
+      list_all-append (allows_token (ascii_set set)) (encoded_token (Char c))
+      (flat_map encoded_token ts)
       ∙ and_from _ _ (⊎_elim
       (λ h.
       ap (list_all (allows_token (ascii_set set))) (cond-true _ _ _ (lt-ltb c 128 h))
       ∙ and_from _ true (allows-ascii (ascii_set set) c h ∙ sym (allows-ascii set c h) ∙ p.0) refl)
-      (λ h. ap (list_all (allows_token (ascii_set set))) (cond-false _ _ _ (le-ltb c 128 h)) ∙ allows_octets (encode_utf8 c))
+      (λ h. ap (list_all (allows_token (ascii_set set))) (cond-false _ _ _ (le-ltb c 128 h))
+      ∙ allows_octets (encode_utf8 c))
       (cases_lt c 128)) (allows_encoded ts p.1)
 
   pub part_encoded : (text : List ℕ) → is_part set text ≡ true
@@ -48,7 +50,8 @@ module _ (set : TableSet) (octets : set.pct_encoded ≡ true) where
   part_encoded text e =
       let u = part_utf8 set text e in
       part_from (ascii_set set) (encoded_text text) (IsUtf8-encoded text u)
-      (ap (list_all (allows_token (ascii_set set))) (tokens-encoded text u) ∙ allows_encoded (tokens text) (part_valid set text e))
+      (ap (list_all (allows_token (ascii_set set))) (tokens-encoded text u)
+      ∙ allows_encoded (tokens text) (part_valid set text e))
 
 module _ (set : TableSet) where
   octets_run : (run bytes : List ℕ) (ts : List Token)
@@ -69,8 +72,10 @@ module _ (set : TableSet) where
   unfolding read_run
   run_around run more c s e =
       ap (flat_map (read_piece set)) (utf8_pieces-around_char run c more s)
-      ∙ flat_map-append (read_piece set) (utf8_pieces run) (WellFormed (encode_utf8 c) ∷ utf8_pieces more)
-      ∙ ap (λ t. flat_map (read_piece set) (utf8_pieces run) ++ (t ++ flat_map (read_piece set) (utf8_pieces more))) (char_piece c s e)
+      ∙ flat_map-append (read_piece set) (utf8_pieces run)
+      (WellFormed (encode_utf8 c) ∷ utf8_pieces more)
+      ∙ ap (λ t. flat_map (read_piece set) (utf8_pieces run)
+      ++ (t ++ flat_map (read_piece set) (utf8_pieces more))) (char_piece c s e)
 
   -- the octets of a character part the reading as the character does
   from_around : (run more : List ℕ) (c : ℕ) (ts : List Token) → IsScalar c
@@ -80,7 +85,8 @@ module _ (set : TableSet) where
   unfolding read_from
   from_around run more c [] s e = run_around run more c s e
   from_around run more c (Octet value ∷ ts) s e =
-      ap (λ r. read_from set r ts) (append_assoc run (encode_utf8 c ++ more) (value ∷ []) ∙ ap (λ t. run ++ t) (append_assoc (encode_utf8 c) more (value ∷ [])))
+      ap (λ r. read_from set r ts) (append_assoc run (encode_utf8 c ++ more) (value ∷ [])
+      ∙ ap (λ t. run ++ t) (append_assoc (encode_utf8 c) more (value ∷ [])))
       ∙ from_around run (more ++ value ∷ []) c ts s e
   from_around run more c (Char d ∷ ts) s e =
       ap (λ t. t ++ Char d ∷ read_from set [] ts) (run_around run more c s e)
@@ -94,18 +100,24 @@ module _ (set : TableSet) where
       → read_from set run (flat_map encoded_token ts) ≡ read_from set run ts
   unfolding read_from
   from_encoded run [] e = refl
-  from_encoded run (Octet value ∷ ts) e = from_encoded (run ++ value ∷ []) ts (and_parts set.pct_encoded (list_all (allows_token set) ts) e).1
+  from_encoded run (Octet value ∷ ts) e =
+      from_encoded (run ++ value ∷ []) ts
+      (and_parts set.pct_encoded (list_all (allows_token set) ts) e).1
   from_encoded run (Char c ∷ ts) e =
       let p = and_parts (allows set c) (list_all (allows_token set) ts) e in
       let rest = from_encoded [] ts p.1 in
       ⊎_elim
-      (λ h. ap (λ t. read_from set run (t ++ flat_map encoded_token ts)) (cond-true _ _ _ (lt-ltb c 128 h)) ∙ ap (λ t. read_run set run ++ Char c ∷ t) rest)
+      (λ h. ap (λ t. read_from set run (t ++ flat_map encoded_token ts))
+      (cond-true _ _ _ (lt-ltb c 128 h)) ∙ ap (λ t. read_run set run ++ Char c ∷ t) rest)
       (λ h.
       let past = sym (allows-past set c h) ∙ p.0 in
-      ap (λ t. read_from set run (t ++ flat_map encoded_token ts)) (cond-false _ _ _ (le-ltb c 128 h))
+      ap (λ t. read_from set run (t ++ flat_map encoded_token ts))
+      (cond-false _ _ _ (le-ltb c 128 h))
       ∙ octets_run run (encode_utf8 c) (flat_map encoded_token ts)
-      ∙ ap (λ r. read_from set (run ++ r) (flat_map encoded_token ts)) (sym (append-nil (encode_utf8 c)))
-      ∙ from_around run [] c (flat_map encoded_token ts) (past_ascii_scalar set c past).1 (readable_past c past)
+      ∙ ap (λ r. read_from set (run ++ r) (flat_map encoded_token ts))
+      (sym (append-nil (encode_utf8 c)))
+      ∙ from_around run [] c (flat_map encoded_token ts) (past_ascii_scalar set c past).1
+      (readable_past c past)
       ∙ ap (λ t. read_run set run ++ Char c ∷ t) rest)
       (cases_lt c 128)
 
@@ -113,4 +125,5 @@ module _ (set : TableSet) where
       → read set (encoded_text text) ≡ read set text
   unfolding is_valid_for
   read-encoded text e =
-      ap (encode_formatting set) (ap (read_tokens set) (tokens-encoded text (part_utf8 set text e)) ∙ from_encoded [] (tokens text) (part_valid set text e))
+      ap (encode_formatting set) (ap (read_tokens set) (tokens-encoded text (part_utf8 set text e))
+      ∙ from_encoded [] (tokens text) (part_valid set text e))

@@ -1,18 +1,14 @@
 -- The bytes of a text are encoded in runs.
 use Rattle.std.proofs.Common.{◌≡◌, ℕ, zero, suc, ◌+◌, ◌-◌, ◌<◌, ◌≤◌, List, [], ◌∷◌, ◌++◌, length}
 use Rattle.std.proofs.Common.{get_or, take, drop, sym, ap, subst, ◌∙◌, arith, append_assoc, ⊎_elim}
-use Rattle.std.proofs.Math.Seq.{take-suc, take-add}
+use Rattle.std.proofs.Math.Seq.{take-add}
 use Rattle.std.proofs.lemmas.Bool.{cases_lt}
 use Rattle.std.proofs.lemmas.List.{append-nil, length-append, length-drop, get_or-drop, take_all}
 use Rattle.uri_ops.specs.Encoded.{encoded_text}
 use Rattle.uri_ops.proofs.AsciiForms.EncodedTokens.{octet_text}
 use Rattle.uri_ops.proofs.AsciiForms.EncodedPaths.{encoded-append, encoded-nil, encoded_first}
 use Rattle.uri_ops.proofs.AsciiForms.EncodedPaths.{encoded_octet}
-
-one_more : (bytes : List ℕ) (i : ℕ) → i < length bytes
-    → take (i + 1) bytes ≡ take i bytes ++ get_or bytes i 0 ∷ []
-one_more bytes i h = let e : i + 1 ≡ suc i = omega arith in ap (λ n. take n bytes) e
-    ∙ take-suc bytes i 0 h
+use Rattle.uri_ops.proofs.Paths.DotStarts.{one_more}
 
 -- one more byte of a run of ASCII characters
 pub plain_more : (bytes : List ℕ) (i : ℕ) → i < length bytes → get_or bytes i 0 < 128
@@ -22,7 +18,8 @@ plain_more bytes i h low e =
     let m = one_more bytes i h in
     ap encoded_text m ∙ encoded-append (take i bytes) (get_or bytes i 0 ∷ [])
     ∙ ap (λ t. t ++ encoded_text (get_or bytes i 0 ∷ [])) e
-    ∙ ap (λ t. take i bytes ++ t) (encoded_first (get_or bytes i 0) [] low ∙ ap (λ t. get_or bytes i 0 ∷ t) encoded-nil)
+    ∙ ap (λ t. take i bytes ++ t) (encoded_first (get_or bytes i 0) [] low
+    ∙ ap (λ t. get_or bytes i 0 ∷ t) encoded-nil)
     ∙ sym m
 
 -- a whole run of them
@@ -39,7 +36,10 @@ pub octet_more : (bytes : List ℕ) (i : ℕ) → i < length bytes → 128 ≤ g
     ≡ encoded_text (take i bytes) ++ octet_text (get_or bytes i 0)
 octet_more bytes i h high =
     ap encoded_text (one_more bytes i h) ∙ encoded-append (take i bytes) (get_or bytes i 0 ∷ [])
-    ∙ ap (λ t. encoded_text (take i bytes) ++ t) (encoded_octet (get_or bytes i 0) [] high ∙ ap (λ t. octet_text (get_or bytes i 0) ++ t) encoded-nil ∙ append-nil (octet_text (get_or bytes i 0)))
+    ∙ ap (λ t. encoded_text (take i bytes) ++ t)
+    (encoded_octet (get_or bytes i 0) [] high
+    ∙ ap (λ t. octet_text (get_or bytes i 0) ++ t) encoded-nil
+    ∙ append-nil (octet_text (get_or bytes i 0)))
 
 -- a run of ASCII characters
 pub run_plain : (bytes : List ℕ) (n : ℕ) → n ≤ length bytes
@@ -47,14 +47,19 @@ pub run_plain : (bytes : List ℕ) (n : ℕ) → n ≤ length bytes
 run_plain bytes zero h low = encoded-nil
 run_plain bytes (suc n) h low =
     let e : n + 1 ≡ suc n = omega arith in
-    subst (λ m. encoded_text (take m bytes) ≡ take m bytes) e (plain_more bytes n (omega arith) (low n (omega arith)) (run_plain bytes n (omega arith) (λ k l. low k (omega arith))))
+    subst (λ m. encoded_text (take m bytes) ≡ take m bytes) e
+    (plain_more bytes n (omega arith) (low n (omega arith))
+    (run_plain bytes n (omega arith) (λ k l. low k (omega arith))))
 
 -- how long the encoded text is, with one more byte
 pub longer_by_one : (bytes : List ℕ) (i : ℕ) → i < length bytes → get_or bytes i 0 < 128
     → length (encoded_text (take (i + 1) bytes)) ≡ length (encoded_text (take i bytes)) + 1
 longer_by_one bytes i h low =
     let more = encoded_text (take i bytes) in
-    ap length (ap encoded_text (one_more bytes i h) ∙ encoded-append (take i bytes) (get_or bytes i 0 ∷ []) ∙ ap (λ t. more ++ t) (encoded_first (get_or bytes i 0) [] low ∙ ap (λ t. get_or bytes i 0 ∷ t) encoded-nil))
+    ap length (ap encoded_text (one_more bytes i h)
+    ∙ encoded-append (take i bytes) (get_or bytes i 0 ∷ [])
+    ∙ ap (λ t. more ++ t) (encoded_first (get_or bytes i 0) [] low
+    ∙ ap (λ t. get_or bytes i 0 ∷ t) encoded-nil))
     ∙ length-append more (get_or bytes i 0 ∷ [])
 
 pub longer_by_three : (bytes : List ℕ) (i : ℕ) → i < length bytes → 128 ≤ get_or bytes i 0
@@ -66,7 +71,13 @@ longer : (text : List ℕ) → length text ≤ length (encoded_text text)
 longer [] = omega arith
 longer (c ∷ text) = ⊎_elim
     (λ h. omega (arith, ap length (encoded_first c text h), longer text))
-    (λ h. omega (arith, ap length (encoded_octet c text h), length-append (octet_text c) (encoded_text text), longer text))
+    (λ h. omega (
+      arith,
+      ap length (encoded_octet c text h),
+      length-append (octet_text c)
+          (encoded_text text),
+      longer text,
+    ))
     (cases_lt c 128)
 
 -- a text that is as long as its encoded text is that text
@@ -74,8 +85,18 @@ pub same_length : (text : List ℕ) → length (encoded_text text) ≡ length te
     → encoded_text text ≡ text
 same_length [] e = encoded-nil
 same_length (c ∷ text) e = ⊎_elim
-    (λ h. encoded_first c text h ∙ ap (λ t. c ∷ t) (same_length text (omega (arith, e, ap length (encoded_first c text h)))))
-    (λ h. absurd (omega (arith, e, ap length (encoded_octet c text h), length-append (octet_text c) (encoded_text text), longer text)))
+    (λ h. encoded_first c text h
+    ∙ ap (λ t. c ∷ t) (same_length text (omega (arith, e, ap length (encoded_first c text h)))))
+    (λ h.
+    absurd
+    (omega (
+      arith,
+      e,
+      ap length (encoded_octet c text h),
+      length-append (octet_text c)
+          (encoded_text text),
+      longer text,
+    )))
     (cases_lt c 128)
 
 pub nothing_encoded : encoded_text [] ≡ []
@@ -86,7 +107,8 @@ abbrev from : List ℕ → ℕ → List ℕ
 from bytes i = take (length bytes - i) (drop i bytes)
 
 from_drop : (bytes : List ℕ) (i : ℕ) → from bytes i ≡ drop i bytes
-from_drop bytes i = let d : length (drop i bytes) ≡ length bytes - i = length-drop i bytes in take_all (length bytes - i) (drop i bytes) (omega arith)
+from_drop bytes i = let d : length (drop i bytes) ≡ length bytes - i = length-drop i bytes in
+    take_all (length bytes - i) (drop i bytes) (omega arith)
 
 -- what is written then
 pub run_total : (old out new bytes : List ℕ) (i n : ℕ)
@@ -98,7 +120,10 @@ run_total old out new bytes i n plain o e =
     let k : i + n - i ≡ n = omega arith in
     e ∙ ap (λ m. out ++ take m (drop i bytes)) k ∙ ap (λ t. t ++ run) o
     ∙ append_assoc old (encoded_text (take i bytes)) run
-    ∙ ap (λ t. old ++ t) (sym (run_more bytes i n (subst (λ t. encoded_text (take n t) ≡ take n t) (from_drop bytes i) plain)))
+    ∙ ap (λ t. old ++ t)
+    (sym
+    (run_more bytes i n
+    (subst (λ t. encoded_text (take n t) ≡ take n t) (from_drop bytes i) plain)))
 
 pub octet_total : (old mid new bytes : List ℕ) (i : ℕ) → i < length bytes → 128 ≤ get_or bytes i 0
     → mid ≡ old ++ encoded_text (take i bytes) → new ≡ mid ++ octet_text (get_or bytes i 0)
@@ -115,7 +140,8 @@ pub high_ahead : (bytes : List ℕ) (i n : ℕ) → i + n < length bytes
     → (n < length (from bytes i) → 128 ≤ get_or (from bytes i) n 0) → 128 ≤ get_or bytes (i + n) 0
 high_ahead bytes i n h stops =
     let d : length (drop i bytes) ≡ length bytes - i = length-drop i bytes in
-    subst (λ b. 128 ≤ b) (get_or-drop i bytes n 0) (subst (λ t. n < length t → 128 ≤ get_or t n 0) (from_drop bytes i) stops (omega arith))
+    subst (λ b. 128 ≤ b) (get_or-drop i bytes n 0)
+    (subst (λ t. n < length t → 128 ≤ get_or t n 0) (from_drop bytes i) stops (omega arith))
 
 pub end_inside : (bytes : List ℕ) (i n : ℕ) → i ≤ length bytes → n ≤ length (from bytes i)
     → i + n ≤ length bytes

@@ -17,7 +17,7 @@ use Rattle.std.proofs.lemmas.Bool.Decides.{nat_tests}
 use Rattle.uri_pct.specs.Tokens.{Token, Char, Octet, tokens, tokens_of, token_bytes, bytes_of_token}
 use Rattle.uri_pct.specs.Tokens.{is_pct_encoded, text_of_token}
 use Rattle.uri_pct.specs.Models.Fronts.{begins_hex}
-use Rattle.uri_pct.proofs.Unicode.Characters.{bytes_of_char, is_high, lead}
+use Rattle.uri_pct.proofs.Unicode.Characters.{bytes_of_char, is_high, lead, hex_ascii}
 use Rattle.uri_ops.specs.Encoded.{encoded_byte, encoded_text}
 use Rattle.uri_ops.proofs.Meanings.PlainTexts.{ascii_from, utf8_ascii}
 use Rattle.uri_pct.proofs.TableSets.Constants.{hexdigit_past}
@@ -29,7 +29,8 @@ abbrev are_digits : ℕ → Bool
 are_digits v =
     let high = digit_glyph true (v / 16) in
     let low = digit_glyph true (v % 16) in
-    (is_ascii_hexdigit high && is_ascii_hexdigit low) && eqb (16 * digit_value high + digit_value low) v
+    (is_ascii_hexdigit high && is_ascii_hexdigit low)
+    && eqb (16 * digit_value high + digit_value low) v
 
 pub digits_of : (v : ℕ) → v < 256 → are_digits v ≡ true
 digits_of v h = agree_below_at are_digits (λ _. true) 256 v refl h
@@ -52,7 +53,8 @@ encoded_token (Octet value) = Octet value ∷ []
 high_bytes : (c : ℕ) → 128 ≤ c → list_all is_high (encode_utf8 c) ≡ true
 high_bytes c h =
     let w = bytes_of_char c in
-    let first : 128 ≤ w.first = subst (λ n. 128 ≤ n) (ap (λ t. get_or (t ++ []) 0 0) w.spelt) (lead c [] h) in
+    let first : 128 ≤ w.first = subst (λ n. 128 ≤ n) (ap (λ t. get_or (t ++ []) 0 0) w.spelt)
+    (lead c [] h) in
     ap (list_all is_high) w.spelt ∙ and_from _ _ (high w.first first) w.high
   where
     high : (b : ℕ) → 128 ≤ b → is_high b ≡ true
@@ -75,10 +77,19 @@ are_bytes c s =
     ⊎_elim
     (λ h. let e = lt-ltb c 128 h in rw e (and_from _ _ (byte c (omega arith)) refl))
     (λ h. let e = le-ltb c 128 h in rw e (⊎_elim
-    (λ k. let f = lt-ltb c 2048 k in rw f (and_from _ _ (byte (192 + c / 64) (omega arith)) (and_from _ _ (byte (128 + c % 64) (omega arith)) refl)))
+    (λ k. let f = lt-ltb c 2048 k in
+    rw f (and_from _ _ (byte (192 + c / 64) (omega arith))
+    (and_from _ _ (byte (128 + c % 64) (omega arith)) refl)))
     (λ k. let f = le-ltb c 2048 k in rw f (⊎_elim
-    (λ m. let g = lt-ltb c 65536 m in rw g (and_from _ _ (byte (224 + c / 4096) (omega arith)) (and_from _ _ (byte (128 + c / 64 % 64) (omega arith)) (and_from _ _ (byte (128 + c % 64) (omega arith)) refl))))
-    (λ m. let g = le-ltb c 65536 m in rw g (and_from _ _ (byte (240 + c / 262144) (omega arith)) (and_from _ _ (byte (128 + c / 4096 % 64) (omega arith)) (and_from _ _ (byte (128 + c / 64 % 64) (omega arith)) (and_from _ _ (byte (128 + c % 64) (omega arith)) refl)))))
+    (λ m. let g = lt-ltb c 65536 m in
+    rw g (and_from _ _ (byte (224 + c / 4096) (omega arith))
+    (and_from _ _ (byte (128 + c / 64 % 64) (omega arith))
+    (and_from _ _ (byte (128 + c % 64) (omega arith)) refl))))
+    (λ m. let g = le-ltb c 65536 m in
+    rw g (and_from _ _ (byte (240 + c / 262144) (omega arith))
+    (and_from _ _ (byte (128 + c / 4096 % 64) (omega arith))
+    (and_from _ _ (byte (128 + c / 64 % 64) (omega arith))
+    (and_from _ _ (byte (128 + c % 64) (omega arith)) refl)))))
     (cases_lt c 65536)))
     (cases_lt c 2048)))
     (cases_lt c 128)
@@ -96,7 +107,8 @@ encoded_high (b ∷ bs) e =
 
 char_encoded : (c : ℕ) → flat_map encoded_byte (encode_utf8 c) ≡ encoded_char c
 char_encoded c = ⊎_elim
-    (λ h. ap (flat_map encoded_byte) (encode_ascii c h) ∙ append-nil (encoded_byte c) ∙ cond-true _ _ _ (lt-ltb c 128 h) ∙ sym (cond-true _ _ _ (lt-ltb c 128 h)))
+    (λ h. ap (flat_map encoded_byte) (encode_ascii c h) ∙ append-nil (encoded_byte c)
+    ∙ cond-true _ _ _ (lt-ltb c 128 h) ∙ sym (cond-true _ _ _ (lt-ltb c 128 h)))
     (λ h. encoded_high (encode_utf8 c) (high_bytes c h) ∙ sym (cond-false _ _ _ (le-ltb c 128 h)))
     (cases_lt c 128)
 
@@ -111,7 +123,9 @@ encoded_text-encodes (c ∷ cs) =
 -- a text without characters past ASCII
 digits_ascii : (v : ℕ) → v < 256
     → (ltb (digit_glyph true (v / 16)) 128 && ltb (digit_glyph true (v % 16)) 128) ≡ true
-digits_ascii v h = agree_below_at (λ v. ltb (digit_glyph true (v / 16)) 128 && ltb (digit_glyph true (v % 16)) 128) (λ _. true) 256 v refl h
+digits_ascii v h = agree_below_at
+    (λ v. ltb (digit_glyph true (v / 16)) 128 && ltb (digit_glyph true (v % 16)) 128) (λ _. true)
+    256 v refl h
 
 abbrev is_low : ℕ → Bool
 is_low c = ltb c 128
@@ -136,8 +150,10 @@ chars_low [] e = refl
 chars_low (c ∷ cs) e =
     let p = and_parts _ (all_scalars cs) e in
     list_all-append is_low (encoded_char c) (encoded_chars cs) ∙ and_from _ _ (⊎_elim
-    (λ h. ap (list_all is_low) (cond-true _ _ _ (lt-ltb c 128 h)) ∙ and_from _ true (lt-ltb c 128 h) refl)
-    (λ h. ap (list_all is_low) (cond-false _ _ _ (le-ltb c 128 h)) ∙ octets_low (encode_utf8 c) (are_bytes c p.0))
+    (λ h. ap (list_all is_low) (cond-true _ _ _ (lt-ltb c 128 h))
+    ∙ and_from _ true (lt-ltb c 128 h) refl)
+    (λ h. ap (list_all is_low) (cond-false _ _ _ (le-ltb c 128 h))
+    ∙ octets_low (encode_utf8 c) (are_bytes c p.0))
     (cases_lt c 128)) (chars_low cs p.1)
 
 encoded_low : (text : List ℕ) → IsUtf8 text → list_all is_low (encoded_text text) ≡ true
@@ -174,14 +190,16 @@ octets_first (b ∷ bs) cs e =
 percent_first : (c : ℕ) (cs : List ℕ) → 128 ≤ c → get_or (encoded_chars (c ∷ cs)) 0 0 ≡ 37
 unfolding encoded_chars
 percent_first c cs h =
-    ap (λ t. get_or (t ++ encoded_chars cs) 0 0) (cond-false _ _ _ (le-ltb c 128 h) ∙ ap (flat_map octet_text) (bytes_of_char c).spelt)
+    ap (λ t. get_or (t ++ encoded_chars cs) 0 0)
+    (cond-false _ _ _ (le-ltb c 128 h) ∙ ap (flat_map octet_text) (bytes_of_char c).spelt)
 
 hex_first : (cs : List ℕ)
     → is_ascii_hexdigit (get_or (encoded_chars cs) 0 0) ≡ is_ascii_hexdigit (get_or cs 0 0)
 unfolding encoded_chars
 hex_first [] = refl
 hex_first (c ∷ cs) = ⊎_elim
-    (λ h. ap (λ t. is_ascii_hexdigit (get_or (t ++ encoded_chars cs) 0 0)) (cond-true _ _ _ (lt-ltb c 128 h)))
+    (λ h. ap (λ t. is_ascii_hexdigit (get_or (t ++ encoded_chars cs) 0 0))
+    (cond-true _ _ _ (lt-ltb c 128 h)))
     (λ h. ap is_ascii_hexdigit (percent_first c cs h) ∙ sym (hexdigit_past c h))
     (cases_lt c 128)
 
@@ -189,9 +207,12 @@ begins_hex-encoded : (cs : List ℕ) → begins_hex (encoded_chars cs) ≡ begin
 unfolding begins_hex encoded_chars
 begins_hex-encoded [] = refl
 begins_hex-encoded (c ∷ cs) = ⊎_elim
-    (λ h. ap (λ t. is_ascii_hexdigit (get_or (t ++ encoded_chars cs) 0 0) && is_ascii_hexdigit (get_or (t ++ encoded_chars cs) 1 0)) (cond-true _ _ _ (lt-ltb c 128 h))
+    (λ h. ap (λ t. is_ascii_hexdigit (get_or (t ++ encoded_chars cs) 0 0)
+    && is_ascii_hexdigit (get_or (t ++ encoded_chars cs) 1 0))
+    (cond-true _ _ _ (lt-ltb c 128 h))
     ∙ ap (λ t. is_ascii_hexdigit c && t) (hex_first cs))
-    (λ h. and_left _ _ (ap is_ascii_hexdigit (percent_first c cs h)) ∙ sym (and_left _ _ (hexdigit_past c h)))
+    (λ h. and_left _ _ (ap is_ascii_hexdigit (percent_first c cs h))
+    ∙ sym (and_left _ _ (hexdigit_past c h)))
     (cases_lt c 128)
 
 -- a character that begins no octet
@@ -207,12 +228,14 @@ char_token c cs s e ih =
     ap (λ t. tokens_of (t ++ encoded_chars cs)) (cond-true _ _ _ (lt-ltb c 128 h))
     ∙ tokens_cons c (encoded_chars cs) (ap (λ t. eqb c 37 && t) (begins_hex-encoded cs) ∙ e)
     ∙ ap (λ ts. Char c ∷ ts) ih
-    ∙ sym (ap (flat_map encoded_token) (tokens_cons c cs e) ∙ ap (λ t. t ++ flat_map encoded_token (tokens_of cs)) (cond-true _ _ _ (lt-ltb c 128 h))))
+    ∙ sym (ap (flat_map encoded_token) (tokens_cons c cs e)
+    ∙ ap (λ t. t ++ flat_map encoded_token (tokens_of cs)) (cond-true _ _ _ (lt-ltb c 128 h))))
     (λ h.
     ap (λ t. tokens_of (t ++ encoded_chars cs)) (cond-false _ _ _ (le-ltb c 128 h))
     ∙ octets_first (encode_utf8 c) (encoded_chars cs) (are_bytes c p.0)
     ∙ ap (λ ts. map Octet (encode_utf8 c) ++ ts) ih
-    ∙ sym (ap (flat_map encoded_token) (tokens_cons c cs e) ∙ ap (λ t. t ++ flat_map encoded_token (tokens_of cs)) (cond-false _ _ _ (le-ltb c 128 h))))
+    ∙ sym (ap (flat_map encoded_token) (tokens_cons c cs e)
+    ∙ ap (λ t. t ++ flat_map encoded_token (tokens_of cs)) (cond-false _ _ _ (le-ltb c 128 h))))
     (cases_lt c 128)
 
 opened : (c h l : ℕ) → is_pct_encoded c h l ≡ true
@@ -236,37 +259,40 @@ octet_token : (c h l : ℕ) (rest : List ℕ) → is_pct_encoded c h l ≡ true
 unfolding encoded_chars tokens_of
 octet_token c h l rest e ih =
     let p = parts c h l e in
-    ap (λ t. tokens_of (t ++ (encoded_char h ++ (encoded_char l ++ encoded_chars rest)))) (cond-true _ _ _ (lt-ltb c 128 p.0))
-    ∙ ap (λ t. tokens_of (c ∷ (t ++ (encoded_char l ++ encoded_chars rest)))) (cond-true _ _ _ (lt-ltb h 128 p.1))
+    ap (λ t. tokens_of (t ++ (encoded_char h ++ (encoded_char l ++ encoded_chars rest))))
+    (cond-true _ _ _ (lt-ltb c 128 p.0))
+    ∙ ap (λ t. tokens_of (c ∷ (t ++ (encoded_char l ++ encoded_chars rest))))
+    (cond-true _ _ _ (lt-ltb h 128 p.1))
     ∙ ap (λ t. tokens_of (c ∷ h ∷ (t ++ encoded_chars rest))) (cond-true _ _ _ (lt-ltb l 128 p.2))
     ∙ cond-true _ _ _ e ∙ ap (λ ts. Octet (16 * digit_value h + digit_value l) ∷ ts) ih
     ∙ sym (ap (flat_map encoded_token) (cond-true _ _ _ e))
   where
-    hex_low : (h : ℕ) → is_ascii_hexdigit h ≡ true → h < 128
-    hex_low h e = grind (arith, nat_tests)
-
     percent_low : (c : ℕ) → eqb c 37 ≡ true → c < 128
     percent_low c e = grind (arith, nat_tests)
 
     parts : (c h l : ℕ) → is_pct_encoded c h l ≡ true → (c < 128) × (h < 128) × (l < 128)
     parts c h l e =
-        let p = and_parts (eqb c 37) (is_ascii_hexdigit h && is_ascii_hexdigit l) (opened c h l e) in
+        let p = and_parts (eqb c 37) (is_ascii_hexdigit h && is_ascii_hexdigit l)
+        (opened c h l e) in
         let q = and_parts (is_ascii_hexdigit h) (is_ascii_hexdigit l) p.1 in
-        (percent_low c p.0, hex_low h q.0, hex_low l q.1)
+        (percent_low c p.0, hex_ascii h q.0, hex_ascii l q.1)
 
 tokens_encoded : (cs : List ℕ) → all_scalars cs ≡ true
     → tokens_of (encoded_chars cs) ≡ flat_map encoded_token (tokens_of cs)
 unfolding tokens_of encoded_chars
 tokens_encoded [] s = refl
 tokens_encoded (c ∷ []) s = char_token c [] s (and_right _ _ (no_digits [] refl)) refl
-tokens_encoded (c ∷ d ∷ []) s = char_token c (d ∷ []) s (and_right _ _ (one_digit d)) (tokens_encoded (d ∷ []) (and_parts _ _ s).1)
+tokens_encoded (c ∷ d ∷ []) s =
+    char_token c (d ∷ []) s (and_right _ _ (one_digit d))
+    (tokens_encoded (d ∷ []) (and_parts _ _ s).1)
 tokens_encoded (c ∷ h ∷ l ∷ rest) s =
     let p = and_parts _ (all_scalars (h ∷ l ∷ rest)) s in
     let q = and_parts _ (all_scalars (l ∷ rest)) p.1 in
     let r = and_parts _ (all_scalars rest) q.1 in
     ⊎_elim
     (λ e. octet_token c h l rest e (tokens_encoded rest r.1))
-    (λ e. char_token c (h ∷ l ∷ rest) s (not_escape c h l rest e) (tokens_encoded (h ∷ l ∷ rest) p.1))
+    (λ e. char_token c (h ∷ l ∷ rest) s (not_escape c h l rest e)
+    (tokens_encoded (h ∷ l ∷ rest) p.1))
     (cases_Bool (is_pct_encoded c h l))
 
 pub tokens-encoded : (text : List ℕ) → IsUtf8 text
@@ -275,9 +301,11 @@ tokens-encoded text u =
     let same : text ≡ encode_utf8_all u.0 = sym u.1.1 in
     let spelt : encoded_text text ≡ encoded_chars u.0 = ap encoded_text same
     ∙ encoded_text-encodes u.0 in
-    ap tokens_of (chars-IsAscii (encoded_text text) (ascii_from (encoded_text text) (encoded_low text u)) ∙ spelt)
+    ap tokens_of (chars-IsAscii (encoded_text text)
+    (ascii_from (encoded_text text) (encoded_low text u)) ∙ spelt)
     ∙ tokens_encoded u.0 u.1.0
-    ∙ ap (λ cs. flat_map encoded_token (tokens_of cs)) (sym (ap chars same ∙ chars-encodes u.0 u.1.0))
+    ∙ ap (λ cs. flat_map encoded_token (tokens_of cs))
+    (sym (ap chars same ∙ chars-encodes u.0 u.1.0))
 
 bytes_of_encoded : (t : Token) → token_bytes (encoded_token t) ≡ bytes_of_token t
 bytes_of_encoded (Octet value) = refl

@@ -72,47 +72,61 @@ module _ (a : Draft) (x : List ℕ) where
   from_fragment = behind_part 1 a.lengths.query from_query
 
   pub scheme_draft : (a.failed ≡ false → lacks_all (draft_parts a) ≡ true) → a.failed ≡ false
-      → IsStep (with_scheme x parts) (record a.lengths { scheme = Some (length x) }) (text ++ (x ++ codes ":"))
+      → IsStep (with_scheme x parts) (record a.lengths { scheme = Some (length x) })
+      (text ++ (x ++ codes ":"))
   scheme_draft lacks whole =
       let t = and_parts (is_none parts.scheme) (lacks_authority parts) (lacks whole) in
       let s = and_parts (is_none parts.authority) (lacks_path parts) t.1 in
       let p = and_parts (is_none parts.path) (is_unended parts) s.1 in
       let q = and_parts (is_none parts.query) (is_none parts.fragment) p.1 in
-      scheme_step a.lengths text (a.ok whole) x (none_in 0 a.lengths.scheme text t.0) (none_in 2 a.lengths.authority rest s.0) (none_in 0 a.lengths.path from_path p.0) (none_in 1 a.lengths.query from_query q.0) (none_in 1 a.lengths.fragment from_fragment q.1)
+      scheme_step a.lengths text (a.ok whole) x (none_in 0 a.lengths.scheme text t.0)
+      (none_in 2 a.lengths.authority rest s.0) (none_in 0 a.lengths.path from_path p.0)
+      (none_in 1 a.lengths.query from_query q.0)
+      (none_in 1 a.lengths.fragment from_fragment q.1)
 
   pub authority_draft : (a.failed ≡ false → lacks_authority (draft_parts a) ≡ true)
       → a.failed ≡ false
-      → IsStep (with_authority x parts) (record a.lengths { authority = Some (length x) }) (text ++ (codes "//" ++ x))
+      → IsStep (with_authority x parts) (record a.lengths { authority = Some (length x) })
+      (text ++ (codes "//" ++ x))
   authority_draft lacks whole =
       let s = and_parts (is_none parts.authority) (lacks_path parts) (lacks whole) in
       let p = and_parts (is_none parts.path) (is_unended parts) s.1 in
       let q = and_parts (is_none parts.query) (is_none parts.fragment) p.1 in
-      authority_step a.lengths text (a.ok whole) x (none_in 2 a.lengths.authority rest s.0) (none_in 0 a.lengths.path from_path p.0) (none_in 1 a.lengths.query from_query q.0) (none_in 1 a.lengths.fragment from_fragment q.1)
+      authority_step a.lengths text (a.ok whole) x (none_in 2 a.lengths.authority rest s.0)
+      (none_in 0 a.lengths.path from_path p.0) (none_in 1 a.lengths.query from_query q.0)
+      (none_in 1 a.lengths.fragment from_fragment q.1)
 
   pub path_draft : (a.failed ≡ false → lacks_path (draft_parts a) ≡ true) → a.failed ≡ false
       → IsStep (with_path x parts) (record a.lengths { path = Some (length x) }) (text ++ x)
   path_draft lacks whole =
       let p = and_parts (is_none parts.path) (is_unended parts) (lacks whole) in
       let q = and_parts (is_none parts.query) (is_none parts.fragment) p.1 in
-      path_step a.lengths text (a.ok whole) x (none_in 0 a.lengths.path from_path p.0) (none_in 1 a.lengths.query from_query q.0) (none_in 1 a.lengths.fragment from_fragment q.1)
+      path_step a.lengths text (a.ok whole) x (none_in 0 a.lengths.path from_path p.0)
+      (none_in 1 a.lengths.query from_query q.0)
+      (none_in 1 a.lengths.fragment from_fragment q.1)
 
   pub query_draft : (a.failed ≡ false → is_unended (draft_parts a) ≡ true) → a.failed ≡ false
-      → IsStep (with_query x parts) (record a.lengths { query = Some (length x) }) (text ++ (codes "?" ++ x))
+      → IsStep (with_query x parts) (record a.lengths { query = Some (length x) })
+      (text ++ (codes "?" ++ x))
   query_draft lacks whole =
       let q = and_parts (is_none parts.query) (is_none parts.fragment) (lacks whole) in
-      query_step a.lengths text (a.ok whole) x (none_in 1 a.lengths.query from_query q.0) (none_in 1 a.lengths.fragment from_fragment q.1)
+      query_step a.lengths text (a.ok whole) x (none_in 1 a.lengths.query from_query q.0)
+      (none_in 1 a.lengths.fragment from_fragment q.1)
 
   pub fragment_draft : (a.failed ≡ false → is_none (draft_parts a).fragment ≡ true)
       → a.failed ≡ false
-      → IsStep (with_fragment x parts) (record a.lengths { fragment = Some (length x) }) (text ++ (codes "#" ++ x))
-  fragment_draft lacks whole = fragment_step a.lengths text (a.ok whole) x (none_in 1 a.lengths.fragment from_fragment (lacks whole))
+      → IsStep (with_fragment x parts) (record a.lengths { fragment = Some (length x) })
+      (text ++ (codes "#" ++ x))
+  fragment_draft lacks whole = fragment_step a.lengths text (a.ok whole) x
+      (none_in 1 a.lengths.fragment from_fragment (lacks whole))
 
 -- what a draft holds that goes on from another
 pub adds_of : (change : BuilderParts → BuilderParts) (a b : Draft) (lengths : Lengths)
     (more : List ℕ)
     → (b.failed ≡ false → a.failed ≡ false) → b.lengths ≡ lengths
     → (b.failed ≡ false → string_bytes b.text ≡ string_bytes a.text ++ more)
-    → (a.failed ≡ false → parts_in lengths (string_bytes a.text ++ more) false ≡ change (parts_in a.lengths (string_bytes a.text) false))
+    → (a.failed ≡ false → parts_in lengths (string_bytes a.text ++ more) false
+    ≡ change (parts_in a.lengths (string_bytes a.text) false))
     → b.failed ≡ false → draft_parts b ≡ change (parts_in a.lengths (string_bytes a.text) a.failed)
 adds_of change a b lengths more kept same appended step e =
     let whole = kept e in

@@ -29,7 +29,8 @@ use Rattle.uri_ops.proofs.Builders.Drafting.{IsStep, none_in}
 
 -- an authority that goes on is one, and stands where its next part may follow
 abbrev pub GoesOn : Kind → (List ℕ → Bool) → (List ℕ → Bool) → List ℕ → Type 0
-GoesOn kind takes then x = (a : List ℕ) → is_authority_text kind a ≡ true → takes a ≡ true → (is_authority_text kind (a ++ x) ≡ true) × (then (a ++ x) ≡ true)
+GoesOn kind takes then x = (a : List ℕ) → is_authority_text kind a ≡ true → takes a ≡ true
+    → (is_authority_text kind (a ++ x) ≡ true) × (then (a ++ x) ≡ true)
 
 pub userinfo_goes_on : (kind : Kind) → HasComponentSets kind → (user : List ℕ) → IsUtf8 user
     → is_valid_for kind.userinfo user ≡ true → GoesOn kind is_empty takes_host (user ++ codes "@")
@@ -40,7 +41,8 @@ userinfo_goes_on kind sets user u valid (c ∷ a) e t = absurd (false≢true t)
 
 pub host_goes_on : (kind : Kind) → HasComponentSets kind → (host : List ℕ)
     → IsHostText kind.reg_name host → GoesOn kind takes_host takes_port host
-host_goes_on kind sets host h = λ a e t. let p = host_parts kind sets a host e t h in (p.rule, ap (λ (q : _). is_none q.port) p.parts)
+host_goes_on kind sets host h = λ a e t. let p = host_parts kind sets a host e t h in
+    (p.rule, ap (λ (q : _). is_none q.port) p.parts)
 
 port_goes : (kind : Kind) → HasComponentSets kind → (digits : List ℕ) → IsUtf8 digits
     → is_valid_for digit_set digits ≡ true → (a : List ℕ) → is_authority_text kind a ≡ true
@@ -85,7 +87,9 @@ module _ (a : Draft) (whole : a.failed ≡ false) where
   rest = behind_part 1 a.lengths.scheme (string_bytes a.text)
 
   pub authority_inside : IfSome a.lengths.authority (λ n. n ≤ length (string_bytes a.text))
-  authority_inside = taken_inside a.lengths.authority (string_bytes a.text) rest (behind_shorter 1 a.lengths.scheme (string_bytes a.text)) (ap (λ (l : Lengths). l.authority) (a.ok whole).counted)
+  authority_inside = taken_inside a.lengths.authority (string_bytes a.text) rest
+      (behind_shorter 1 a.lengths.scheme (string_bytes a.text))
+      (ap (λ (l : Lengths). l.authority) (a.ok whole).counted)
 
 module _ (a : Draft) (x new : List ℕ) (g : Bool) (kept : g ≡ false → a.failed ≡ false) (m n : ℕ)
     (before_len : m ≡ length (string_bytes a.text)) (after_len : n ≡ length new) where
@@ -113,24 +117,32 @@ module _ (a : Draft) (x new : List ℕ) (g : Bool) (kept : g ≡ false → a.fai
   grown_by : (k : ℕ) → a.lengths.authority ≡ Some k → new ≡ text ++ x
       → (record a.lengths { authority = Some (k + length x) }) ≡ longer
   grown_by k e appended =
-      let by : length x ≡ n - m = omega (arith, before_len, after_len, ap length appended, length-append text x) in
+      let by : length x ≡ n - m =
+      omega (arith, before_len, after_len, ap length appended, length-append text x) in
       (λ i. record a.lengths { authority = Some (k + by i) })
-      ∙ ap (λ (o : Option ℕ). record a.lengths { authority = option_map (λ j. j + (n - m)) o }) (sym e)
+      ∙ ap (λ (o : Option ℕ). record a.lengths { authority = option_map (λ j. j + (n - m)) o })
+      (sym e)
 
   more : (a.failed ≡ false → ends_in_authority any_authority (draft_parts a) ≡ true) → g ≡ false
       → new ≡ text ++ x → IsStep (with_more_authority x parts) longer new
   more ends e appended =
-      let s = and_parts (option_map_or any_authority parts.authority false) (lacks_path parts) (ends (kept e)) in
+      let s = and_parts (option_map_or any_authority parts.authority false) (lacks_path parts)
+      (ends (kept e)) in
       let p = and_parts (is_none parts.path) (is_unended parts) s.1 in
       let q = and_parts (is_none parts.query) (is_none parts.fragment) p.1 in
       let held = held_at any_authority a.lengths.authority behind s.0 in
       let authority : List ℕ = take held.0 (drop 2 behind) in
       let is : parts.authority ≡ Some authority = ap (λ o. part_in 2 o behind) held.1 in
-      let step = more_step a.lengths text (a.ok (kept e)) held.0 authority x held.1 is (none_in 0 a.lengths.path from_path p.0) (none_in 1 a.lengths.query from_query q.0) (none_in 1 a.lengths.fragment from_fragment q.1) in
+      let step = more_step a.lengths text (a.ok (kept e)) held.0 authority x held.1 is
+      (none_in 0 a.lengths.path from_path p.0) (none_in 1 a.lengths.query from_query q.0)
+      (none_in 1 a.lengths.fragment from_fragment q.1) in
       subst (λ l. IsStep (with_more_authority x parts) l new) (grown_by held.0 held.1 appended)
-      (subst (IsStep (with_more_authority x parts) (record a.lengths { authority = Some (held.0 + length x) })) (sym appended) step)
+      (subst (IsStep (with_more_authority x parts)
+      (record a.lengths { authority = Some (held.0 + length x) })) (sym appended) step)
 
   pub more_draft : (a.failed ≡ false → ends_in_authority any_authority (draft_parts a) ≡ true)
       → (lengths : Lengths) → (g ≡ false → lengths ≡ longer) → (g ≡ false → new ≡ text ++ x)
       → g ≡ false → IsStep (with_more_authority x parts) lengths new
-  more_draft ends lengths grown appended e = subst (λ l. IsStep (with_more_authority x parts) l new) (sym (grown e)) (more ends e (appended e))
+  more_draft ends lengths grown appended e =
+      subst (λ l. IsStep (with_more_authority x parts) l new) (sym (grown e))
+      (more ends e (appended e))

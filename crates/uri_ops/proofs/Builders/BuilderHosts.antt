@@ -41,7 +41,9 @@ pub ipv4_host : (names : TableSet) (text octets : List ℕ) → IsIpv4Text text 
     → IsHostText names text
 ipv4_host names text octets h = record {
   utf8 = utf8_plain any_ascii text
-      (list_all-from_AllPass (is_plain_char any_ascii) text (All-weaker IsDigitOrDot (λ c. is_plain_char any_ascii c ≡ true) (λ c d. dotted_ascii c d) text (ipv4_digits text octets h)));
+      (list_all-from_AllPass (is_plain_char any_ascii) text
+      (All-weaker IsDigitOrDot (λ c. is_plain_char any_ascii c ≡ true) (λ c d. dotted_ascii c d)
+      text (ipv4_digits text octets h)));
   host = (Ipv4 octets, h);
 }
 
@@ -59,7 +61,11 @@ name_host names percent outside text u valid =
     let lacks = valid_lacks names (codes "[") percent outside text u valid in
     record {
       utf8 = u;
-      host = (host_kind text, is_host-sound names text (name_passes names text (lacks_starts (codes "[") text 91 refl lacks) valid));
+      host = (
+        host_kind text,
+        is_host-sound names text
+            (name_passes names text (lacks_starts (codes "[") text 91 refl lacks) valid),
+      );
     }
 
 -- digits are allowed in a port
@@ -73,5 +79,7 @@ digits_plain (d ∷ digits) h = and_from _ _ (digit_char d h.0) (digits_plain di
 
 pub decimal_port : (n : ℕ) → n < 2 ^ 64 → is_text_for digit_set (decimal n) ≡ true
 decimal_port n fits =
-    let part = part_plain digit_set is_ascii_digit refl refl (λ c e. e) (decimal n) (digits_plain (decimal n) (decimal_is_IsNumeral n fits).0.1) in
-    text_from digit_set (decimal n) (part_utf8 digit_set (decimal n) part) (part_valid digit_set (decimal n) part)
+    let part = part_plain digit_set is_ascii_digit refl refl (λ c e. e) (decimal n)
+    (digits_plain (decimal n) (decimal_is_IsNumeral n fits).0.1) in
+    text_from digit_set (decimal n) (part_utf8 digit_set (decimal n) part)
+    (part_valid digit_set (decimal n) part)

@@ -1,4 +1,5 @@
--- The text of a builder's parts is of its kind, with these components, exactly where nothing is refused.
+-- The text of a builder's parts is of its kind, with these components, exactly where nothing is
+-- refused.
 use Rattle.std.proofs.Common.{◌≡◌, ℕ, ◌<◌, Bool, true, false, not, ◌&&◌, ◌||◌, List, [], ◌∷◌, ◌++◌}
 use Rattle.std.proofs.Common.{length, refl, sym, ap, subst, ◌∙◌, inl, inr, cond, string_bytes}
 use Rattle.std.specs.Prelude.{codes, Option, Some, None, IfSome, IfNone, is_some, unwrap_or}
@@ -10,7 +11,6 @@ use Rattle.std.proofs.lemmas.Bool.{and_parts, and_from, cond-true, cond-false, f
 use Rattle.std.proofs.lemmas.Bool.{not_from_false}
 use Rattle.uri_pct.specs.Sets.{TableSet, scheme_set}
 use Rattle.uri_pct.specs.Tokens.{is_valid_for}
-use Rattle.uri_pct.proofs.ValidTexts.Cuts.{excludes}
 use Rattle.uri_parts.specs.Positions.{positions_of}
 use Rattle.uri_parts.specs.Components.{IsSplitOf, IsRooted, Lacks, has_authority, has_scheme}
 use Rattle.uri_parts.specs.Components.{components, marked, starts}
@@ -36,17 +36,19 @@ use Rattle.uri_ops.proofs.Builders.PartRules.{at_place}
 use Rattle.uri_ops.proofs.Builders.BuilderAuthorities.{authority_lacks, authority_meets}
 use Rattle.uri_ops.proofs.Builders.BuilderAuthorities.{authority_utf8}
 use Rattle.uri_ops.proofs.Builders.Drafting.{rules_of}
-use Rattle.uri_ops.proofs.Meanings.ComponentEnds.{ends_outside, excludes_front, no_scheme}
+use Rattle.uri_ops.proofs.Meanings.ComponentEnds.{no_scheme}
 use Rattle.uri_ops.proofs.Meanings.AllowedParts.{is_part, part_from, part_nil, part_utf8}
 use Rattle.uri_ops.proofs.Meanings.AllowedParts.{part_valid}
 use Rattle.uri_pct.proofs.Tests.{true_of}
 use Rattle.uri_ops.proofs.Meanings.TextParts.{AreParts, parts_meet}
 use Rattle.uri_ops.proofs.Normal.NormalComponents.{some_first}
 use Rattle.uri_parts.proofs.Splitting.Places.{rooted_of}
+use Rattle.uri_ops.proofs.Meanings.ComponentEnds.{path_outside, query_outside}
 
 text_part : (set : TableSet) (x : List ℕ) → is_text_for set x ≡ true → is_part set x ≡ true
 unfolding is_text_for
-text_part set x e = let p = and_parts _ (is_valid_for set x) e in part_from set x (IsUtf8-from_is_utf8 x p.0) p.1
+text_part set x e = let p = and_parts _ (is_valid_for set x) e in
+    part_from set x (IsUtf8-from_is_utf8 x p.0) p.1
 
 scheme_part : (x : List ℕ) → is_scheme_text x ≡ true → IsUtf8 x × (is_scheme x ≡ true)
 unfolding is_scheme_text
@@ -71,7 +73,8 @@ record IsLetPass (scheme authority : Option (List ℕ)) (path : List ℕ) : Type
 -- which of the three is refused first
 first_refusal : Option (List ℕ) → Option (List ℕ) → List ℕ → Option BuildError
 first_refusal scheme authority path =
-    cond (is_some authority) (cond (is_empty path || starts 47 path) None (Some NonemptyRootlessPath))
+    cond (is_some authority)
+    (cond (is_empty path || starts 47 path) None (Some NonemptyRootlessPath))
     (cond (has_authority path) (Some PathStartsWithDoubleSlash)
     (cond (not (is_some scheme) && has_colon_first path) (Some FirstPathSegmentContainsColon) None))
 
@@ -102,7 +105,13 @@ rooted_to (c ∷ path) (inr t) = true_of _ t
 let_pass : (scheme authority : Option (List ℕ)) (path : List ℕ)
     → first_refusal scheme authority path ≡ None → IsLetPass scheme authority path
 unfolding first_refusal
-let_pass scheme (Some a) path e = record { rooted = rooted_from path (passed _ _ e); no_authority = tt; no_colon = or_true scheme }
+let_pass scheme (Some a) path e =
+    record {
+      rooted = rooted_from path (passed _ _ e);
+      no_authority = tt;
+      no_colon =
+          or_true scheme;
+    }
   where
     or_true : (o : Option (List ℕ)) → (is_some o || true) ≡ true
     or_true None = refl
@@ -147,22 +156,23 @@ module _ (kind : Kind) (sets : HasComponentSets kind) (p : BuilderParts)
   are_parts needs pass =
       let r = rules_of kind p rules in
       record {
-        scheme = each_part p.scheme is_scheme_text (λ s. IsUtf8 s × (is_scheme s ≡ true)) scheme_part r.scheme;
-        authority = each_part p.authority (is_authority_text kind) (λ a. IsUtf8 a × (is_authority kind a ≡ true)) (λ a h. (authority_utf8 kind a h, authority_meets kind a h)) r.authority;
+        scheme = each_part p.scheme is_scheme_text (λ s. IsUtf8 s × (is_scheme s ≡ true))
+            scheme_part r.scheme;
+        authority = each_part p.authority (is_authority_text kind)
+            (λ a. IsUtf8 a × (is_authority kind a ≡ true))
+            (λ a h. (authority_utf8 kind a h, authority_meets kind a h)) r.authority;
         path = part_of_path;
-        query = each_part p.query (is_text_for kind.query) (λ q. is_part kind.query q ≡ true) (text_part kind.query) r.query;
-        fragment = each_part p.fragment (is_text_for kind.fragment) (λ f. is_part kind.fragment f ≡ true) (text_part kind.fragment) r.fragment;
+        query = each_part p.query (is_text_for kind.query) (λ q. is_part kind.query q ≡ true)
+            (text_part kind.query) r.query;
+        fragment = each_part p.fragment (is_text_for kind.fragment)
+            (λ f. is_part kind.fragment f ≡ true) (text_part kind.fragment) r.fragment;
         needs = both kind.needs_scheme (is_some p.scheme) _ needs pass.no_colon;
       }
 
-  path_outside : excludes kind.path (codes "?#") ≡ true
-  path_outside = excludes_front (codes "?#") (codes "[]") kind.path (ends_outside (codes "?#[]") kind.path refl sets.path.ends)
-
-  query_outside : excludes kind.query (codes "#") ≡ true
-  query_outside = excludes_front (codes "#") (codes "[]") kind.query (ends_outside (codes "#[]") kind.query refl sets.query.ends)
-
   query_lacks : (q : List ℕ) → is_part kind.query q ≡ true → Lacks (codes "#") q
-  query_lacks q h = valid_lacks kind.query (codes "#") sets.query.percent query_outside q (part_utf8 kind.query q h) (part_valid kind.query q h)
+  query_lacks q h = valid_lacks kind.query (codes "#") sets.query.percent (query_outside kind sets)
+      q
+      (part_utf8 kind.query q h) (part_valid kind.query q h)
 
   authority_cut : (authority : Option (List ℕ)) (path : List ℕ)
       → if_some authority (is_authority_text kind) ≡ true → IfSome authority (λ a. IsRooted path)
@@ -181,10 +191,14 @@ module _ (kind : Kind) (sets : HasComponentSets kind) (p : BuilderParts)
   scheme_none : (scheme authority : Option (List ℕ)) (path : List ℕ)
       (query fragment : Option (List ℕ))
       → IsLetPass scheme authority path
-      → IfNone scheme (has_scheme (marked [] scheme (codes ":") ++ (marked (codes "//") authority [] ++ (path ++ query_text query fragment))) ≡ false)
+      → IfNone scheme
+      (has_scheme (marked [] scheme (codes ":")
+      ++ (marked (codes "//") authority [] ++ (path ++ query_text query fragment))) ≡ false)
   scheme_none (Some s) authority path query fragment pass = tt
   scheme_none None (Some a) path query fragment pass = refl
-  scheme_none None None path query fragment pass = no_scheme path (query_text query fragment) (not-true _ pass.no_colon) (Begins-query_text query fragment)
+  scheme_none None None path query fragment pass =
+      no_scheme path (query_text query fragment) (not-true _ pass.no_colon)
+      (Begins-query_text query fragment)
 
   is_split : (needs : (is_some p.scheme || not kind.needs_scheme) ≡ true)
       → IsLetPass p.scheme p.authority path_of → IsSplitOf (parts_text p) (as_components p)
@@ -196,8 +210,11 @@ module _ (kind : Kind) (sets : HasComponentSets kind) (p : BuilderParts)
         whole = refl;
         scheme = scheme_cut p.scheme r.scheme;
         authority = authority_cut p.authority (unwrap_or p.path []) r.authority pass.rooted;
-        path = valid_lacks kind.path (codes "?#") sets.path.percent path_outside (unwrap_or p.path []) (part_utf8 kind.path (unwrap_or p.path []) part_of_path) (part_valid kind.path (unwrap_or p.path []) part_of_path);
-        query = each_part p.query (is_text_for kind.query) (λ q. Lacks (codes "#") q) (λ q h. query_lacks q (text_part kind.query q h)) r.query;
+        path = valid_lacks kind.path (codes "?#") sets.path.percent (path_outside kind sets)
+            (unwrap_or p.path []) (part_utf8 kind.path (unwrap_or p.path []) part_of_path)
+            (part_valid kind.path (unwrap_or p.path []) part_of_path);
+        query = each_part p.query (is_text_for kind.query) (λ q. Lacks (codes "#") q)
+            (λ q h. query_lacks q (text_part kind.query q h)) r.query;
         no_scheme = scheme_none p.scheme p.authority (unwrap_or p.path []) p.query p.fragment pass;
         no_authority = pass.no_authority;
       }
@@ -209,7 +226,11 @@ module _ (kind : Kind) (sets : HasComponentSets kind) (p : BuilderParts)
   is_text_of_parts needs e =
       let pass = let_pass p.scheme p.authority (unwrap_or p.path []) (sym (refused_first p) ∙ e) in
       let same = components-recompose (parts_text p) (as_components p) (is_split needs pass) in
-      record { of_kind = ap (are_components kind) same ∙ parts_meet kind (as_components p) (are_parts needs pass); components = same }
+      record {
+        of_kind = ap (are_components kind) same
+            ∙ parts_meet kind (as_components p) (are_parts needs pass);
+        components = same;
+      }
 
 weaker : (s n r : Bool) → (s || (not n && r)) ≡ true → (s || r) ≡ true
 weaker true n r h = refl
@@ -218,13 +239,17 @@ weaker false n r h = (and_parts (not n) r h).1
 -- and where it is so, nothing is refused
 pub nothing_refused : (kind : Kind) (p : BuilderParts) → IsTextOfParts kind p → refusal p ≡ None
 nothing_refused kind p w =
-    let split = subst (IsSplitOf (parts_text p)) w.components (IsSplitOf-components (parts_text p)) in
-    let meets : are_components kind (as_components p) ≡ true = sym (ap (are_components kind) w.components)
+    let split = subst (IsSplitOf (parts_text p)) w.components
+    (IsSplitOf-components (parts_text p)) in
+    let meets : are_components kind (as_components p) ≡ true =
+    sym (ap (are_components kind) w.components)
     ∙ w.of_kind in
     refused_first p ∙ passes p.scheme p.authority (unwrap_or p.path []) (record {
       rooted = rooted_of p.authority (unwrap_or p.path []) split.authority;
       no_authority = split.no_authority;
-      no_colon = weaker (is_some p.scheme) kind.needs_scheme (is_some p.authority || not (has_colon_first (unwrap_or p.path []))) (and_parts _ _ meets).1;
+      no_colon = weaker (is_some p.scheme) kind.needs_scheme
+          (is_some p.authority || not (has_colon_first (unwrap_or p.path [])))
+          (and_parts _ _ meets).1;
     })
 
 -- what a builder builds
@@ -232,7 +257,8 @@ module _ (kind : Kind) (sets : HasComponentSets kind) (d : Draft) (whole : d.fai
     (meets : Meets kind (draft_parts d))
     (at : is_at_end kind.needs_scheme (draft_parts d) ≡ true) where
   pub built : refusal (draft_parts d) ≡ None → IsTextOfParts kind (draft_parts d)
-  built e = is_text_of_parts kind sets (draft_parts d) (meets whole) (at_place has_path kind.needs_scheme (draft_parts d) at whole).0 e
+  built e = is_text_of_parts kind sets (draft_parts d) (meets whole)
+      (at_place has_path kind.needs_scheme (draft_parts d) at whole).0 e
 
   pub built_kind : refusal (draft_parts d) ≡ None → IsOfKind kind (string_bytes d.text)
   built_kind e = subst (IsOfKind kind) (d.ok whole).whole (built e).of_kind

@@ -31,18 +31,27 @@ use Rattle.uri_ops.proofs.Normal.WrittenPlaces.{length-behind, length-before}
 
 -- an authority is as long as its parts
 pub parts_length : (users names : TableSet) (a : List ℕ) → is_authority_for users names a ≡ true
-    → length a ≡ marked_length 1 (authority_parts a).userinfo + length (authority_parts a).host + marked_length 1 (authority_parts a).port
+    → length a ≡ marked_length 1 (authority_parts a).userinfo + length (authority_parts a).host
+    + marked_length 1 (authority_parts a).port
 parts_length users names a e =
     let p = authority_parts a in
     let U : List ℕ = marked [] p.userinfo (codes "@") in
     let P : List ℕ = marked (codes ":") p.port [] in
     let whole = (is_authority_for-sound users names a e).whole in
-    omega (arith, ap length whole, length-append U (p.host ++ P), length-append p.host P, length-behind p.userinfo 64, length-before (codes ":") p.port)
+    omega (
+      arith,
+      ap length whole,
+      length-append U (p.host ++ P),
+      length-append p.host P,
+      length-behind p.userinfo 64,
+      length-before (codes ":") p.port,
+    )
 
 pub placed : (users names : TableSet) (place : HostPlace) (a : List ℕ)
     → is_authority_for users names a ≡ true → place.start ≡ host_start_of a
     → place.end ≡ host_end_of a → IsHostAt place a
-placed users names place a e s t = record { start = s; end = t; inside = omega (arith, t, parts_length users names a e) }
+placed users names place a e s t =
+    record { start = s; end = t; inside = omega (arith, t, parts_length users names a e) }
 
 pub nothing_placed : (place : HostPlace) → place.start ≡ 0 → place.end ≡ 0 → IsHostAt place []
 nothing_placed place s t = record { start = s; end = t; inside = omega (arith, t) }
@@ -62,19 +71,25 @@ pub kept_host : (change : BuilderParts → BuilderParts) (d e : Draft)
     → e.host ≡ d.host → KnowsHost d → KnowsHost e
 kept_host change d e adds same authority host knows whole =
     let same_authority = ap (λ (p : BuilderParts). p.authority) (adds whole) ∙ authority in
-    subst (λ h. HasHost h (draft_parts e).authority) (sym host) (subst (HasHost d.host) (sym same_authority) (knows (unmarked change (draft_parts d) (draft_parts e) adds same whole)))
+    subst (λ h. HasHost h (draft_parts e).authority) (sym host)
+    (subst (HasHost d.host) (sym same_authority)
+    (knows (unmarked change (draft_parts d) (draft_parts e) adds same whole)))
 
 -- one that gives it
 pub given_host : (x : List ℕ) (d e : Draft)
     → Adds (with_authority x) (draft_parts d) (draft_parts e) → IsHostAt e.host x → KnowsHost e
-given_host x d e adds at whole = subst (HasHost e.host) (sym (ap (λ (p : BuilderParts). p.authority) (adds whole))) (is_some e.host (Some x) at)
+given_host x d e adds at whole =
+    subst (HasHost e.host) (sym (ap (λ (p : BuilderParts). p.authority) (adds whole)))
+    (is_some e.host (Some x) at)
 
 -- and one by which it goes on
 module _ (kind : Kind) (needs : Bool) (d e : Draft) (x : List ℕ) (takes : List ℕ → Bool)
     (adds : Adds (with_more_authority x) (draft_parts d) (draft_parts e))
     (meets : Meets kind (draft_parts d))
     (before : stands (ends_in_authority takes) needs (draft_parts d) ≡ true)
-    (step : e.failed ≡ false → (a : List ℕ) → is_authority_text kind a ≡ true → takes a ≡ true → IsHostAt d.host a → unwrap_or e.lengths.authority 0 ≡ length (a ++ x) → IsHostAt e.host (a ++ x)) where
+    (step : e.failed ≡ false → (a : List ℕ) → is_authority_text kind a ≡ true → takes a ≡ true
+    → IsHostAt d.host a → unwrap_or e.lengths.authority 0 ≡ length (a ++ x)
+    → IsHostAt e.host (a ++ x)) where
   more : e.failed ≡ false → (o : Option (List ℕ)) → if_some o (is_authority_text kind) ≡ true
       → option_map_or takes o false ≡ true → IfSome o (IsHostAt d.host)
       → option_map length (option_map (λ t. t ++ x) o) ≡ e.lengths.authority
@@ -91,7 +106,9 @@ module _ (kind : Kind) (needs : Bool) (d e : Draft) (x : List ℕ) (takes : List
       let counted = ap (λ (l : Lengths). l.authority) (e.ok whole).counted in
       subst (HasHost e.host) (sym is)
       (is_some e.host (with_more_authority x p).authority
-      (more whole p.authority (rules_of kind p (meets was)).authority (and_parts (option_map_or takes p.authority false) (lacks_path p) h.1).0 (some_is d.host p.authority (knows was)) (sym (ap (option_map length) is) ∙ counted)))
+      (more whole p.authority (rules_of kind p (meets was)).authority
+      (and_parts (option_map_or takes p.authority false) (lacks_path p) h.1).0
+      (some_is d.host p.authority (knows was)) (sym (ap (option_map length) is) ∙ counted)))
 
 -- by userinfo, by a host, and by a port
 module _ (kind : Kind) (sets : HasComponentSets kind) (old new : HostPlace) (len : ℕ) where
@@ -102,10 +119,17 @@ module _ (kind : Kind) (sets : HasComponentSets kind) (old new : HostPlace) (len
   userinfo_host user u valid s t [] rule empty at n =
       let whole : List ℕ = user ++ codes "@" in
       let h = user_parts kind sets user u valid in
-      let start : host_start_of whole ≡ 1 + length user = ap (λ (p : AuthorityParts). marked_length 1 p.userinfo) h.parts in
-      let host : length (authority_parts whole).host ≡ 0 = ap (λ (p : AuthorityParts). length p.host) h.parts in
+      let start : host_start_of whole ≡ 1 + length user =
+      ap (λ (p : AuthorityParts). marked_length 1 p.userinfo) h.parts in
+      let host : length (authority_parts whole).host ≡ 0 =
+      ap (λ (p : AuthorityParts). length p.host) h.parts in
       let m = length-append user (codes "@") in
-      record { start = omega (arith, s, n, m, start); end = omega (arith, t, n, m, start, host); inside = omega (arith, t, n) }
+      record {
+        start = omega (arith, s, n, m, start);
+        end =
+            omega (arith, t, n, m, start, host);
+        inside = omega (arith, t, n);
+      }
   userinfo_host user u valid s t (c ∷ a) rule empty at n = absurd (false≢true empty)
 
   pub host_host : (host : List ℕ) → IsHostText kind.reg_name host → new.start ≡ old.start
@@ -114,10 +138,18 @@ module _ (kind : Kind) (sets : HasComponentSets kind) (old new : HostPlace) (len
       → len ≡ length (a ++ host) → IsHostAt new (a ++ host)
   host_host host text s t a rule takes at n =
       let h = host_parts kind sets a host rule takes text in
-      let start : host_start_of (a ++ host) ≡ host_start_of a = ap (λ (p : AuthorityParts). marked_length 1 p.userinfo) h.parts in
-      let port : marked_length 1 (authority_parts (a ++ host)).port ≡ 0 = ap (λ (p : AuthorityParts). marked_length 1 p.port) h.parts in
-      let m = parts_length kind.userinfo kind.reg_name (a ++ host) (authority_meets kind (a ++ host) h.rule) in
-      record { start = s ∙ at.start ∙ sym start; end = omega (arith, t, n, m, port); inside = omega (arith, t, n) }
+      let start : host_start_of (a ++ host) ≡ host_start_of a =
+      ap (λ (p : AuthorityParts). marked_length 1 p.userinfo) h.parts in
+      let port : marked_length 1 (authority_parts (a ++ host)).port ≡ 0 =
+      ap (λ (p : AuthorityParts). marked_length 1 p.port) h.parts in
+      let m = parts_length kind.userinfo kind.reg_name (a ++ host)
+      (authority_meets kind (a ++ host) h.rule) in
+      record {
+        start = s ∙ at.start ∙ sym start;
+        end = omega (arith, t, n, m, port);
+        inside =
+            omega (arith, t, n);
+      }
 
   pub port_host : (digits : List ℕ) → is_text_for digit_set digits ≡ true → new ≡ old
       → (a : List ℕ) → is_authority_text kind a ≡ true → takes_port a ≡ true → IsHostAt old a
@@ -127,7 +159,14 @@ module _ (kind : Kind) (sets : HasComponentSets kind) (old new : HostPlace) (len
       let text = and_parts (is_utf8 digits) (is_valid_for digit_set digits) d in
       let whole : List ℕ = a ++ (codes ":" ++ digits) in
       let h = port_parts kind sets a digits rule takes (IsUtf8-from_is_utf8 digits text.0) text.1 in
-      let start : host_start_of whole ≡ host_start_of a = ap (λ (p : AuthorityParts). marked_length 1 p.userinfo) h.parts in
-      let end : host_end_of whole ≡ host_end_of a = ap (λ (p : AuthorityParts). marked_length 1 p.userinfo + length p.host) h.parts in
+      let start : host_start_of whole ≡ host_start_of a =
+      ap (λ (p : AuthorityParts). marked_length 1 p.userinfo) h.parts in
+      let end : host_end_of whole ≡ host_end_of a =
+      ap (λ (p : AuthorityParts). marked_length 1 p.userinfo + length p.host) h.parts in
       subst (λ p. IsHostAt p whole) (sym same)
-      (record { start = at.start ∙ sym start; end = at.end ∙ sym end; inside = omega (arith, at.inside, length-append a (codes ":" ++ digits)) })
+      (record {
+        start = at.start ∙ sym start;
+        end = at.end ∙ sym end;
+        inside =
+            omega (arith, at.inside, length-append a (codes ":" ++ digits));
+      })

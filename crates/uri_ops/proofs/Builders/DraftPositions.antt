@@ -30,7 +30,14 @@ authority_placed place host None h = refl
 authority_placed place host (Some a) h =
     let s = h.start in
     let t = h.end in
-    λ i. Some (let x : AuthorityPositions = record { start = place; host_start = place + s i; host_end = place + t i; end = place + length a } in x)
+    λ i. Some (let x : AuthorityPositions =
+    record {
+      start = place;
+      host_start = place + s i;
+      host_end = place + t i;
+      end =
+          place + length a;
+    } in x)
 
 query_placed : (place : ℕ) (o : Option (List ℕ))
     → option_map (λ n. place + 1 + n) (option_map length o)
@@ -43,17 +50,31 @@ parts_placed : (p : BuilderParts) (host : HostPlace) → IfSome p.authority (IsH
 parts_placed p host h =
     let path_start : ℕ = marked_length 1 p.scheme + marked_length 2 p.authority in
     let path_end : ℕ = path_start + length (unwrap_or p.path []) in
-    let scheme : span 1 (option_map length p.scheme) ≡ marked_length 1 p.scheme = spanned 1 p.scheme in
-    let start : span 1 (option_map length p.scheme) + span 2 (option_map length p.authority) ≡ path_start = omega (arith, scheme, spanned 2 p.authority) in
-    let end : span 1 (option_map length p.scheme) + span 2 (option_map length p.authority) + span 0 (option_map length p.path) ≡ path_end = omega (arith, start, path_spanned p.path) in
-    let authority = ap (λ n. option_map (authority_by (n + 2) host) (option_map length p.authority)) scheme
+    let scheme : span 1 (option_map length p.scheme) ≡ marked_length 1 p.scheme =
+    spanned 1 p.scheme in
+    let start : span 1 (option_map length p.scheme) + span 2 (option_map length p.authority)
+    ≡ path_start = omega (arith, scheme, spanned 2 p.authority) in
+    let end : span 1 (option_map length p.scheme) + span 2 (option_map length p.authority)
+    + span 0 (option_map length p.path) ≡ path_end =
+    omega (arith, start, path_spanned p.path) in
+    let authority = ap (λ n. option_map (authority_by (n + 2) host) (option_map length p.authority))
+    scheme
     ∙ authority_placed (marked_length 1 p.scheme + 2) host p.authority h in
     let query = ap (λ m. option_map (λ n. m + 1 + n) (option_map length p.query)) end
     ∙ query_placed path_end p.query in
-    λ i. record { scheme_end = option_map length p.scheme; authority = authority i; path_start = start i; path_end = end i; query_end = query i }
+    λ i. record {
+      scheme_end = option_map length p.scheme;
+      authority = authority i;
+      path_start =
+          start i;
+      path_end = end i;
+      query_end = query i;
+    }
 
 parts_inside : (p : BuilderParts)
-    → span 1 (option_map length p.scheme) + span 2 (option_map length p.authority) + span 0 (option_map length p.path) + span 1 (option_map length p.query) ≤ length (parts_text p)
+    → span 1 (option_map length p.scheme) + span 2 (option_map length p.authority)
+    + span 0 (option_map length p.path) + span 1 (option_map length p.query)
+    ≤ length (parts_text p)
 parts_inside p =
     let c : Components = as_components p in
     let S : List ℕ = marked [] c.scheme (codes ":") in
@@ -101,13 +122,19 @@ module _ (d : Draft) (whole : d.failed ≡ false) (knows : KnowsHost d) where
   pub positions_placed : positions_by d.lengths d.host ≡ positions_of (as_components parts)
   positions_placed = ap (λ l. positions_by l d.host) (sym counted) ∙ parts_placed parts d.host host
 
-  pub spans_inside : span 1 d.lengths.scheme + span 2 d.lengths.authority + span 0 d.lengths.path + span 1 d.lengths.query ≤ length (string_bytes d.text)
+  pub spans_inside : span 1 d.lengths.scheme + span 2 d.lengths.authority + span 0 d.lengths.path
+      + span 1 d.lengths.query ≤ length (string_bytes d.text)
   spans_inside =
-      subst (λ (l : Lengths). span 1 l.scheme + span 2 l.authority + span 0 l.path + span 1 l.query ≤ length (string_bytes d.text)) counted
-      (subst (λ t. span 1 (option_map length parts.scheme) + span 2 (option_map length parts.authority) + span 0 (option_map length parts.path) + span 1 (option_map length parts.query) ≤ length t) written (parts_inside parts))
+      subst (λ (l : Lengths). span 1 l.scheme + span 2 l.authority + span 0 l.path + span 1 l.query
+      ≤ length (string_bytes d.text)) counted
+      (subst (λ t. span 1 (option_map length parts.scheme)
+      + span 2 (option_map length parts.authority) + span 0 (option_map length parts.path)
+      + span 1 (option_map length parts.query) ≤ length t) written (parts_inside parts))
 
   pub host_starts_inside : IfSome d.lengths.authority (λ n. d.host.start ≤ n)
-  host_starts_inside = subst (λ (l : Lengths). IfSome l.authority (λ n. d.host.start ≤ n)) counted (starts_inside d.host parts.authority host)
+  host_starts_inside = subst (λ (l : Lengths). IfSome l.authority (λ n. d.host.start ≤ n)) counted
+      (starts_inside d.host parts.authority host)
 
   pub host_ends_inside : IfSome d.lengths.authority (λ n. d.host.end ≤ n)
-  host_ends_inside = subst (λ (l : Lengths). IfSome l.authority (λ n. d.host.end ≤ n)) counted (ends_inside d.host parts.authority host)
+  host_ends_inside = subst (λ (l : Lengths). IfSome l.authority (λ n. d.host.end ≤ n)) counted
+      (ends_inside d.host parts.authority host)

@@ -1,4 +1,5 @@
--- The text of the parts of a builder: the parts are read back from it, and a text with these parts is such a text.
+-- The text of the parts of a builder: the parts are read back from it, and a text with these parts
+-- is such a text.
 use Rattle.std.proofs.Common.{◌≡◌, ℕ, ◌+◌, Bool, true, false, List, [], ◌++◌, length, take, drop}
 use Rattle.std.proofs.Common.{refl, sym, ap, ◌∙◌, arith, append_assoc, append-nil, length-append}
 use Rattle.std.specs.Prelude.{codes, Option, Some, None, option_map, unwrap_or, is_none}
@@ -17,7 +18,8 @@ behind_marked : (before behind : List ℕ) (marks : ℕ) → marks ≡ length be
     → behind_part marks (option_map length o) (marked before o behind ++ rest) ≡ rest
 behind_marked before behind marks e None rest = refl
 behind_marked before behind marks e (Some x) rest =
-    let n : marks + length x ≡ length ((before ++ x) ++ behind) = omega (arith, length-append (before ++ x) behind, length-append before x) in
+    let n : marks + length x ≡ length ((before ++ x) ++ behind) =
+    omega (arith, length-append (before ++ x) behind, length-append before x) in
     ap (λ k. drop k (((before ++ x) ++ behind) ++ rest)) n
     ∙ drop-append_seam ((before ++ x) ++ behind) rest
 
@@ -26,7 +28,8 @@ in_marked : (before behind : List ℕ) (o : Option (List ℕ)) (rest : List ℕ)
     → part_in (length before) (option_map length o) (marked before o behind ++ rest) ≡ o
 in_marked before behind None rest = refl
 in_marked before behind (Some x) rest =
-    let joined : ((before ++ x) ++ behind) ++ rest ≡ before ++ (x ++ (behind ++ rest)) = append_assoc (before ++ x) behind rest
+    let joined : ((before ++ x) ++ behind) ++ rest ≡ before ++ (x ++ (behind ++ rest)) =
+    append_assoc (before ++ x) behind rest
     ∙ append_assoc before x (behind ++ rest) in
     ap (λ t. Some (take (length x) (drop (length before) t))) joined
     ∙ ap (λ t. Some (take (length x) t)) (drop-append_seam before (x ++ (behind ++ rest)))
@@ -38,9 +41,26 @@ path_marked (Some x) = sym (append-nil x)
 
 same_parts : {s1 s2 a1 a2 p1 p2 q1 q2 f1 f2 : Option (List ℕ)} {failed : Bool} → s1 ≡ s2 → a1 ≡ a2
     → p1 ≡ p2 → q1 ≡ q2 → f1 ≡ f2
-    → (let x : BuilderParts = record { scheme = s1; authority = a1; path = p1; query = q1; fragment = f1; failed = failed } in x)
+    → (let x : BuilderParts = record {
+      scheme = s1;
+      authority = a1;
+      path = p1;
+      query =
+          q1;
+      fragment = f1;
+      failed = failed;
+    } in x)
     ≡ record { scheme = s2; authority = a2; path = p2; query = q2; fragment = f2; failed = failed }
-same_parts {failed = failed} s a p q f = λ i. record { scheme = s i; authority = a i; path = p i; query = q i; fragment = f i; failed = failed }
+same_parts {failed = failed} s a p q f =
+    λ i. record {
+      scheme = s i;
+      authority = a i;
+      path = p i;
+      query = q i;
+      fragment = f i;
+      failed =
+          failed;
+    }
 
 pub read_back : (p : BuilderParts) → parts_in (lengths_of p) (parts_text p) p.failed ≡ p
 read_back p =
@@ -48,12 +68,16 @@ read_back p =
     let Q : List ℕ = marked (codes "?") p.query [] ++ F in
     let P : List ℕ = unwrap_or p.path [] ++ Q in
     let A : List ℕ = marked (codes "//") p.authority [] ++ P in
-    let rest : behind_part 1 (option_map length p.scheme) (marked [] p.scheme (codes ":") ++ A) ≡ A = behind_marked [] (codes ":") 1 refl p.scheme A in
-    let path : behind_part 2 (option_map length p.authority) A ≡ P = behind_marked (codes "//") [] 2 refl p.authority P in
+    let rest : behind_part 1 (option_map length p.scheme) (marked [] p.scheme (codes ":") ++ A)
+    ≡ A = behind_marked [] (codes ":") 1 refl p.scheme A in
+    let path : behind_part 2 (option_map length p.authority) A ≡ P =
+    behind_marked (codes "//") [] 2 refl p.authority P in
     let marked_path : P ≡ marked [] p.path [] ++ Q = ap (λ t. t ++ Q) (path_marked p.path) in
-    let query : behind_part 0 (option_map length p.path) P ≡ Q = ap (behind_part 0 (option_map length p.path)) marked_path
+    let query : behind_part 0 (option_map length p.path) P ≡ Q =
+    ap (behind_part 0 (option_map length p.path)) marked_path
     ∙ behind_marked [] [] 0 refl p.path Q in
-    let fragment : behind_part 1 (option_map length p.query) Q ≡ F = behind_marked (codes "?") [] 1 refl p.query F in
+    let fragment : behind_part 1 (option_map length p.query) Q ≡ F =
+    behind_marked (codes "?") [] 1 refl p.query F in
     let to_path = ap (behind_part 2 (option_map length p.authority)) rest ∙ path in
     let to_query = ap (behind_part 0 (option_map length p.path)) to_path ∙ query in
     let to_fragment = ap (behind_part 1 (option_map length p.query)) to_query ∙ fragment in
@@ -62,7 +86,8 @@ read_back p =
     (ap (part_in 2 (option_map length p.authority)) rest ∙ in_marked (codes "//") [] p.authority P)
     (ap (part_in 0 (option_map length p.path)) (to_path ∙ marked_path) ∙ in_marked [] [] p.path Q)
     (ap (part_in 1 (option_map length p.query)) to_query ∙ in_marked (codes "?") [] p.query F)
-    (ap (part_in 1 (option_map length p.fragment)) (to_fragment ∙ sym (append-nil F)) ∙ in_marked (codes "#") [] p.fragment [])
+    (ap (part_in 1 (option_map length p.fragment)) (to_fragment ∙ sym (append-nil F))
+    ∙ in_marked (codes "#") [] p.fragment [])
 
 -- a text with its lengths is known by the parts whose text it is
 pub read_parts : (p : BuilderParts) (lengths : Lengths) (text : List ℕ) → lengths ≡ lengths_of p
@@ -105,11 +130,13 @@ rules_of kind p e =
     let a = and_parts (if_some p.scheme is_scheme_text) _ e in
     let b = and_parts (if_some p.authority (is_authority_text kind)) _ a.1 in
     let c = and_parts (if_some p.path (is_text_for kind.path)) _ b.1 in
-    let d = and_parts (if_some p.query (is_text_for kind.query)) (if_some p.fragment (is_text_for kind.fragment)) c.1 in
+    let d = and_parts (if_some p.query (is_text_for kind.query))
+    (if_some p.fragment (is_text_for kind.fragment)) c.1 in
     record { scheme = a.0; authority = b.0; path = c.0; query = d.0; fragment = d.1 }
 
 pub by_rules : (kind : Kind) (p : BuilderParts) → Rules kind p → meet_rules kind p ≡ true
-by_rules kind p r = and_from _ _ r.scheme (and_from _ _ r.authority (and_from _ _ r.path (and_from _ _ r.query r.fragment)))
+by_rules kind p r = and_from _ _ r.scheme
+    (and_from _ _ r.authority (and_from _ _ r.path (and_from _ _ r.query r.fragment)))
 
 -- a part that is not there has no length
 pub none_in : (mark : ℕ) (n : Option ℕ) (text : List ℕ) → is_none (part_in mark n text) ≡ true
@@ -120,13 +147,16 @@ none_in mark (Some n) text e = absurd (false≢true e)
 -- the text of the parts with one more at its end
 pub scheme_text : (s : List ℕ)
     → [] ++ (s ++ codes ":")
-    ≡ recompose (record { scheme = Some s; authority = None; path = []; query = None; fragment = None })
+    ≡ recompose
+    (record { scheme = Some s; authority = None; path = []; query = None; fragment = None })
 scheme_text s = sym (append-nil (s ++ codes ":"))
 
 pub authority_text : (scheme : Option (List ℕ)) (a : List ℕ)
-    → recompose (record { scheme = scheme; authority = None; path = []; query = None; fragment = None })
+    → recompose
+    (record { scheme = scheme; authority = None; path = []; query = None; fragment = None })
     ++ (codes "//" ++ a)
-    ≡ recompose (record { scheme = scheme; authority = Some a; path = []; query = None; fragment = None })
+    ≡ recompose
+    (record { scheme = scheme; authority = Some a; path = []; query = None; fragment = None })
 authority_text scheme a =
     let S : List ℕ = marked [] scheme (codes ":") in
     ap (λ t. t ++ (codes "//" ++ a)) (append-nil S)
@@ -134,20 +164,45 @@ authority_text scheme a =
     ∙ ap (λ t. S ++ t) (sym (append-nil ((codes "//" ++ a) ++ [])))
 
 pub more_text : (scheme : Option (List ℕ)) (a more : List ℕ)
-    → recompose (record { scheme = scheme; authority = Some a; path = []; query = None; fragment = None })
+    → recompose
+    (record { scheme = scheme; authority = Some a; path = []; query = None; fragment = None })
     ++ more
-    ≡ recompose (record { scheme = scheme; authority = Some (a ++ more); path = []; query = None; fragment = None })
+    ≡ recompose (record {
+      scheme = scheme;
+      authority = Some (a ++ more);
+      path = [];
+      query =
+          None;
+      fragment = None;
+    })
 more_text scheme a more =
     let S : List ℕ = marked [] scheme (codes ":") in
-    let whole = λ (x : List ℕ). recompose (record { scheme = scheme; authority = Some x; path = []; query = None; fragment = None }) in
-    let bare : (x : List ℕ) → whole x ≡ S ++ (codes "//" ++ x) = λ x. sym (sym (ap (λ t. S ++ t) (append-nil ((codes "//" ++ x) ++ []))) ∙ refl)
+    let whole = λ (x : List ℕ). recompose
+    (record {
+      scheme = scheme;
+      authority = Some x;
+      path = [];
+      query = None;
+      fragment =
+          None;
+    }) in
+    let bare : (x : List ℕ) → whole x ≡ S ++ (codes "//" ++ x) =
+    λ x. sym (sym (ap (λ t. S ++ t) (append-nil ((codes "//" ++ x) ++ []))) ∙ refl)
     ∙ ap (λ t. S ++ (codes "//" ++ t)) (append-nil x) in
     ap (λ t. t ++ more) (bare a) ∙ append_assoc S (codes "//" ++ a) more ∙ sym (bare (a ++ more))
 
 pub path_text : (scheme authority : Option (List ℕ)) (x : List ℕ)
-    → recompose (record { scheme = scheme; authority = authority; path = []; query = None; fragment = None })
+    → recompose (record {
+      scheme = scheme;
+      authority = authority;
+      path = [];
+      query =
+          None;
+      fragment = None;
+    })
     ++ x
-    ≡ recompose (record { scheme = scheme; authority = authority; path = x; query = None; fragment = None })
+    ≡ recompose
+    (record { scheme = scheme; authority = authority; path = x; query = None; fragment = None })
 path_text scheme authority x =
     let S : List ℕ = marked [] scheme (codes ":") in
     let A : List ℕ = marked (codes "//") authority [] in
@@ -155,9 +210,23 @@ path_text scheme authority x =
     ∙ ap (λ t. S ++ (A ++ t)) (sym (append-nil x))
 
 pub query_text : (scheme authority : Option (List ℕ)) (path x : List ℕ)
-    → recompose (record { scheme = scheme; authority = authority; path = path; query = None; fragment = None })
+    → recompose (record {
+      scheme = scheme;
+      authority = authority;
+      path = path;
+      query =
+          None;
+      fragment = None;
+    })
     ++ (codes "?" ++ x)
-    ≡ recompose (record { scheme = scheme; authority = authority; path = path; query = Some x; fragment = None })
+    ≡ recompose (record {
+      scheme = scheme;
+      authority = authority;
+      path = path;
+      query =
+          Some x;
+      fragment = None;
+    })
 query_text scheme authority path x =
     let S : List ℕ = marked [] scheme (codes ":") in
     let A : List ℕ = marked (codes "//") authority [] in
@@ -168,9 +237,23 @@ query_text scheme authority path x =
     ∙ ap (λ t. S ++ (A ++ (path ++ t))) (sym (append-nil ((codes "?" ++ x) ++ [])))
 
 pub fragment_text : (scheme authority query : Option (List ℕ)) (path x : List ℕ)
-    → recompose (record { scheme = scheme; authority = authority; path = path; query = query; fragment = None })
+    → recompose (record {
+      scheme = scheme;
+      authority = authority;
+      path = path;
+      query =
+          query;
+      fragment = None;
+    })
     ++ (codes "#" ++ x)
-    ≡ recompose (record { scheme = scheme; authority = authority; path = path; query = query; fragment = Some x })
+    ≡ recompose (record {
+      scheme = scheme;
+      authority = authority;
+      path = path;
+      query =
+          query;
+      fragment = Some x;
+    })
 fragment_text scheme authority query path x =
     let S : List ℕ = marked [] scheme (codes ":") in
     let A : List ℕ = marked (codes "//") authority [] in

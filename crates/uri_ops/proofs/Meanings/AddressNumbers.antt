@@ -1,4 +1,5 @@
--- The numbers of an IPv6 address are eight of 16 bits, so its text by RFC 5952 is one of an address with these numbers.
+-- The numbers of an IPv6 address are eight of 16 bits, so its text by RFC 5952 is one of an address
+-- with these numbers.
 use Rattle.std.proofs.Common.{◌≡◌, ℕ, ◌+◌, ◌-◌, ◌*◌, ◌<◌, ◌≤◌, ◌^◌, Bool, true, false, List, []}
 use Rattle.std.proofs.Common.{◌∷◌, ◌++◌, length, replicate, All, refl, sym, ap, subst, arith}
 use Rattle.std.proofs.Common.{⊎_elim, inl, inr, lit<, length-append}
@@ -27,8 +28,10 @@ group_fits group s h =
 dotted_fits : (text octets : List ℕ) → IsDotted text octets → Fit (segments_of octets)
 dotted_fits text octets h =
     subst (λ o. Fit (segments_of o)) (sym h.value)
-    (All-cons (λ n. n < 2 ^ 16) (h.a * 256 + h.b) ((h.c * 256 + h.d) ∷ []) (two h.a h.b h.fit.0 h.fit.1)
-    (All-cons (λ n. n < 2 ^ 16) (h.c * 256 + h.d) [] (two h.c h.d h.fit.2 h.fit.3) (All-nil (λ n. n < 2 ^ 16))))
+    (All-cons (λ n. n < 2 ^ 16) (h.a * 256 + h.b) ((h.c * 256 + h.d) ∷ [])
+    (two h.a h.b h.fit.0 h.fit.1)
+    (All-cons (λ n. n < 2 ^ 16) (h.c * 256 + h.d) [] (two h.c h.d h.fit.2 h.fit.3)
+    (All-nil (λ n. n < 2 ^ 16))))
   where
     two : (a b : ℕ) → a < 256 → b < 256 → a * 256 + b < 2 ^ 16
     two a b p q = let same : 65536 ≡ 2 ^ 16 = refl in omega arith
@@ -37,8 +40,10 @@ groups_fit : (ipv4 : Bool) (lead text segments : List ℕ) → IsGroupsAfter ipv
     → Fit segments
 groups_fit ipv4 lead text [] h = All-nil (λ n. n < 2 ^ 16)
 groups_fit ipv4 lead text (s ∷ segments) (inl (group, rest, e, is_group, more)) =
-    All-cons (λ n. n < 2 ^ 16) s segments (group_fits group s is_group) (groups_fit ipv4 (58 ∷ []) rest segments more)
-groups_fit ipv4 lead text (s ∷ segments) (inr (last, octets, allowed, e, dotted, same)) = subst Fit (sym same) (dotted_fits last octets dotted)
+    All-cons (λ n. n < 2 ^ 16) s segments (group_fits group s is_group)
+    (groups_fit ipv4 (58 ∷ []) rest segments more)
+groups_fit ipv4 lead text (s ∷ segments) (inr (last, octets, allowed, e, dotted, same)) =
+    subst Fit (sym same) (dotted_fits last octets dotted)
 
 zeros_fit : (n : ℕ) → Fit (replicate n 0)
 zeros_fit n = All-replicate (λ n. n < 2 ^ 16) n 0 (lit< tt)
@@ -48,14 +53,24 @@ segments_fit text segments (inl h) = groups_fit true [] text segments h.0
 segments_fit text segments (inr h) =
     subst Fit (sym h.value)
     (All-append (λ n. n < 2 ^ 16) (h.head ++ replicate (8 - length h.head - length h.tail) 0) h.tail
-    (All-append (λ n. n < 2 ^ 16) h.head (replicate (8 - length h.head - length h.tail) 0) (groups_fit false [] h.head_text h.head h.head_groups) (zeros_fit (8 - length h.head - length h.tail)))
+    (All-append (λ n. n < 2 ^ 16) h.head (replicate (8 - length h.head - length h.tail) 0)
+    (groups_fit false [] h.head_text h.head h.head_groups)
+    (zeros_fit (8 - length h.head - length h.tail)))
     (groups_fit true [] h.tail_text h.tail h.tail_groups))
 
 eight_segments : (text segments : List ℕ) → IsColonHex text segments → length segments ≡ 8
 eight_segments text segments (inl h) = h.1
 eight_segments text segments (inr h) =
     let zeros : List ℕ = replicate (8 - length h.head - length h.tail) 0 in
-    omega (arith, ap length h.value, length-append (h.head ++ zeros) h.tail, length-append h.head zeros, length-replicate {A = ℕ} (8 - length h.head - length h.tail) 0, h.room)
+    omega (
+      arith,
+      ap length h.value,
+      length-append (h.head ++ zeros) h.tail,
+      length-append h.head
+          zeros,
+      length-replicate {A = ℕ} (8 - length h.head - length h.tail) 0,
+      h.room,
+    )
 
 pub text_of_address : (text segments : List ℕ) → IsColonHex text segments
     → IsColonHex (ipv6_text segments) segments

@@ -82,7 +82,8 @@ module _ (set : TableSet) (lacks : LacksPercent set) where
   pub part_reprinted : IsSubset unreserved_set set → (text : List ℕ) → is_part set text ≡ true
       → is_part set (reprinted set text) ≡ true
   unfolding reprinted
-  part_reprinted wide text e = part_from set (print (read set text)) (IsUtf8-reprinted text e) (is_valid_for-read set text lacks wide (part_valid set text e))
+  part_reprinted wide text e = part_from set (print (read set text)) (IsUtf8-reprinted text e)
+      (is_valid_for-read set text lacks wide (part_valid set text e))
 
 no_digit_first : (c d : ℕ) → is_pct_encoded c 47 d ≡ false
 unfolding is_pct_encoded
@@ -90,7 +91,8 @@ no_digit_first c d = and_right (eqb c 37) (is_ascii_hexdigit 47 && is_ascii_hexd
 
 no_digit_second : (c d : ℕ) → is_pct_encoded c d 47 ≡ false
 unfolding is_pct_encoded
-no_digit_second c d = and_right (eqb c 37) (is_ascii_hexdigit d && is_ascii_hexdigit 47) (and_right (is_ascii_hexdigit d) false refl)
+no_digit_second c d = and_right (eqb c 37) (is_ascii_hexdigit d && is_ascii_hexdigit 47)
+    (and_right (is_ascii_hexdigit d) false refl)
 
 tokens_of-cut : (cs ds : List ℕ)
     → tokens_of (cs ++ 47 ∷ ds) ≡ tokens_of cs ++ Char 47 ∷ tokens_of ds
@@ -112,15 +114,18 @@ chars-slash [] = refl
 chars-slash (b ∷ y) = refl
 
 pub tokens-cut : (x y : List ℕ) → IsUtf8 x → tokens (x ++ 47 ∷ y) ≡ tokens x ++ Char 47 ∷ tokens y
-tokens-cut x y u = ap tokens_of (chars-append x (47 ∷ y) u ∙ ap (λ cs. chars x ++ cs) (chars-slash y))
+tokens-cut x y u =
+    ap tokens_of (chars-append x (47 ∷ y) u ∙ ap (λ cs. chars x ++ cs) (chars-slash y))
     ∙ tokens_of-cut (chars x) (chars y)
 
 -- so it parts what is read before it from what is read behind it
 pub read-cut : (set : TableSet) (x y : List ℕ) → IsUtf8 x
     → read set (x ++ 47 ∷ y) ≡ read set x ++ Char 47 ∷ read set y
 read-cut set x y u =
-    ap (encode_formatting set) (ap (read_tokens set) (tokens-cut x y u) ∙ read_tokens-around_char set (tokens x) 47 (tokens y))
-    ∙ encode_formatting-around_char set (read_tokens set (tokens x)) 47 (read_tokens set (tokens y)) (lit< tt)
+    ap (encode_formatting set) (ap (read_tokens set) (tokens-cut x y u)
+    ∙ read_tokens-around_char set (tokens x) 47 (tokens y))
+    ∙ encode_formatting-around_char set (read_tokens set (tokens x)) 47 (read_tokens set (tokens y))
+    (lit< tt)
 
 print-slash : (ts us : List Token) → print (ts ++ Char 47 ∷ us) ≡ print ts ++ 47 ∷ print us
 print-slash ts us =

@@ -9,7 +9,7 @@ use Rattle.uri_pct.specs.Tokens.{print}
 use Rattle.uri_parts.specs.Components.{starts}
 use Rattle.uri_parts.specs.Hosts.{IpvFuture, host_kind, ipv4_value, ipv6_value, literal_of}
 use Rattle.uri_parts.specs.Hosts.{literal_kind, name_kind}
-use Rattle.uri_parts.specs.HostTexts.{host_kind_of}
+use Rattle.uri_parts.specs.AuthorityTexts.{host_kind_of}
 use Rattle.uri_parts.specs.declared.component.HostOf.{HostOf}
 use Rattle.uri_parts.specs.declared.component.HostOf.TheVariants as Of
 use Rattle.uri_parts.specs.declared.net.Ipv6Addr.{Ipv6Addr}
@@ -47,4 +47,5 @@ pub future_written : {N : Type 0} (h : HostOf N) (names : TableSet) (host : List
 unfolding host_kind
 future_written h names host other s e =
     let literal = cond-true _ _ _ s in
-    ap (λ k. host_text (host_meaning names host k)) (literal ∙ no_address h (ipv6_value (literal_of host)) other (e ∙ literal))
+    ap (λ k. host_text (host_meaning names host k))
+    (literal ∙ no_address h (ipv6_value (literal_of host)) other (e ∙ literal))

@@ -41,7 +41,8 @@ high_bytes (b ∷ bytes) e =
 high_char : (c : ℕ) → 128 ≤ c → map to_ascii_lowercase (encode_utf8 c) ≡ encode_utf8 c
 high_char c h =
     let w = bytes_of_char c in
-    let first : 128 ≤ w.first = subst (λ x. 128 ≤ slice_index x 0) (append-nil (encode_utf8 c) ∙ w.spelt) (lead c [] h) in
+    let first : 128 ≤ w.first = subst (λ x. 128 ≤ slice_index x 0)
+    (append-nil (encode_utf8 c) ∙ w.spelt) (lead c [] h) in
     ap (map to_ascii_lowercase) w.spelt
     ∙ ap (λ x. x ∷ map to_ascii_lowercase w.more) (past_same w.first first)
     ∙ ap (λ x. w.first ∷ x) (high_bytes w.more w.high) ∙ sym w.spelt
@@ -49,7 +50,8 @@ high_char c h =
 pub lower_char : (c : ℕ)
     → encode_utf8 (to_ascii_lowercase c) ≡ map to_ascii_lowercase (encode_utf8 c)
 lower_char c = ⊎_elim
-    (λ h. encode_ascii (to_ascii_lowercase c) (lowercase_ascii c h) ∙ sym (ap (map to_ascii_lowercase) (encode_ascii c h)))
+    (λ h. encode_ascii (to_ascii_lowercase c) (lowercase_ascii c h)
+    ∙ sym (ap (map to_ascii_lowercase) (encode_ascii c h)))
     (λ h. ap encode_utf8 (past_same c h) ∙ sym (high_char c h))
     (cases_lt c 128)
 
@@ -86,14 +88,16 @@ scalars_lower : (cs : List ℕ) → all_scalars cs ≡ true
 scalars_lower [] e = refl
 scalars_lower (c ∷ cs) e =
     let p = and_parts _ (all_scalars cs) e in
-    and_from _ _ (and_parts _ true (scalar_lower c (and_from _ true p.0 refl))).0 (scalars_lower cs p.1)
+    and_from _ _ (and_parts _ true (scalar_lower c (and_from _ true p.0 refl))).0
+    (scalars_lower cs p.1)
 
 chars_lower : (text : List ℕ) → IsUtf8 text
     → chars (str_to_ascii_lowercase text) ≡ map to_ascii_lowercase (chars text)
 chars_lower text u =
     ap (λ x. chars (str_to_ascii_lowercase x)) (sym (encodes-chars text u))
     ∙ ap chars (sym (lower_encoded (chars text)))
-    ∙ chars-encodes (map to_ascii_lowercase (chars text)) (scalars_lower (chars text) (scalars-chars text u))
+    ∙ chars-encodes (map to_ascii_lowercase (chars text))
+    (scalars_lower (chars text) (scalars-chars text u))
 
 -- a set allows what is readable, and nothing else
 abbrev pub AllowsReadable : TableSet → TableSet → Type 0
@@ -115,7 +119,8 @@ module _ (readable set : TableSet) (same : AllowsReadable readable set) where
   piece_read (IllFormed bytes) h = refl
   piece_read (WellFormed bytes) h = ⊎_elim
       (λ e. cond-true _ _ _ e ∙ sym (cond-true _ _ _ (same (char_of bytes) ∙ e)))
-      (λ e. cond-false _ _ _ e ∙ ap (map Octet) (sym h.1) ∙ sym (cond-false _ _ _ (same (char_of bytes) ∙ e)))
+      (λ e. cond-false _ _ _ e ∙ ap (map Octet) (sym h.1)
+      ∙ sym (cond-false _ _ _ (same (char_of bytes) ∙ e)))
       (cases_Bool (is_readable set (char_of bytes)))
 
   pieces_read : (ps : List Piece) → All IsOfCharacter ps
@@ -136,7 +141,8 @@ module _ (readable set : TableSet) (same : AllowsReadable readable set) where
   unfolding is_readable
   kept_lower c e = ⊎_elim
       (λ u. ap (λ b. b || allows_past_ascii set (to_ascii_lowercase c)) (lower_unreserved c u))
-      (λ u. subst (λ x. (is_unreserved x || allows_past_ascii set x) ≡ true) (sym (letters_unreserved c u)) e)
+      (λ u. subst (λ x. (is_unreserved x || allows_past_ascii set x) ≡ true)
+      (sym (letters_unreserved c u)) e)
       (cases_Bool (is_unreserved c))
 
   other_same : (c : ℕ) → is_readable set c ≡ false → to_ascii_lowercase c ≡ c
@@ -146,8 +152,11 @@ module _ (readable set : TableSet) (same : AllowsReadable readable set) where
   char_lower : (c : ℕ)
       → encode_char readable (to_ascii_lowercase c) ≡ map lower_token (encode_char readable c)
   char_lower c = ⊎_elim
-      (λ e. cond-true _ _ _ (same (to_ascii_lowercase c) ∙ kept_lower c e) ∙ sym (ap (map lower_token) (cond-true _ _ _ (same c ∙ e))))
-      (λ e. ap (encode_char readable) (other_same c e) ∙ cond-false _ _ _ (same c ∙ e) ∙ sym (lower_octets (encode_utf8 c)) ∙ sym (ap (map lower_token) (cond-false _ _ _ (same c ∙ e))))
+      (λ e. cond-true _ _ _ (same (to_ascii_lowercase c) ∙ kept_lower c e)
+      ∙ sym (ap (map lower_token) (cond-true _ _ _ (same c ∙ e))))
+      (λ e. ap (encode_char readable) (other_same c e) ∙ cond-false _ _ _ (same c ∙ e)
+      ∙ sym (lower_octets (encode_utf8 c))
+      ∙ sym (ap (map lower_token) (cond-false _ _ _ (same c ∙ e))))
       (cases_Bool (is_readable set c))
 
   chars_read_lower : (cs : List ℕ)

@@ -26,7 +26,9 @@ use Rattle.uri_ops.proofs.Meanings.PlainTexts.{is_plain_char, part_plain}
 -- what a table allows
 pub valid_decodes : (table : Table) (set : TableSet) (text : List ℕ) → set_of table ≡ set
     → IsValidFor set text → IsValidFor widest_set text
-valid_decodes table set text e valid = valid_in_more set widest_set text (in_widest set (subst LacksPercent e (lacks_percent table))) valid
+valid_decodes table set text e valid =
+    valid_in_more set widest_set text (in_widest set (subst LacksPercent e (lacks_percent table)))
+    valid
 
 -- digits and dots
 abbrev no_mark : ℕ → Bool
@@ -40,7 +42,9 @@ dotted_decodes : (text octets : List ℕ) → IsDotted text octets → IsValidFo
 dotted_decodes text octets h =
     part_valid widest_set text
     (part_plain widest_set no_mark refl refl (λ c e. e) text
-    (list_all-from_AllPass (is_plain_char no_mark) text (All-weaker IsDigitOrDot (λ c. is_plain_char no_mark c ≡ true) (λ c d. unmarked c d) text (ipv4_digits text octets h))))
+    (list_all-from_AllPass (is_plain_char no_mark) text
+    (All-weaker IsDigitOrDot (λ c. is_plain_char no_mark c ≡ true) (λ c d. unmarked c d) text
+    (ipv4_digits text octets h))))
 
 -- a host that doesn't begin with `[`: an IPv4 address or a name
 pub named_decodes : (table : Table) (names : TableSet) (host : List ℕ) → set_of table ≡ names

@@ -57,12 +57,15 @@ pub record IsHostOf (names : TableSet) (m : HostMeaning) (text : List ℕ) : Typ
 pub lacks_bracketed : (address : List ℕ) → Lacks (codes "/?#") address
     → Lacks (codes "/?#") (bracketed address)
 lacks_bracketed address h =
-    lacks_append (codes "/?#") (codes "[") (address ++ codes "]") (test_lacks (codes "/?#") (codes "[") refl)
+    lacks_append (codes "/?#") (codes "[") (address ++ codes "]")
+    (test_lacks (codes "/?#") (codes "[") refl)
     (lacks_append (codes "/?#") address (codes "]") h (test_lacks (codes "/?#") (codes "]") refl))
 
 pub utf8_in_brackets : (address : List ℕ) → IsUtf8 address → IsUtf8 (bracketed address)
 utf8_in_brackets address u =
-    IsUtf8-append (codes "[") (address ++ codes "]") (utf8_ascii (codes "[") refl) (IsUtf8-append address (codes "]") u (utf8_ascii (codes "]") refl))
+    IsUtf8-append (codes "[") (address ++ codes "]")
+    (utf8_ascii (codes "[") refl) (IsUtf8-append address (codes "]") u (utf8_ascii (codes "]")
+    refl))
 
 address_plain : (c : ℕ) → is_address_char c ≡ true → ltb c 128 ≡ true
 unfolding is_address_char
@@ -108,8 +111,11 @@ pub record PlainParts (text : List ℕ) (h : IsIpvFuture text) : Type 0 where
 pub plain_future : (text : List ℕ) → IsUtf8 text → (h : IsIpvFuture text) → PlainParts text h
 plain_future text u h =
     let tail : List ℕ = h.version ++ 46 ∷ h.address in
-    let low : h.letter < 128 = ltb-true h.letter 128 (and_parts (ltb h.letter 128) (is_userinfo_char h.letter) (letter_userinfo h.letter h.is_v)).0 in
-    let apart = utf8_apart h.version 46 h.address (omega arith) (utf8_tail h.letter tail low (subst IsUtf8 h.whole u)) in
+    let low : h.letter < 128 = ltb-true h.letter 128
+    (and_parts (ltb h.letter 128) (is_userinfo_char h.letter)
+    (letter_userinfo h.letter h.is_v)).0 in
+    let apart = utf8_apart h.version 46 h.address (omega arith)
+    (utf8_tail h.letter tail low (subst IsUtf8 h.whole u)) in
     record {
       version = sym (valid_plain is_ascii_hexdigit refl h.version apart.0) ∙ h.version_digits.1;
       address = sym (valid_plain is_userinfo_char no_percent h.address apart.1) ∙ h.address_chars.1;
@@ -119,8 +125,10 @@ pub future_chars : (text : List ℕ) (h : IsIpvFuture text) → PlainParts text 
     → list_all (is_plain_char is_userinfo_char) text ≡ true
 future_chars text h w =
     ap (list_all (is_plain_char is_userinfo_char)) h.whole
-    ∙ and_from _ _ (letter_userinfo h.letter h.is_v) (list_all-append (is_plain_char is_userinfo_char) h.version (46 ∷ h.address)
-    ∙ and_from _ _ (plain_wider is_ascii_hexdigit is_userinfo_char hex_userinfo h.version w.version) (and_from _ _ dot_userinfo w.address))
+    ∙ and_from _ _ (letter_userinfo h.letter h.is_v)
+    (list_all-append (is_plain_char is_userinfo_char) h.version (46 ∷ h.address)
+    ∙ and_from _ _ (plain_wider is_ascii_hexdigit is_userinfo_char hex_userinfo h.version w.version)
+    (and_from _ _ dot_userinfo w.address))
 
 lower_plain_future : (text : List ℕ) (h : IsIpvFuture text) → PlainParts text h
     → IsIpvFuture (str_to_ascii_lowercase text)
@@ -136,10 +144,19 @@ lower_plain_future text h w =
       version = str_to_ascii_lowercase h.version;
       address = str_to_ascii_lowercase h.address;
       whole = ap str_to_ascii_lowercase h.whole
-          ∙ ap (λ t. to_ascii_lowercase h.letter ∷ t) (map-append to_ascii_lowercase h.version (46 ∷ h.address));
+          ∙ ap (λ t. to_ascii_lowercase h.letter ∷ t)
+          (map-append to_ascii_lowercase h.version (46 ∷ h.address));
       is_v = letter_lower h.letter h.is_v;
-      version_digits = (omega arith, valid_plain is_ascii_hexdigit refl (str_to_ascii_lowercase h.version) (utf8_plain is_ascii_hexdigit (str_to_ascii_lowercase h.version) version) ∙ version);
-      address_chars = (omega arith, valid_plain is_userinfo_char no_percent (str_to_ascii_lowercase h.address) (utf8_plain is_userinfo_char (str_to_ascii_lowercase h.address) address) ∙ address);
+      version_digits = (
+        omega arith,
+        valid_plain is_ascii_hexdigit refl (str_to_ascii_lowercase h.version)
+            (utf8_plain is_ascii_hexdigit (str_to_ascii_lowercase h.version) version) ∙ version,
+      );
+      address_chars = (
+        omega arith,
+        valid_plain is_userinfo_char no_percent (str_to_ascii_lowercase h.address)
+            (utf8_plain is_userinfo_char (str_to_ascii_lowercase h.address) address) ∙ address,
+      );
     }
 
 pub slash_outside : excludes ipv_future_set (codes "/?#") ≡ true
@@ -153,7 +170,8 @@ name_passes names text e valid = cond-false _ _ _ e ∙ or_right _ _ valid
 module _ (names : TableSet) (w : IsComponentSet (codes "/?#[]@:") names)
     (apart : excludes names (codes "@:[") ≡ true) where
   outside : excludes names (codes "/?#") ≡ true
-  outside = excludes_front (codes "/?#") (codes "[]@:") names (ends_outside (codes "/?#[]@:") names refl w.ends)
+  outside = excludes_front (codes "/?#") (codes "[]@:") names
+      (ends_outside (codes "/?#[]@:") names refl w.ends)
 
   -- a name, or an IPv4 address, which is one of its texts
   pub name_meaning : (text : List ℕ) (value : Option (List ℕ))
@@ -167,20 +185,27 @@ module _ (names : TableSet) (w : IsComponentSet (codes "/?#[]@:") names)
   at_name text e valid = (cond-false _ _ _ e, name_passes names text e valid)
 
   named : (text : List ℕ) → is_part names text ≡ true
-      → IsHostOf names (Name (map lower_token (read names text))) (print (map lower_token (read names text)))
+      → IsHostOf names (Name (map lower_token (read names text)))
+      (print (map lower_token (read names text)))
   named text part =
       let ts = map lower_token (read names text) in
-      let printable = printable-lower (read names text) (printable_read names w.percent text part) in
+      let printable = printable-lower (read names text)
+      (printable_read names w.percent text part) in
       let u = IsUtf8-print ts printable in
       let valid = is_valid_for-print names ts printable
-      ∙ allows-lower names (read names text) w.unreserved (allows-read names text w.unreserved (part_valid names text part)) in
-      let at = at_name (print ts) (lacks_starts (codes "@:[") (print ts) 91 refl (valid_lacks names (codes "@:[") w.percent apart (print ts) u valid)) valid in
+      ∙ allows-lower names (read names text) w.unreserved
+      (allows-read names text w.unreserved (part_valid names text part)) in
+      let at =
+      at_name (print ts) (lacks_starts
+      (codes "@:[") (print ts) 91 refl
+      (valid_lacks names (codes "@:[") w.percent apart (print ts) u valid)) valid in
       record {
         utf8 = u;
         host = (host_kind (print ts), is_host-sound names (print ts) at.1);
         meaning = ap (host_meaning names (print ts)) at.0
             ∙ name_meaning (print ts) (ipv4_value (print ts))
-            ∙ ap (λ us. Name (map lower_token us)) (read-print_lower names text (printable_part names w.percent text part))
+            ∙ ap (λ us. Name (map lower_token us))
+            (read-print_lower names text (printable_part names w.percent text part))
             ∙ ap Name (lower-lower (read names text));
         lacks = valid_lacks names (codes "/?#") w.percent outside (print ts) u valid;
       }
@@ -196,36 +221,47 @@ module _ (names : TableSet) (w : IsComponentSet (codes "/?#[]@:") names)
   dotted_part text octets h =
       let chars = ipv4_digits text octets h in
       part_plain names is_unreserved w.percent not_unreserved (λ c e. w.unreserved.ascii c e) text
-      (list_all-from_AllPass (is_plain_char is_unreserved) text (All-weaker IsDigitOrDot (λ c. is_plain_char is_unreserved c ≡ true) (λ c d. digit_unreserved c d) text chars))
+      (list_all-from_AllPass (is_plain_char is_unreserved) text
+      (All-weaker IsDigitOrDot (λ c. is_plain_char is_unreserved c ≡ true)
+      (λ c d. digit_unreserved c d) text chars))
 
   -- a host that is printed from its meaning
   pub host_printed : (text : List ℕ) (kind : HostKind) → IsUtf8 text → IsHost names text kind
       → IsHostOf names (host_meaning names text kind) (host_text (host_meaning names text kind))
   host_printed text (Ipv6 segments) u (address, e, groups) =
       let back = text_of_address address segments groups in
-      let v = utf8_in_brackets (ipv6_text segments) (utf8_address (ipv6_text segments) (address_text-ipv6 (ipv6_text segments) segments back)) in
-      let found = is_host-complete names w.percent apart (bracketed (ipv6_text segments)) (Ipv6 segments) v (ipv6_text segments, refl, back) in
+      let v = utf8_in_brackets (ipv6_text segments)
+      (utf8_address (ipv6_text segments)
+      (address_text-ipv6 (ipv6_text segments) segments back)) in
+      let found = is_host-complete names w.percent apart (bracketed (ipv6_text segments))
+      (Ipv6 segments) v (ipv6_text segments, refl, back) in
       record {
         utf8 = v;
         host = (Ipv6 segments, (ipv6_text segments, refl, back));
         meaning = ap (host_meaning names (bracketed (ipv6_text segments))) found.kind;
-        lacks = lacks_bracketed (ipv6_text segments) (ipv6_lacks (codes "/?#") slash_outside (ipv6_text segments) segments back);
+        lacks = lacks_bracketed (ipv6_text segments)
+            (ipv6_lacks (codes "/?#") slash_outside (ipv6_text segments) segments back);
       }
   host_printed text IpvFuture u (address, e, future) =
       let plain_chars = plain_future address (utf8_bracketed address (subst IsUtf8 e u)) future in
       let low = str_to_ascii_lowercase address in
       let back = lower_plain_future address future plain_chars in
-      let inner = utf8_plain is_userinfo_char low (plain_lower is_userinfo_char userinfo_lower address (future_chars address future plain_chars)) in
+      let inner = utf8_plain is_userinfo_char low
+      (plain_lower is_userinfo_char userinfo_lower address
+      (future_chars address future plain_chars)) in
       let v = utf8_in_brackets low inner in
       let same : str_to_ascii_lowercase text ≡ bracketed low = ap str_to_ascii_lowercase e
       ∙ ap (λ t. 91 ∷ t) (map-append to_ascii_lowercase address (codes "]")) in
-      let found = is_host-complete names w.percent apart (bracketed low) IpvFuture v (low, refl, back) in
+      let found = is_host-complete names w.percent apart (bracketed low) IpvFuture v
+      (low, refl, back) in
       record {
         utf8 = subst IsUtf8 (sym same) v;
         host = (IpvFuture, (low, same, back));
-        meaning = ap (host_meaning names (str_to_ascii_lowercase text)) (ap host_kind same ∙ found.kind)
+        meaning = ap (host_meaning names (str_to_ascii_lowercase text))
+            (ap host_kind same ∙ found.kind)
             ∙ ap FutureAddress (lower_twice text);
-        lacks = subst (Lacks (codes "/?#")) (sym same) (lacks_bracketed low (ipv_future_lacks (codes "/?#") slash_outside low inner back));
+        lacks = subst (Lacks (codes "/?#")) (sym same)
+            (lacks_bracketed low (ipv_future_lacks (codes "/?#") slash_outside low inner back));
       }
   host_printed text (Ipv4 octets) u dotted = named text (dotted_part text octets dotted)
   host_printed text RegName u (valid, other) = named text (part_from names text u valid)

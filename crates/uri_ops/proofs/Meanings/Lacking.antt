@@ -29,11 +29,18 @@ lacks_any marks text = list_all (λ c. not (is_one_of marks c)) text
 pub part_lacks : (marks : List ℕ) (set : TableSet) → LacksPercent set → excludes set marks ≡ true
     → (text : List ℕ) → is_part set text ≡ true → lacks_any marks text ≡ true
 part_lacks marks set lacks outside text e =
-    lacks_test marks text (valid_lacks set marks lacks outside text (part_utf8 set text e) (part_valid set text e))
+    lacks_test marks text
+    (valid_lacks set marks lacks outside text (part_utf8 set text e) (part_valid set text e))
 
 -- the set without one of its characters
 abbrev pub without : ℕ → TableSet → TableSet
-without m set = record { ascii = λ c. not (eqb c m) && set.ascii c; pct_encoded = set.pct_encoded; ucschar = set.ucschar; iprivate = set.iprivate }
+without m set = record {
+  ascii = λ c. not (eqb c m) && set.ascii c;
+  pct_encoded =
+      set.pct_encoded;
+  ucschar = set.ucschar;
+  iprivate = set.iprivate;
+}
 
 -- the text has the character
 abbrev pub has : ℕ → List ℕ → Bool
@@ -43,7 +50,8 @@ allows_without : (m : ℕ) (set : TableSet) (b : ℕ) (rest : List ℕ) → eqb 
     → allows_first (without m set) b rest ≡ allows_first set b rest
 unfolding allows_first allows_past_ascii
 allows_without m set b rest e = ⊎_elim
-    (λ h. cond-true _ _ _ (lt-ltb b 128 h) ∙ ap (λ t. not t && set.ascii b) e ∙ sym (cond-true _ _ _ (lt-ltb b 128 h)))
+    (λ h. cond-true _ _ _ (lt-ltb b 128 h) ∙ ap (λ t. not t && set.ascii b) e
+    ∙ sym (cond-true _ _ _ (lt-ltb b 128 h)))
     (λ h. cond-false _ _ _ (le-ltb b 128 h) ∙ sym (cond-false _ _ _ (le-ltb b 128 h)))
     (cases_lt b 128)
 
@@ -52,22 +60,32 @@ valid_without : (m : ℕ) (set : TableSet) (k : ℕ) (bs : List ℕ) → has m b
 unfolding valid_from
 valid_without m set zero [] e = refl
 valid_without m set (suc k) [] e = refl
-valid_without m set (suc k) (b ∷ rest) e = valid_without m set k rest (or_parts (eqb b m) (has m rest) e).1
+valid_without m set (suc k) (b ∷ rest) e =
+    valid_without m set k rest (or_parts (eqb b m) (has m rest) e).1
 valid_without m set zero (b ∷ rest) e =
     let p = or_parts (eqb b m) (has m rest) e in
-    ap (λ t. cond ((set.pct_encoded && eqb b 37) && begins_hex rest) t (allows_first (without m set) b rest && valid_from (without m set) (continuation_len b) rest)) (valid_without m set 2 rest p.1)
-    ∙ ap (λ t. cond ((set.pct_encoded && eqb b 37) && begins_hex rest) (valid_from set 2 rest) (t && valid_from (without m set) (continuation_len b) rest)) (allows_without m set b rest p.0)
-    ∙ ap (λ t. cond ((set.pct_encoded && eqb b 37) && begins_hex rest) (valid_from set 2 rest) (allows_first set b rest && t)) (valid_without m set (continuation_len b) rest p.1)
+    ap (λ t. cond ((set.pct_encoded && eqb b 37) && begins_hex rest) t
+    (allows_first (without m set) b rest
+    && valid_from (without m set) (continuation_len b) rest))
+    (valid_without m set 2 rest p.1)
+    ∙ ap (λ t. cond ((set.pct_encoded && eqb b 37) && begins_hex rest) (valid_from set 2 rest)
+    (t && valid_from (without m set) (continuation_len b) rest))
+    (allows_without m set b rest p.0)
+    ∙ ap (λ t. cond ((set.pct_encoded && eqb b 37) && begins_hex rest) (valid_from set 2 rest)
+    (allows_first set b rest && t)) (valid_without m set (continuation_len b) rest p.1)
 
 lacks_without : (m : ℕ) (set : TableSet) → LacksPercent set → LacksPercent (without m set)
-lacks_without m set lacks = ⊎_elim (λ e. ap (λ t. not t && set.ascii 37) e) (λ e. ap (λ t. not t && set.ascii 37) e ∙ lacks) (cases_Bool (eqb 37 m))
+lacks_without m set lacks = ⊎_elim (λ e. ap (λ t. not t && set.ascii 37) e)
+    (λ e. ap (λ t. not t && set.ascii 37) e ∙ lacks) (cases_Bool (eqb 37 m))
 
 part_without : (m : ℕ) (set : TableSet) → LacksPercent set → (text : List ℕ)
     → is_part set text ≡ true → has m text ≡ false → is_part (without m set) text ≡ true
 part_without m set lacks text e f =
     let u = part_utf8 set text e in
     part_from (without m set) text u
-    (is_valid_for-bytes (without m set) (lacks_without m set lacks) text u ∙ valid_without m set 0 text f ∙ sym (is_valid_for-bytes set lacks text u) ∙ part_valid set text e)
+    (is_valid_for-bytes (without m set) (lacks_without m set lacks) text u
+    ∙ valid_without m set 0 text f ∙ sym (is_valid_for-bytes set lacks text u)
+    ∙ part_valid set text e)
 
 -- which character is left out makes no difference to reading
 piece_without : (m : ℕ) (set : TableSet) (p : Piece)
@@ -86,7 +104,8 @@ from_without : (m : ℕ) (set : TableSet) (run : List ℕ) (ts : List Token)
 unfolding read_from
 from_without m set run [] = run_without m set run
 from_without m set run (Octet value ∷ ts) = from_without m set (run ++ value ∷ []) ts
-from_without m set run (Char c ∷ ts) = ap (λ x. x ++ Char c ∷ read_from (without m set) [] ts) (run_without m set run)
+from_without m set run (Char c ∷ ts) =
+    ap (λ x. x ++ Char c ∷ read_from (without m set) [] ts) (run_without m set run)
     ∙ ap (λ x. read_run set run ++ Char c ∷ x) (from_without m set [] ts)
 
 token_without : (m : ℕ) (set : TableSet) (t : Token)
@@ -103,12 +122,16 @@ reprinted_without : (m : ℕ) (set : TableSet) (text : List ℕ)
     → reprinted (without m set) text ≡ reprinted set text
 unfolding reprinted
 reprinted_without m set text =
-    ap print (formatting_without m set (read_from (without m set) [] (tokens text)) ∙ ap (encode_formatting set) (from_without m set [] (tokens text)))
+    ap print (formatting_without m set (read_from (without m set) [] (tokens text))
+    ∙ ap (encode_formatting set) (from_without m set [] (tokens text)))
 
 wide_without : (m : ℕ) (set : TableSet) → is_unreserved m ≡ false → IsSubset unreserved_set set
     → IsSubset unreserved_set (without m set)
 wide_without m set reserved wide = record {
-  ascii = λ c e. and_from _ _ (not_from_false _ (false_from_ne_true _ (λ h. both_ways _ reserved (ap is_unreserved (sym (eqb-true c m h)) ∙ e)))) (wide.ascii c e);
+  ascii =
+      λ c e. and_from _ _ (not_from_false _
+      (false_from_ne_true _ (λ h. both_ways _ reserved
+      (ap is_unreserved (sym (eqb-true c m h)) ∙ e)))) (wide.ascii c e);
   pct_encoded = wide.pct_encoded;
   ucschar = wide.ucschar;
   iprivate = wide.iprivate;
@@ -136,6 +159,9 @@ module _ (m : ℕ) (set : TableSet) (lacks : LacksPercent set) (wide : IsSubset 
       → has m (reprinted set text) ≡ false
   reprinted_lacks text e f =
       let part = part_without m set lacks text e f in
-      let again = part_reprinted (without m set) (lacks_without m set lacks) (wide_without m set reserved wide) text part in
+      let again = part_reprinted (without m set) (lacks_without m set lacks)
+      (wide_without m set reserved wide) text part in
       sym (ap (has m) (reprinted_without m set text))
-      ∙ has_lacks m (reprinted (without m set) text) (part_lacks (m ∷ []) (without m set) (lacks_without m set lacks) outside (reprinted (without m set) text) again)
+      ∙ has_lacks m (reprinted (without m set) text)
+      (part_lacks (m ∷ []) (without m set) (lacks_without m set lacks) outside
+      (reprinted (without m set) text) again)

@@ -16,12 +16,13 @@ use Rattle.uri_parts.specs.Grammar.{Kind, uri, uri_ref, iri, iri_ref}
 use Rattle.uri_parts.specs.Hosts.{Ipv4, RegName, host_kind, ipv4_value, ipv6_value}
 use Rattle.uri_ops.specs.Dots.{run, remove_dot_segments, directory}
 use Rattle.uri_ops.specs.Target.{resolution_of}
-use Rattle.uri_ops.specs.Ports.{PortFunction}
+use Rattle.uri_parts.specs.Ports.{PortFunction}
 use Rattle.uri_ops.specs.Meaning.{meaning_of}
 use Rattle.uri_ops.specs.Normal.{normal_text}
 
 ports : PortFunction
-ports scheme = cond (bytes_eq scheme (codes "http")) (Some 80) (cond (bytes_eq scheme (codes "foo")) (Some 4673) None)
+ports scheme = cond (bytes_eq scheme (codes "http")) (Some 80)
+    (cond (bytes_eq scheme (codes "foo")) (Some 4673) None)
 
 -- the normal text of a text of the kind
 IsNormalOf : Kind → List ℕ → List ℕ → Type 0
@@ -29,12 +30,20 @@ IsNormalOf kind text normal = normal_text (meaning_of kind ports text) ≡ norma
 
 -- case, octets that are unreserved, and digits in upper case
 letters :
-    IsNormalOf uri_ref (codes "FOO://%55se%72@EXamp%4ce%2ecom:8042/%4b%2f?%4c%2b#%24%4d") (codes "foo://User@example.com:8042/K%2F?L%2B#%24M")
-    × IsNormalOf uri (codes "eXAMPLE://a/./b/../b/%63/%7bfoo%7d") (codes "example://a/b/c/%7Bfoo%7D")
-    × IsNormalOf iri_ref (codes "eXAMPLE://a/./b/../b/%63/%7bfoo%7d/ros%C3%A9") (codes "example://a/b/c/%7Bfoo%7D/ros" ++ (0xC3 ∷ 0xA9 ∷ []))
+    IsNormalOf uri_ref (codes "FOO://%55se%72@EXamp%4ce%2ecom:8042/%4b%2f?%4c%2b#%24%4d")
+    (codes "foo://User@example.com:8042/K%2F?L%2B#%24M")
+    × IsNormalOf uri (codes "eXAMPLE://a/./b/../b/%63/%7bfoo%7d")
+    (codes "example://a/b/c/%7Bfoo%7D")
+    × IsNormalOf iri_ref (codes "eXAMPLE://a/./b/../b/%63/%7bfoo%7d/ros%C3%A9")
+    (codes "example://a/b/c/%7Bfoo%7D/ros" ++ (0xC3 ∷ 0xA9 ∷ []))
     × IsNormalOf uri_ref [] []
     × IsNormalOf uri_ref (codes "//@:") (codes "//@")
-unfolding IsNormalOf ports chars encode_utf8 digits hex hex_groups_text ipv6_text read_ipv6 read_ipv4 read_octet read_number read_segment read_segments Sets.is_ucschar Sets.is_iprivate Sets.allows_past_ascii Tokens.is_pct_encoded Tokens.tokens_of Pieces.following Pieces.pieces_from Reading.is_readable Reading.is_bidi_formatting Reading.is_never_literal Reading.read_run Reading.read_from host_kind ipv4_value ipv6_value run remove_dot_segments
+unfolding IsNormalOf ports chars encode_utf8 digits hex hex_groups_text ipv6_text read_ipv6
+    read_ipv4 read_octet read_number read_segment read_segments Sets.is_ucschar Sets.is_iprivate
+    Sets.allows_past_ascii Tokens.is_pct_encoded Tokens.tokens_of Pieces.following
+    Pieces.pieces_from Reading.is_readable Reading.is_bidi_formatting
+    Reading.is_never_literal Reading.read_run Reading.read_from host_kind ipv4_value
+    ipv6_value run remove_dot_segments
 letters =
     (refl, refl, refl, refl, refl)
 
@@ -47,26 +56,45 @@ hosts :
     × IsNormalOf uri_ref (codes "//[1:0:0:2:3:0:0:4]") (codes "//[1::2:3:0:0:4]")
     × IsNormalOf uri_ref (codes "//[1:0:2:3:4:5:6:7]") (codes "//[1:0:2:3:4:5:6:7]")
     × IsNormalOf uri_ref (codes "//[v1FdE.AddR]") (codes "//[v1fde.addr]")
-    × IsNormalOf iri_ref (codes "HTTP://R%c3%89/" ++ (0xC3 ∷ 0x89 ∷ [])) (codes "http://r" ++ (0xC3 ∷ 0x89 ∷ []) ++ codes "/" ++ (0xC3 ∷ 0x89 ∷ []))
-    × IsNormalOf iri_ref (codes "HTTP://R%c3%89/%C3%89") (codes "http://r" ++ (0xC3 ∷ 0x89 ∷ []) ++ codes "/" ++ (0xC3 ∷ 0x89 ∷ []))
-unfolding IsNormalOf ports chars encode_utf8 digits hex hex_groups_text ipv6_text read_ipv6 read_ipv4 read_octet read_number read_segment read_segments Sets.is_ucschar Sets.is_iprivate Sets.allows_past_ascii Tokens.is_pct_encoded Tokens.tokens_of Pieces.following Pieces.pieces_from Reading.is_readable Reading.is_bidi_formatting Reading.is_never_literal Reading.read_run Reading.read_from host_kind ipv4_value ipv6_value run remove_dot_segments
+    × IsNormalOf iri_ref (codes "HTTP://R%c3%89/" ++ (0xC3 ∷ 0x89 ∷ []))
+    (codes "http://r" ++ (0xC3 ∷ 0x89 ∷ []) ++ codes "/" ++ (0xC3 ∷ 0x89 ∷ []))
+    × IsNormalOf iri_ref (codes "HTTP://R%c3%89/%C3%89")
+    (codes "http://r" ++ (0xC3 ∷ 0x89 ∷ []) ++ codes "/" ++ (0xC3 ∷ 0x89 ∷ []))
+unfolding IsNormalOf ports chars encode_utf8 digits hex hex_groups_text ipv6_text read_ipv6
+    read_ipv4 read_octet read_number read_segment read_segments Sets.is_ucschar Sets.is_iprivate
+    Sets.allows_past_ascii Tokens.is_pct_encoded Tokens.tokens_of Pieces.following
+    Pieces.pieces_from Reading.is_readable Reading.is_bidi_formatting
+    Reading.is_never_literal Reading.read_run Reading.read_from host_kind ipv4_value
+    ipv6_value run remove_dot_segments
 hosts =
     (refl, refl, refl, refl, refl, refl, refl, refl, refl)
 
 -- in an IRI runs of octets are read as UTF-8
 characters :
     IsNormalOf iri_ref (codes "/%C3%41%A9%C3%A9") (codes "/%C3A%A9" ++ (0xC3 ∷ 0xA9 ∷ []))
-    × IsNormalOf iri_ref (codes "/%C3A%A9" ++ (0xC3 ∷ 0xA9 ∷ [])) (codes "/%C3A%A9" ++ (0xC3 ∷ 0xA9 ∷ []))
-    × IsNormalOf iri_ref (codes "%61%61%61%61%61%61%61%61%61%61%61%61%61%61%61%61%61%61%61%61%61%61%61%61%61%61%61%61%61%61%61%C3%A9") (codes "aaaaaaaaaaaaaaaaaaaaaaaaaaaaaaa" ++ (0xC3 ∷ 0xA9 ∷ []))
-    × IsNormalOf iri (codes "http://xn--99zt52a.example.org/%e2%80%ae") (codes "http://xn--99zt52a.example.org/%E2%80%AE")
-    × IsNormalOf iri (codes "http://xn--99zt52a.example.org/" ++ (0xE2 ∷ 0x80 ∷ 0xAE ∷ [])) (codes "http://xn--99zt52a.example.org/%E2%80%AE")
-    × IsNormalOf iri_ref (codes "//" ++ (0xE2 ∷ 0x80 ∷ 0x8F ∷ []) ++ codes "@R" ++ (0xE2 ∷ 0x80 ∷ 0xAA ∷ []) ++ codes "#" ++ (0xE2 ∷ 0x80 ∷ 0x8E ∷ [])) (codes "//%E2%80%8F@r%E2%80%AA#%E2%80%8E")
+    × IsNormalOf iri_ref (codes "/%C3A%A9" ++ (0xC3 ∷ 0xA9 ∷ []))
+    (codes "/%C3A%A9" ++ (0xC3 ∷ 0xA9 ∷ []))
+    × IsNormalOf iri_ref
+    (codes
+    "%61%61%61%61%61%61%61%61%61%61%61%61%61%61%61%61%61%61%61%61%61%61%61%61%61%61%61%61%61%61%61%C3%A9") (codes "aaaaaaaaaaaaaaaaaaaaaaaaaaaaaaa" ++ (0xC3 ∷ 0xA9 ∷ []))
+    × IsNormalOf iri (codes "http://xn--99zt52a.example.org/%e2%80%ae")
+    (codes "http://xn--99zt52a.example.org/%E2%80%AE")
+    × IsNormalOf iri (codes "http://xn--99zt52a.example.org/" ++ (0xE2 ∷ 0x80 ∷ 0xAE ∷ []))
+    (codes "http://xn--99zt52a.example.org/%E2%80%AE")
+    × IsNormalOf iri_ref (codes "//" ++ (0xE2 ∷ 0x80 ∷ 0x8F ∷ []) ++ codes "@R"
+    ++ (0xE2 ∷ 0x80 ∷ 0xAA ∷ []) ++ codes "#" ++ (0xE2 ∷ 0x80 ∷ 0x8E ∷ []))
+    (codes "//%E2%80%8F@r%E2%80%AA#%E2%80%8E")
     × IsNormalOf iri_ref (codes "?%EE%80%80") (codes "?" ++ (0xEE ∷ 0x80 ∷ 0x80 ∷ []))
     × IsNormalOf iri_ref (codes "%EE%80%80") (codes "%EE%80%80")
     × IsNormalOf iri_ref (codes "%E2" ++ (0xC3 ∷ 0xA9 ∷ [])) (codes "%E2" ++ (0xC3 ∷ 0xA9 ∷ []))
     × IsNormalOf iri_ref (codes "%E2%C3%A9") (codes "%E2" ++ (0xC3 ∷ 0xA9 ∷ []))
     × IsNormalOf uri_ref (codes "%E2%C3%A9") (codes "%E2%C3%A9")
-unfolding IsNormalOf ports chars encode_utf8 digits hex hex_groups_text ipv6_text read_ipv6 read_ipv4 read_octet read_number read_segment read_segments Sets.is_ucschar Sets.is_iprivate Sets.allows_past_ascii Tokens.is_pct_encoded Tokens.tokens_of Pieces.following Pieces.pieces_from Reading.is_readable Reading.is_bidi_formatting Reading.is_never_literal Reading.read_run Reading.read_from host_kind ipv4_value ipv6_value run remove_dot_segments
+unfolding IsNormalOf ports chars encode_utf8 digits hex hex_groups_text ipv6_text read_ipv6
+    read_ipv4 read_octet read_number read_segment read_segments Sets.is_ucschar Sets.is_iprivate
+    Sets.allows_past_ascii Tokens.is_pct_encoded Tokens.tokens_of Pieces.following
+    Pieces.pieces_from Reading.is_readable Reading.is_bidi_formatting
+    Reading.is_never_literal Reading.read_run Reading.read_from host_kind ipv4_value
+    ipv6_value run remove_dot_segments
 characters =
     (refl, refl, refl, refl, refl, refl, refl, refl, refl, refl, refl)
 
@@ -85,7 +113,12 @@ ports_and_dots :
     × IsNormalOf uri_ref (codes "foo:/.//@@") (codes "foo:/.//@@")
     × IsNormalOf uri_ref (codes "/foo/../bar") (codes "/foo/../bar")
     × IsNormalOf uri_ref (codes "foo:bar/../baz") (codes "foo:bar/../baz")
-unfolding IsNormalOf ports chars encode_utf8 digits hex hex_groups_text ipv6_text read_ipv6 read_ipv4 read_octet read_number read_segment read_segments Sets.is_ucschar Sets.is_iprivate Sets.allows_past_ascii Tokens.is_pct_encoded Tokens.tokens_of Pieces.following Pieces.pieces_from Reading.is_readable Reading.is_bidi_formatting Reading.is_never_literal Reading.read_run Reading.read_from host_kind ipv4_value ipv6_value run remove_dot_segments
+unfolding IsNormalOf ports chars encode_utf8 digits hex hex_groups_text ipv6_text read_ipv6
+    read_ipv4 read_octet read_number read_segment read_segments Sets.is_ucschar Sets.is_iprivate
+    Sets.allows_past_ascii Tokens.is_pct_encoded Tokens.tokens_of Pieces.following
+    Pieces.pieces_from Reading.is_readable Reading.is_bidi_formatting
+    Reading.is_never_literal Reading.read_run Reading.read_from host_kind ipv4_value
+    ipv6_value run remove_dot_segments
 ports_and_dots =
     (refl, refl, refl, refl, refl, refl, refl, refl, refl, refl, refl, refl, refl)
 
@@ -97,14 +130,22 @@ address_once_read = (refl, refl)
 
 -- the target of a reference, and its normal text
 Targets : List ℕ → List ℕ → List ℕ → List ℕ → Type 0
-Targets base reference target normal = (resolution_of (components base) (components reference) ≡ Ok target) × IsNormalOf uri target normal
+Targets base reference target normal =
+    (resolution_of (components base) (components reference) ≡ Ok target)
+    × IsNormalOf uri target normal
 
 targets :
     Targets (codes "foo:/bar/..") (codes ".") (codes "foo:/") (codes "foo:/")
     × Targets (codes "foo:/") (codes ".//@@") (codes "foo:/.//@@") (codes "foo:/.//@@")
     × Targets (codes "http://x/") (codes "//a:80") (codes "http://a:80") (codes "http://a")
-    × Targets (codes "HTTP://A/%2e%2E/b/c") (codes "%2E./d") (codes "HTTP://A/d") (codes "http://a/d")
+    × Targets (codes "HTTP://A/%2e%2E/b/c") (codes "%2E./d") (codes "HTTP://A/d")
+    (codes "http://a/d")
     × Targets (codes "foo:/bar/baz/.%2E/") (codes "..") (codes "foo:/") (codes "foo:/")
-unfolding IsNormalOf ports chars encode_utf8 digits hex hex_groups_text ipv6_text read_ipv6 read_ipv4 read_octet read_number read_segment read_segments Sets.is_ucschar Sets.is_iprivate Sets.allows_past_ascii Tokens.is_pct_encoded Tokens.tokens_of Pieces.following Pieces.pieces_from Reading.is_readable Reading.is_bidi_formatting Reading.is_never_literal Reading.read_run Reading.read_from host_kind ipv4_value ipv6_value run remove_dot_segments Targets directory
+unfolding IsNormalOf ports chars encode_utf8 digits hex hex_groups_text ipv6_text read_ipv6
+    read_ipv4 read_octet read_number read_segment read_segments Sets.is_ucschar Sets.is_iprivate
+    Sets.allows_past_ascii Tokens.is_pct_encoded Tokens.tokens_of Pieces.following
+    Pieces.pieces_from Reading.is_readable Reading.is_bidi_formatting
+    Reading.is_never_literal Reading.read_run Reading.read_from host_kind ipv4_value
+    ipv6_value run remove_dot_segments Targets directory
 targets =
     ((refl, refl), (refl, refl), (refl, refl), (refl, refl), (refl, refl))

@@ -7,7 +7,7 @@ use Rattle.std.specs.Str.{str_to_ascii_lowercase}
 use Rattle.uri_parts.specs.Components.{Components, components}
 use Rattle.uri_parts.specs.Authority.{authority_parts}
 use Rattle.uri_parts.specs.Grammar.{Kind}
-use Rattle.uri_ops.specs.Ports.{PortFunction, no_defaults, is_default}
+use Rattle.uri_parts.specs.Ports.{PortFunction, no_defaults, is_default}
 use Rattle.uri_ops.specs.Dots.{is_empty}
 use Rattle.uri_ops.specs.Meaning.{AuthorityMeaning, Meaning, port_meaning, authority_meaning}
 use Rattle.uri_ops.specs.Meaning.{components_meaning, meaning_of, bare_meaning_of, under}
@@ -43,7 +43,8 @@ keeps_port default digits false e = cond-false _ _ _ e
 port_meaning-twice : (default : Option ℕ) (port : Option (List ℕ))
     → port_meaning default (port_meaning default port) ≡ port_meaning default port
 port_meaning-twice default None = refl
-port_meaning-twice default (Some digits) = keeps_port default digits (is_empty digits || is_default default digits) refl
+port_meaning-twice default (Some digits) =
+    keeps_port default digits (is_empty digits || is_default default digits) refl
 
 with_default-twice : (default : Option ℕ) (a : AuthorityMeaning)
     → with_default default (with_default default a) ≡ with_default default a
@@ -64,7 +65,9 @@ authorities : (kind : Kind) (default other : Option ℕ) → other ≡ None
     → option_map (authority_meaning kind default) authority
     ≡ option_map (with_default default) (option_map (authority_meaning kind other) authority)
 authorities kind default other e None = refl
-authorities kind default other e (Some authority) = ap Some (sym (ap (λ d. with_default default (authority_meaning kind d authority)) e ∙ authority_meaning-bare kind default authority))
+authorities kind default other e (Some authority) =
+    ap Some (sym (ap (λ d. with_default default (authority_meaning kind d authority)) e
+    ∙ authority_meaning-bare kind default authority))
 
 with_authority : Meaning → Option AuthorityMeaning → Meaning
 with_authority m authority = record m { authority = authority }
@@ -74,7 +77,9 @@ pub meaning-under : (kind : Kind) (ports : PortFunction) (p : Components)
 unfolding with_authority
 meaning-under kind ports p =
     let scheme = option_map str_to_ascii_lowercase p.scheme in
-    ap (with_authority (components_meaning kind ports p)) (authorities kind (option_and_then ports scheme) (option_and_then no_defaults scheme) (no_default scheme) p.authority)
+    ap (with_authority (components_meaning kind ports p))
+    (authorities kind (option_and_then ports scheme) (option_and_then no_defaults scheme)
+    (no_default scheme) p.authority)
 
 pub meaning_of-under : (kind : Kind) (ports : PortFunction) (text : List ℕ)
     → meaning_of kind ports text ≡ under ports (bare_meaning_of kind text)

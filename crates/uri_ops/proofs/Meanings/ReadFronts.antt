@@ -1,180 +1,35 @@
--- What stands at the front of a text is read by itself: characters, and octets of ASCII, or all where
--- a set has no characters past it.
-use Rattle.std.proofs.Common.{◌≡◌, ℕ, suc, take_all, ◌+◌, ◌*◌, ◌-◌, ◌/◌, ◌%◌, ◌<◌, Bool, true}
-use Rattle.std.proofs.Common.{false, cond, eqb, ltb, not, List, [], ◌∷◌, ◌++◌, length, get_or, take}
-use Rattle.std.proofs.Common.{drop, map, ◌≤◌, add-zero, refl, sym, ap, subst, ◌∙◌, arith, ◌&&◌}
+-- What stands at the front of a text is read by itself: characters, and octets of ASCII, or all
+-- where a set has no characters past it.
+use Rattle.std.proofs.Common.{◌≡◌, ℕ, take_all, ◌+◌, ◌*◌, ◌-◌, ◌<◌, Bool, true}
+use Rattle.std.proofs.Common.{false, eqb, ltb, not, List, [], ◌∷◌, ◌++◌, length, get_or, take}
+use Rattle.std.proofs.Common.{drop, map, ◌≤◌, add-zero, refl, sym, ap, subst, ◌∙◌, arith}
 use Rattle.std.proofs.Common.{◌||◌, ⊎_elim, ◌⊎◌, append_assoc}
-use Rattle.std.specs.List.{list_all, flat_map, position_or_len, prefix_len}
-use Rattle.std.specs.Char.{encode_utf8, digit_value, is_ascii_hexdigit, to_ascii_lowercase}
-use Rattle.std.specs.Char.{IsScalar}
-use Rattle.std.specs.Fmt.{digit_glyph}
+use Rattle.std.specs.List.{list_all, position_or_len}
+use Rattle.std.specs.Char.{digit_value, is_ascii_hexdigit, to_ascii_lowercase}
 use Rattle.std.specs.Str.{chars, IsUtf8, IsCharBoundary}
-use Rattle.std.proofs.Math.Bool.{or-false}
-use Rattle.std.proofs.Math.Utf8.{low_scalar}
-use Rattle.std.proofs.lemmas.Bool.{agree_below_at, cases_Bool, cond-false, and_parts, and_from}
-use Rattle.std.proofs.lemmas.Bool.{or_cases, eqb-true, ne_eqb, or_parts, or_left, or_right, lt-ltb}
-use Rattle.std.proofs.lemmas.Bool.{not-true, ltb-true, false_from_ne_true}
+use Rattle.std.proofs.lemmas.Bool.{and_parts}
+use Rattle.std.proofs.lemmas.Bool.{ne_eqb, or_parts, or_left, or_right, lt-ltb}
+use Rattle.std.proofs.lemmas.Bool.{not-true}
 use Rattle.std.proofs.lemmas.Bool.Decides.{nat_tests}
 use Rattle.std.proofs.lemmas.List.{append-nil, take-append-drop, drop-drop, length-drop}
 use Rattle.std.proofs.lemmas.List.{get_or-drop, drop_all, map-append}
 use Rattle.std.proofs.lemmas.List.Folds.{list_all-append}
-use Rattle.std.proofs.lemmas.Str.{encode_ascii, IsUtf8-take, IsUtf8-drop, IsCharBoundary-from_rest}
+use Rattle.std.proofs.lemmas.Str.{IsUtf8-take, IsUtf8-drop, IsCharBoundary-from_rest}
 use Rattle.uri_pct.specs.Chunks.{widest_set}
-use Rattle.uri_pct.specs.Parts.{Read}
-use Rattle.uri_pct.specs.Pieces.{WellFormed, utf8_pieces}
-use Rattle.uri_pct.specs.Reading.{LacksPastAscii, is_readable, read_alone, read_piece, read_run}
+use Rattle.uri_pct.specs.Reading.{LacksPastAscii, read_alone}
 use Rattle.uri_pct.specs.Reading.{read_from, read_tokens, lower_token}
-use Rattle.uri_pct.specs.Sets.{TableSet, allows_past_ascii, is_unreserved}
+use Rattle.uri_pct.specs.Sets.{TableSet}
 use Rattle.uri_pct.specs.Texts.{lacks}
-use Rattle.uri_pct.specs.Tokens.{Token, Char, Octet, tokens, tokens_of, text_of_token, print}
+use Rattle.uri_pct.specs.Tokens.{Char, Octet, tokens, tokens_of, print}
 use Rattle.uri_pct.specs.Tokens.{allows_token, is_valid_for, IsValidFor}
 use Rattle.uri_pct.proofs.Decodings.Decoding.{BeginsOctet, octet_of_bytes, octet_boundary}
-use Rattle.uri_pct.proofs.Decodings.Decoding.{tokens_front, text_boundary}
-use Rattle.uri_pct.proofs.Readings.Formatting.{encode_formatting-none}
-use Rattle.uri_pct.proofs.Readings.Octets.{read-alone}
-use Rattle.uri_pct.proofs.Unicode.CharacterPieces.{utf8_pieces-encode_first, char_of-encode}
+use Rattle.uri_pct.proofs.Decodings.Decoding.{tokens_front, text_boundary, prefix_all}
 use Rattle.uri_pct.proofs.Unicode.Pieces.{take_two}
-use Rattle.uri_pct.proofs.ValidTexts.Allowed.{past_ascii_scalar}
-use Rattle.uri_ops.specs.Models.Readings.{IsFront, read_parts, cased, cased_append, cased_text}
+use Rattle.uri_ops.specs.Models.Readings.{IsFront, cased, cased_append, cased_text}
 use Rattle.uri_ops.specs.Models.Readings.{text_read}
 use Rattle.uri_ops.proofs.Meanings.Cased.{print_cased}
-use Rattle.uri_ops.proofs.Meanings.ReadParts.{no_run, parts_of_run}
-
--- characters
-pub read_chars : (set : TableSet) (cs : List ℕ) (us : List Token)
-    → read_tokens set (map Char cs ++ us) ≡ map Char cs ++ read_tokens set us
-unfolding read_from
-read_chars set [] us = refl
-read_chars set (c ∷ cs) us = ap (λ x. x ++ Char c ∷ read_from set [] (map Char cs ++ us)) (no_run set)
-    ∙ ap (λ ts. Char c ∷ ts) (read_chars set cs us)
-
--- the octets of a whole character
-run_first : (set : TableSet) (c : ℕ) (more : List ℕ) → IsScalar c
-    → read_run set (encode_utf8 c ++ more)
-    ≡ read_piece set (WellFormed (encode_utf8 c)) ++ read_run set more
-unfolding read_run
-run_first set c more scalar = ap (flat_map (read_piece set)) (utf8_pieces-encode_first c more scalar)
-
-from_first : (set : TableSet) (c : ℕ) (more : List ℕ) (ts : List Token) → IsScalar c
-    → read_from set (encode_utf8 c ++ more) ts
-    ≡ read_piece set (WellFormed (encode_utf8 c)) ++ read_from set more ts
-unfolding read_from
-from_first set c more [] scalar = run_first set c more scalar
-from_first set c more (Octet value ∷ ts) scalar =
-    ap (λ run. read_from set run ts) (append_assoc (encode_utf8 c) more (value ∷ []))
-    ∙ from_first set c (more ++ value ∷ []) ts scalar
-from_first set c more (Char d ∷ ts) scalar =
-    ap (λ x. x ++ Char d ∷ read_from set [] ts) (run_first set c more scalar)
-    ∙ append_assoc (read_piece set (WellFormed (encode_utf8 c))) (read_run set more) (Char d ∷ read_from set [] ts)
-
--- an octet of ASCII
-ascii_readable : (set : TableSet) (b : ℕ) → b < 128 → is_readable set b ≡ is_unreserved b
-unfolding is_readable
-ascii_readable set b low =
-    let none : allows_past_ascii set b ≡ false = false_from_ne_true _ (λ e. let p = past_ascii_scalar set b e in absurd (omega arith)) in
-    ap (λ x. is_unreserved b || x) none ∙ or-false (is_unreserved b)
-
-one_alone : (b : ℕ)
-    → cond (is_unreserved b) (Char b ∷ []) (Octet b ∷ []) ≡ read_alone (Octet b) ∷ []
-one_alone b = ⊎_elim (λ e. rw e refl) (λ e. rw e refl) (cases_Bool (is_unreserved b))
-
-ascii_piece : (set : TableSet) (b : ℕ) → b < 128
-    → read_piece set (WellFormed (encode_utf8 b)) ≡ read_alone (Octet b) ∷ []
-ascii_piece set b low =
-    let scalar = low_scalar b (omega arith) in
-    ap (λ c. cond (is_readable set c) (Char c ∷ []) (map Octet (encode_utf8 b))) (char_of-encode b scalar)
-    ∙ ap (λ bytes. cond (is_readable set b) (Char b ∷ []) (map Octet bytes)) (encode_ascii b low)
-    ∙ ap (λ t. cond t (Char b ∷ []) (Octet b ∷ [])) (ascii_readable set b low)
-    ∙ one_alone b
-
-ascii_octet : (set : TableSet) (b : ℕ) (us : List Token) → b < 128
-    → read_tokens set (Octet b ∷ us) ≡ read_alone (Octet b) ∷ read_tokens set us
-unfolding read_from
-ascii_octet set b us low =
-    let spelt : encode_utf8 b ++ [] ≡ b ∷ [] = append-nil (encode_utf8 b) ∙ encode_ascii b low in
-    ap (λ run. read_from set run us) (sym spelt)
-    ∙ from_first set b [] us (low_scalar b (omega arith))
-    ∙ ap (λ ts. ts ++ read_from set [] us) (ascii_piece set b low)
-
--- the same octet as a part
-pub ascii_part : (lowers : Bool) (set : TableSet) (b : ℕ) → b < 128
-    → print (cased lowers (read_parts set (map Read (utf8_pieces (b ∷ [])))))
-    ≡ print (cased lowers (read_alone (Octet b) ∷ []))
-unfolding read_run
-ascii_part lowers set b low =
-    let spelt : encode_utf8 b ++ [] ≡ b ∷ [] = append-nil (encode_utf8 b) ∙ encode_ascii b low in
-    let piece = read_piece set (WellFormed (encode_utf8 b)) in
-    ap (λ ts. print (cased lowers ts))
-    (parts_of_run set (utf8_pieces (b ∷ [])) ∙ ap (read_run set) (sym spelt)
-    ∙ run_first set b [] (low_scalar b (omega arith)) ∙ ap (λ ts. piece ++ ts) (no_run set)
-    ∙ append-nil piece ∙ ascii_piece set b low)
-
--- any octet, where the set has no characters past ASCII
-tokens_alone : (set : TableSet) (text : List ℕ) → LacksPastAscii set
-    → read_tokens set (tokens text) ≡ map read_alone (tokens text)
-tokens_alone set text none =
-    sym (encode_formatting-none set (read_tokens set (tokens text)) (ap (λ b. b && set.pct_encoded) none.0))
-    ∙ read-alone set text none
-
--- the octet at the front of a text
-abbrev pub first_value : {text : List ℕ} → BeginsOctet text → ℕ
-first_value o = 16 * digit_value o.high + digit_value o.low
-
-octet_alone : (set : TableSet) (text : List ℕ) (o : BeginsOctet text) (alone : Bool)
-    → (alone ≡ true → LacksPastAscii set) → (alone || ltb (first_value o) 128) ≡ true
-    → read_tokens set (tokens text)
-    ≡ read_alone (Octet (first_value o)) ∷ read_tokens set (tokens o.behind)
-octet_alone set text o alone none e = ⊎_elim
-    (λ a.
-    tokens_alone set text (none a) ∙ ap (map read_alone) o.first
-    ∙ ap (λ ts. read_alone (Octet (first_value o)) ∷ ts) (sym (tokens_alone set o.behind (none a))))
-    (λ low. ap (read_tokens set) o.first ∙ ascii_octet set (first_value o) (tokens o.behind) (ltb-true _ 128 low))
-    (or_cases alone (ltb (first_value o) 128) e)
-
-pub octet_read : (lowers : Bool) (set : TableSet) (text : List ℕ) (o : BeginsOctet text)
-    (alone : Bool)
-    → (alone ≡ true → LacksPastAscii set) → (alone || ltb (first_value o) 128) ≡ true
-    → text_read lowers set text
-    ≡ print (cased lowers (read_alone (Octet (first_value o)) ∷ [])) ++ text_read lowers set o.behind
-octet_read lowers set text o alone none e =
-    ap (λ ts. print (cased lowers ts)) (octet_alone set text o alone none e)
-    ∙ cased_append lowers (read_alone (Octet (first_value o)) ∷ []) (read_tokens set (tokens o.behind))
-
--- an octet in upper case is printed as it stands
-is_glyph : ℕ → Bool
-is_glyph h = not (is_ascii_hexdigit h) || (eqb (digit_glyph true (digit_value h)) h && ltb (digit_value h) 16)
-
-upper_glyph : (h : ℕ) → is_ascii_hexdigit h ≡ true → h < 97
-    → (digit_glyph true (digit_value h) ≡ h) × (digit_value h < 16)
-unfolding is_glyph
-upper_glyph h digit upper =
-    let e : is_glyph h ≡ true = agree_below_at is_glyph (λ _. true) 97 h refl upper in
-    let p = and_parts _ _ (sym (ap (λ b. not b || (eqb (digit_glyph true (digit_value h)) h && ltb (digit_value h) 16)) digit) ∙ e) in
-    (eqb-true _ h p.0, ltb-true _ 16 p.1)
-
-upper_octet : (high low : ℕ) → is_ascii_hexdigit high ≡ true → is_ascii_hexdigit low ≡ true
-    → high < 97 → low < 97
-    → text_of_token (Octet (16 * digit_value high + digit_value low)) ≡ 37 ∷ high ∷ low ∷ []
-upper_octet high low h l hu lu =
-    let p = upper_glyph high h hu in
-    let q = upper_glyph low l lu in
-    let above : (16 * digit_value high + digit_value low) / 16 ≡ digit_value high = omega (arith, q.1) in
-    let below : (16 * digit_value high + digit_value low) % 16 ≡ digit_value low = omega (arith, q.1) in
-    rw (above, below) (ap (λ x. 37 ∷ x ∷ digit_glyph true (digit_value low) ∷ []) p.0 ∙ ap (λ x. 37 ∷ high ∷ x ∷ []) q.0)
-
-pub kept_octet : (set : TableSet) (text : List ℕ) (o : BeginsOctet text) (high low : ℕ)
-    (alone : Bool)
-    → high ≡ o.high → low ≡ o.low → (ltb high 97 && ltb low 97) ≡ true
-    → is_unreserved (first_value o) ≡ false → (alone ≡ true → LacksPastAscii set)
-    → (alone || ltb (first_value o) 128) ≡ true → IsFront false set text 3
-kept_octet set text o high low alone is_high is_low upper reserved none itself =
-    let p = and_parts (ltb high 97) (ltb low 97) upper in
-    let above : o.high < 97 = subst (λ h. h < 97) is_high (ltb-true high 97 p.0) in
-    let below : o.low < 97 = subst (λ l. l < 97) is_low (ltb-true low 97 p.1) in
-    octet_read false set text o alone none itself
-    ∙ ap (λ t. (text_of_token t ++ []) ++ text_read false set o.behind) (cond-false _ _ _ reserved)
-    ∙ ap (λ x. (x ++ []) ++ text_read false set o.behind) (upper_octet o.high o.low o.high_digit o.low_digit above below)
-    ∙ sym (ap (λ x. take 3 x ++ text_read false set (drop 3 x)) o.spelt)
+use Rattle.uri_ops.proofs.Meanings.ReadParts.{no_run}
+use Rattle.uri_ops.proofs.Meanings.ReadOctets.{read_chars, first_value, octet_read}
 
 -- characters at the front of a text
 plain_read : (lowers : Bool) (set : TableSet) (front back : List ℕ) → IsUtf8 front
@@ -190,16 +45,12 @@ plain_valid : (front back : List ℕ) → IsUtf8 front → lacks 37 front ≡ tr
     → IsValidFor widest_set (front ++ back) → IsValidFor widest_set back
 unfolding is_valid_for
 plain_valid front back u e v =
-    (and_parts _ _ (sym (list_all-append (allows_token widest_set) (map Char (chars front)) (tokens back)) ∙ sym (ap (list_all (allows_token widest_set)) (tokens_front front back u e)) ∙ v)).1
+    (and_parts _ _
+    (sym (list_all-append (allows_token widest_set) (map Char (chars front)) (tokens back))
+    ∙ sym (ap (list_all (allows_token widest_set)) (tokens_front front back u e)) ∙ v)).1
 
 abbrev first_percent : List ℕ → ℕ
 first_percent text = position_or_len (λ b. eqb b 37) text
-
-before_passes : (p : ℕ → Bool) (xs : List ℕ) → list_all p (take (prefix_len p xs) xs) ≡ true
-before_passes p [] = refl
-before_passes p (x ∷ xs) =
-    let next : 1 + prefix_len p xs ≡ suc (prefix_len p xs) = omega arith in
-    ⊎_elim (λ e. rw e (rw next (and_from _ _ e (before_passes p xs)))) (λ e. rw e refl) (cases_Bool (p x))
 
 -- the text before the first `%`
 pub record PlainFront (text : List ℕ) (n : ℕ) : Type 0 where
@@ -210,14 +61,16 @@ pub record PlainFront (text : List ℕ) (n : ℕ) : Type 0 where
 pub plain_front : (text : List ℕ) (n : ℕ) → IsUtf8 text → IsValidFor widest_set text
     → n ≡ first_percent text → PlainFront text n
 plain_front text n u v e =
-    let boundary : IsCharBoundary text n = subst (IsCharBoundary text) (sym e) (text_boundary text) in
+    let boundary : IsCharBoundary text n =
+    subst (IsCharBoundary text) (sym e) (text_boundary text) in
     let utf8 : IsUtf8 (take n text) = IsUtf8-take text n u boundary in
     let plain : lacks 37 (take n text) ≡ true = ap (λ k. lacks 37 (take k text)) e
-    ∙ before_passes (λ b. not (eqb b 37)) text in
+    ∙ prefix_all (λ b. not (eqb b 37)) text in
     let whole = take-append-drop n text in
     record {
       boundary = boundary;
-      valid = plain_valid (take n text) (drop n text) utf8 plain (subst (IsValidFor widest_set) (sym whole) v);
+      valid = plain_valid (take n text) (drop n text) utf8 plain
+          (subst (IsValidFor widest_set) (sym whole) v);
       front = λ lowers set. ap (text_read lowers set) (sym whole)
           ∙ plain_read lowers set (take n text) (drop n text) utf8 plain;
     }
@@ -256,7 +109,8 @@ pub front_more : (lowers : Bool) (set : TableSet) (text : List ℕ) (done end m 
 front_more lowers set text done end m order first next =
     let count : end - done + m ≡ end + m - done = omega arith in
     subst (IsFront lowers set (drop done text)) count
-    (longer_front lowers set (drop done text) (end - done) m first (subst (λ x. IsFront lowers set x m) (sym (between text done end order)) next))
+    (longer_front lowers set (drop done text) (end - done) m first
+    (subst (λ x. IsFront lowers set x m) (sym (between text done end order)) next))
 
 pub front_written : (lowers : Bool) (set : TableSet) (text out new whole : List ℕ) (done end : ℕ)
     → done ≤ end → IsFront lowers set (drop done text) (end - done)
@@ -281,7 +135,8 @@ octet_length text o = ap length o.spelt ∙ omega arith
 -- where its digits stand, and what stands behind it
 digits_of : (text : List ℕ) (o : BeginsOctet text)
     → (get_or text 1 0 ≡ o.high) × ((get_or text 2 0 ≡ o.low) × (drop 3 text ≡ o.behind))
-digits_of text o = (ap (λ x. get_or x 1 0) o.spelt, (ap (λ x. get_or x 2 0) o.spelt, ap (drop 3) o.spelt))
+digits_of text o =
+    (ap (λ x. get_or x 1 0) o.spelt, (ap (λ x. get_or x 2 0) o.spelt, ap (drop 3) o.spelt))
 
 -- an octet that stands within a text, and its digits, by the text's bytes
 pub record OctetAt (bytes text : List ℕ) (i : ℕ) : Type 0 where
@@ -308,7 +163,8 @@ octet_at bytes text i same u b v inside percent =
     let at : (k : ℕ) → get_or rest k 0 ≡ get_or bytes (i + k) 0 = λ k. get_or-drop i text k 0
     ∙ ap (λ x. get_or x (i + k) 0) (sym same) in
     let first : get_or rest 0 0 ≡ 37 = at 0 ∙ ap (λ k. get_or bytes k 0) (add-zero i) ∙ percent in
-    let o = octet_of_bytes rest rest refl utf8 v (ne_eqb (length rest) 0 (λ e. omega (arith, long, lengths))) first in
+    let o = octet_of_bytes rest rest refl utf8 v
+    (ne_eqb (length rest) 0 (λ e. omega (arith, long, lengths))) first in
     let three = octet_length rest o in
     let digits = digits_of rest o in
     let high : get_or bytes (i + 1) 0 ≡ o.high = sym (at 1) ∙ digits.0 in
@@ -323,7 +179,8 @@ octet_at bytes text i same u b v inside percent =
       low_digit = ap is_ascii_hexdigit low ∙ o.low_digit;
       value = ap (λ h. 16 * digit_value h + digit_value (get_or bytes (i + 2) 0)) high
           ∙ ap (λ l. 16 * digit_value o.high + digit_value l) low;
-      boundary = IsCharBoundary-from_rest text i 3 (omega (arith, inside, lengths)) (octet_boundary rest utf8 o);
+      boundary = IsCharBoundary-from_rest text i 3 (omega (arith, inside, lengths))
+          (octet_boundary rest utf8 o);
       behind = behind;
       valid = subst (IsValidFor widest_set) (sym behind) o.valid;
     }
@@ -338,7 +195,8 @@ octet_step lowers set out new whole rest behind value o alone none itself same a
     let read = print (cased lowers (read_alone (Octet value) ∷ [])) in
     let split : text_read lowers set rest ≡ read ++ text_read lowers set behind =
     octet_read lowers set rest o alone none itself
-    ∙ ap (λ v. print (cased lowers (read_alone (Octet v) ∷ [])) ++ text_read lowers set o.behind) (sym same)
+    ∙ ap (λ v. print (cased lowers (read_alone (Octet v) ∷ [])) ++ text_read lowers set o.behind)
+    (sym same)
     ∙ ap (λ x. read ++ text_read lowers set x) (sym after) in
     ap (λ x. x ++ text_read lowers set behind) pushed
     ∙ append_assoc out read (text_read lowers set behind) ∙ ap (λ x. out ++ x) (sym split) ∙ total
@@ -354,8 +212,10 @@ pub by_itself : (bytes text : List ℕ) (i : ℕ) (at : OctetAt bytes text i) (a
 by_itself bytes text i at alone either = ⊎_elim
     (λ a. or_left alone (ltb (first_value at.octet) 128) a)
     (λ small.
-    let low = low_octet (get_or bytes (i + 1) 0) (get_or bytes (i + 2) 0) at.high_digit at.low_digit small in
-    or_right alone (ltb (first_value at.octet) 128) (lt-ltb (first_value at.octet) 128 (subst (λ v. v < 128) at.value low)))
+    let low = low_octet (get_or bytes (i + 1) 0) (get_or bytes (i + 2) 0) at.high_digit at.low_digit
+    small in
+    or_right alone (ltb (first_value at.octet) 128)
+    (lt-ltb (first_value at.octet) 128 (subst (λ v. v < 128) at.value low)))
     either
 
 -- the flags of a set without characters past ASCII
@@ -380,8 +240,10 @@ pub all_written : (lowers : Bool) (set : TableSet) (text out new whole : List �
     → out ++ text_read lowers set (drop done text) ≡ whole → new ≡ whole
 all_written lowers set text out new whole done end order over front pushed total =
     let rest = drop done text in
-    let all : take (end - done) rest ≡ rest = take_all (end - done) rest (omega (arith, length-drop done text)) in
+    let all : take (end - done) rest ≡ rest =
+    take_all (end - done) rest (omega (arith, length-drop done text)) in
     let none : drop end text ≡ [] = drop_all end text over in
     sym (append-nil new) ∙ ap (λ x. new ++ x) (sym (nothing_read lowers set))
     ∙ ap (λ x. new ++ text_read lowers set x) (sym none)
-    ∙ front_written lowers set text out new whole done end order front (pushed ∙ ap (λ x. out ++ cased_text lowers x) (sym all)) total
+    ∙ front_written lowers set text out new whole done end order front
+    (pushed ∙ ap (λ x. out ++ cased_text lowers x) (sym all)) total

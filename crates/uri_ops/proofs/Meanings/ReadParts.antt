@@ -16,6 +16,7 @@ use Rattle.uri_pct.specs.Sets.{TableSet}
 use Rattle.uri_pct.specs.Tokens.{Token, Char, Octet, tokens, IsValidFor}
 use Rattle.uri_pct.proofs.ValidTexts.Allowed.{printable_valid}
 use Rattle.uri_ops.specs.Models.Readings.{read_part, read_parts}
+use Rattle.uri_pct.proofs.Unicode.PartPieces.{scalar_first}
 
 module _ (set : TableSet) where
   -- the pieces of a run
@@ -47,28 +48,30 @@ module _ (set : TableSet) where
   of_more run text (Text more ∷ ps) u =
       let behind = read_parts set (parts_from [] ps) in
       of_text run (text ++ more) ps
-      ∙ ap (λ x. read_run set run ++ (x ++ behind)) (ap (map Char) (chars-append text more u) ∙ map-append Char (chars text) (chars more))
-      ∙ ap (λ x. read_run set run ++ x) (append_assoc (map Char (chars text)) (map Char (chars more)) behind
-      ∙ ap (λ x. map Char (chars text) ++ x) (sym (of_text [] more ps ∙ ap (λ x. x ++ (map Char (chars more) ++ behind)) no_run)))
+      ∙ ap (λ x. read_run set run ++ (x ++ behind))
+      (ap (map Char) (chars-append text more u) ∙ map-append Char (chars text) (chars more))
+      ∙ ap (λ x. read_run set run ++ x)
+      (append_assoc (map Char (chars text)) (map Char (chars more)) behind
+      ∙ ap (λ x. map Char (chars text) ++ x)
+      (sym (of_text [] more ps ∙ ap (λ x. x ++ (map Char (chars more) ++ behind)) no_run)))
   of_more run text (Byte value ∷ ps) u = of_text run text (Byte value ∷ ps)
 
   one_char : (c : ℕ) → IsScalar c → chars (encode_utf8 c) ≡ c ∷ []
   one_char c scalar = ap chars (sym (append-nil (encode_utf8 c)))
       ∙ chars-encodes (c ∷ []) (and_from _ true scalar refl)
 
-  scalar_first : (c : ℕ) → is_printable (Char c) ≡ true → IsScalar c
-  scalar_first c e = (and_parts _ true (and_parts _ _ e).0).0
-
   of_tokens : (run : List ℕ) (ts : List Token) → list_all is_printable ts ≡ true
       → read_parts set (parts_from run (chunks_of ts)) ≡ read_from set run ts
   unfolding chunks_of parts_from read_from
   of_tokens run [] e = of_run run
-  of_tokens run (Octet value ∷ ts) e = of_tokens (run ++ value ∷ []) ts (and_parts (is_printable (Octet value)) _ e).1
+  of_tokens run (Octet value ∷ ts) e =
+      of_tokens (run ++ value ∷ []) ts (and_parts (is_printable (Octet value)) _ e).1
   of_tokens run (Char c ∷ ts) e =
       let p = and_parts (is_printable (Char c)) _ e in
       let scalar = scalar_first c p.0 in
       of_more run (encode_utf8 c) (chunks_of ts) (IsUtf8-encode c scalar)
-      ∙ ap (λ cs. read_run set run ++ (map Char cs ++ read_parts set (parts_from [] (chunks_of ts)))) (one_char c scalar)
+      ∙ ap (λ cs. read_run set run
+      ++ (map Char cs ++ read_parts set (parts_from [] (chunks_of ts)))) (one_char c scalar)
       ∙ ap (λ us. read_run set run ++ Char c ∷ us) (of_tokens [] ts p.1)
 
   -- of a text that decodes

@@ -24,7 +24,8 @@ pub record AreParts (kind : Kind) (p : Components) : Type 0 where
   pub path : is_part kind.path p.path ≡ true
   pub query : IfSome p.query (λ q. is_part kind.query q ≡ true)
   pub fragment : IfSome p.fragment (λ f. is_part kind.fragment f ≡ true)
-  pub needs : (is_some p.scheme || (not kind.needs_scheme && (is_some p.authority || not (has_colon_first p.path))))
+  pub needs : (is_some p.scheme
+      || (not kind.needs_scheme && (is_some p.authority || not (has_colon_first p.path))))
       ≡ true
 
 pub some_if : (o : Option (List ℕ)) (test : List ℕ → Bool) → if_some o test ≡ true
@@ -42,10 +43,13 @@ pub parts_meet : (kind : Kind) (p : Components) → AreParts kind p → are_comp
 parts_meet kind p w =
     and_from _ _ (and_from _ _ (and_from _ _ (and_from _ _ (and_from _ _
     (if_from p.scheme (λ s. IsUtf8 s × (is_scheme s ≡ true)) is_scheme (λ s h. h.1) w.scheme)
-    (if_from p.authority (λ a. IsUtf8 a × (is_authority kind a ≡ true)) (is_authority kind) (λ a h. h.1) w.authority))
+    (if_from p.authority (λ a. IsUtf8 a × (is_authority kind a ≡ true)) (is_authority kind)
+    (λ a h. h.1) w.authority))
     (part_valid kind.path p.path w.path))
-    (if_from p.query (λ q. is_part kind.query q ≡ true) (is_valid_for kind.query) (λ q h. part_valid kind.query q h) w.query))
-    (if_from p.fragment (λ f. is_part kind.fragment f ≡ true) (is_valid_for kind.fragment) (λ f h. part_valid kind.fragment f h) w.fragment))
+    (if_from p.query (λ q. is_part kind.query q ≡ true) (is_valid_for kind.query)
+    (λ q h. part_valid kind.query q h) w.query))
+    (if_from p.fragment (λ f. is_part kind.fragment f ≡ true) (is_valid_for kind.fragment)
+    (λ f h. part_valid kind.fragment f h) w.fragment))
     w.needs
 
 -- UTF-8
@@ -80,7 +84,8 @@ query_ascii = ascii_marks (codes "#") refl
 
 utf8_query : (end : List ℕ) → IsUtf8 end → IsUtf8 (after_query end)
 utf8_query end u = ⊎_elim
-    (λ e. rw e (utf8_from (codes "#") (drop 1 end) query_ascii (utf8_past 63 end (omega arith) e u)))
+    (λ e.
+    rw e (utf8_from (codes "#") (drop 1 end) query_ascii (utf8_past 63 end (omega arith) e u)))
     (λ e. rw e u)
     (cases_Bool (starts 63 end))
 
@@ -90,11 +95,27 @@ components_utf8 text u =
     let tail = utf8_authority (after_scheme text) rest in
     let end = utf8_from (codes "?#") (after_authority (after_scheme text)) path_ascii tail in
     record {
-      scheme = utf8_when (has_scheme text) (before_any (codes ":/?#") text) (λ e. utf8_before (codes ":/?#") text scheme_ascii u);
-      authority = utf8_when (has_authority (after_scheme text)) (before_any (codes "/?#") (drop 2 (after_scheme text))) (λ e. utf8_before (codes "/?#") (drop 2 (after_scheme text)) authority_ascii (utf8_slashes (after_scheme text) e rest));
+      scheme = utf8_when (has_scheme text) (before_any (codes ":/?#") text)
+          (λ e. utf8_before (codes ":/?#") text scheme_ascii u);
+      authority = utf8_when (has_authority (after_scheme text))
+          (before_any (codes "/?#") (drop 2 (after_scheme text)))
+          (λ e. utf8_before (codes "/?#") (drop 2 (after_scheme text)) authority_ascii
+          (utf8_slashes (after_scheme text) e rest));
       path = utf8_before (codes "?#") (after_authority (after_scheme text)) path_ascii tail;
-      query = utf8_when (starts 63 (from_any (codes "?#") (after_authority (after_scheme text)))) _ (λ e. utf8_before (codes "#") (drop 1 (from_any (codes "?#") (after_authority (after_scheme text)))) query_ascii (utf8_past 63 (from_any (codes "?#") (after_authority (after_scheme text))) (omega arith) e end));
-      fragment = utf8_when (starts 35 (after_query (from_any (codes "?#") (after_authority (after_scheme text))))) _ (λ e. utf8_past 35 (after_query (from_any (codes "?#") (after_authority (after_scheme text)))) (omega arith) e (utf8_query (from_any (codes "?#") (after_authority (after_scheme text))) end));
+      query = utf8_when (starts 63 (from_any (codes "?#") (after_authority (after_scheme text)))) _
+          (λ e. utf8_before (codes "#") (drop 1
+          (from_any (codes "?#") (after_authority (after_scheme text)))) query_ascii
+          (utf8_past 63 (from_any (codes "?#") (after_authority (after_scheme text)))
+          (omega arith) e end));
+      fragment =
+          utf8_when
+          (starts 35
+          (after_query (from_any (codes "?#") (after_authority (after_scheme text))))) _
+          (λ e. utf8_past 35 (after_query
+          (from_any (codes "?#") (after_authority (after_scheme text))))
+          (omega arith) e
+          (utf8_query (from_any (codes "?#")
+          (after_authority (after_scheme text))) end));
     }
 
 -- the components of a text that meet the grammar
@@ -107,10 +128,18 @@ meet_parts kind p u e =
     let d = and_parts _ _ c.0 in
     let f = and_parts _ _ d.0 in
     record {
-      scheme = both_some p.scheme IsUtf8 (λ s. is_scheme s ≡ true) (λ s. IsUtf8 s × (is_scheme s ≡ true)) (λ s v h. (v, h)) u.scheme (some_if p.scheme is_scheme f.0);
-      authority = both_some p.authority IsUtf8 (λ s. is_authority kind s ≡ true) (λ s. IsUtf8 s × (is_authority kind s ≡ true)) (λ s v h. (v, h)) u.authority (some_if p.authority (is_authority kind) f.1);
+      scheme = both_some p.scheme IsUtf8 (λ s. is_scheme s ≡ true)
+          (λ s. IsUtf8 s × (is_scheme s ≡ true)) (λ s v h. (v, h)) u.scheme
+          (some_if p.scheme is_scheme f.0);
+      authority = both_some p.authority IsUtf8 (λ s. is_authority kind s ≡ true)
+          (λ s. IsUtf8 s × (is_authority kind s ≡ true)) (λ s v h. (v, h)) u.authority
+          (some_if p.authority (is_authority kind) f.1);
       path = part_from kind.path p.path u.path d.1;
-      query = both_some p.query IsUtf8 (λ q. is_valid_for kind.query q ≡ true) (λ q. is_part kind.query q ≡ true) (λ q v h. part_from kind.query q v h) u.query (some_if p.query (is_valid_for kind.query) c.1);
-      fragment = both_some p.fragment IsUtf8 (λ q. is_valid_for kind.fragment q ≡ true) (λ q. is_part kind.fragment q ≡ true) (λ q v h. part_from kind.fragment q v h) u.fragment (some_if p.fragment (is_valid_for kind.fragment) b.1);
+      query = both_some p.query IsUtf8 (λ q. is_valid_for kind.query q ≡ true)
+          (λ q. is_part kind.query q ≡ true) (λ q v h. part_from kind.query q v h) u.query
+          (some_if p.query (is_valid_for kind.query) c.1);
+      fragment = both_some p.fragment IsUtf8 (λ q. is_valid_for kind.fragment q ≡ true)
+          (λ q. is_part kind.fragment q ≡ true) (λ q v h. part_from kind.fragment q v h) u.fragment
+          (some_if p.fragment (is_valid_for kind.fragment) b.1);
       needs = a.1;
     }

@@ -25,7 +25,7 @@ use Rattle.uri_pct.proofs.Readings.Formatting.{encode_formatting-none, lower-enc
 use Rattle.uri_pct.proofs.Readings.Printing.{digits_of, chars_of_token, token_encodes, chars-print}
 use Rattle.uri_pct.proofs.Readings.Printing.{IsUtf8-print}
 use Rattle.uri_pct.proofs.Readings.Reading.{printable-read_tokens}
-use Rattle.uri_ops.specs.Formatting.{written_char, written_text}
+use Rattle.uri_pct.specs.Reading.{written_char, written_text}
 use Rattle.uri_ops.specs.Models.Readings.{cased}
 
 pub no_chars : (text : List ℕ) → length text ≡ 0 → chars text ≡ []
@@ -45,14 +45,17 @@ has_lead c e =
     let within = formatting_bounds c e in
     let first : 224 + c / 4096 ≡ 0xE2 = omega (arith, within.0, within.1) in
     let rest = (128 + c / 64 % 64) ∷ (128 + c % 64) ∷ [] in
-    ap (list_any is_lead) (cond-false _ _ _ (le-ltb c 128 (omega (arith, within.0))) ∙ cond-false _ _ _ (le-ltb c 2048 (omega (arith, within.0))) ∙ cond-true _ _ _ (lt-ltb c 65536 (omega (arith, within.1))))
+    ap (list_any is_lead) (cond-false _ _ _ (le-ltb c 128 (omega (arith, within.0)))
+    ∙ cond-false _ _ _ (le-ltb c 2048 (omega (arith, within.0)))
+    ∙ cond-true _ _ _ (lt-ltb c 65536 (omega (arith, within.1))))
     ∙ ap (λ b. list_any is_lead (b ∷ rest)) first
 
 none_led : (cs : List ℕ) → list_any is_lead (encode_utf8_all cs) ≡ false
     → list_any is_bidi_formatting cs ≡ false
 none_led [] e = refl
 none_led (c ∷ cs) e =
-    let p = or_parts (list_any is_lead (encode_utf8 c)) (list_any is_lead (encode_utf8_all cs)) (sym (list_any-append is_lead (encode_utf8 c) (encode_utf8_all cs)) ∙ e) in
+    let p = or_parts (list_any is_lead (encode_utf8 c)) (list_any is_lead (encode_utf8_all cs))
+    (sym (list_any-append is_lead (encode_utf8 c) (encode_utf8_all cs)) ∙ e) in
     or_from _ _ (false_from_ne_true _ (λ h. both_ways _ p.0 (has_lead c h))) (none_led cs p.1)
 
 pub no_lead : (text : List ℕ) → IsUtf8 text → list_any (λ b. eqb b 0xE2) text ≡ false
@@ -91,7 +94,8 @@ token_written set (Char c) both e = ⊎_elim
     (λ h.
     ap (λ x. x ++ []) (cond-true _ _ _ h) ∙ append-nil (print (map Octet (encode_utf8 c)))
     ∙ sym (ap print (cond-true _ _ _ (never_literal-both set c both ∙ h))))
-    (λ h. ap (λ x. x ++ []) (cond-false _ _ _ h) ∙ sym (ap print (cond-false _ _ _ (never_literal-both set c both ∙ h))))
+    (λ h. ap (λ x. x ++ []) (cond-false _ _ _ h)
+    ∙ sym (ap print (cond-false _ _ _ (never_literal-both set c both ∙ h))))
     (cases_Bool (is_bidi_formatting c))
 
 tokens_written : (set : TableSet) (ts : List Token) → (set.ucschar && set.pct_encoded) ≡ true
@@ -101,7 +105,8 @@ tokens_written set [] both e = refl
 tokens_written set (t ∷ ts) both e =
     let p = and_parts (is_printable t) (list_all is_printable ts) e in
     flat_map-append written_char (chars_of_token t) (flat_map chars_of_token ts)
-    ∙ ap (λ x. x ++ flat_map written_char (flat_map chars_of_token ts)) (token_written set t both p.0)
+    ∙ ap (λ x. x ++ flat_map written_char (flat_map chars_of_token ts))
+    (token_written set t both p.0)
     ∙ ap (λ x. print (formatting_as_octets set t) ++ x) (tokens_written set ts both p.1)
     ∙ sym (flat_map-append text_of_token (formatting_as_octets set t) (encode_formatting set ts))
 
@@ -114,7 +119,8 @@ written-print set ts both e = ap (flat_map written_char) (chars-print ts e)
 pub written_behind : (old more new : List ℕ) (start : ℕ) → start ≡ length old → new ≡ old ++ more
     → take start new ++ written_text (drop start new) ≡ old ++ written_text more
 written_behind old more new start e f =
-    rw (e, f) (ap (λ x. x ++ written_text (drop (length old) (old ++ more))) (take-append_seam old more) ∙ ap (λ x. old ++ written_text x) (drop-append_seam old more))
+    rw (e, f) (ap (λ x. x ++ written_text (drop (length old) (old ++ more)))
+    (take-append_seam old more) ∙ ap (λ x. old ++ written_text x) (drop-append_seam old more))
 
 -- what is read of a text, with its letters lowered where that is asked
 cased_encode : (lowers : Bool) (set : TableSet) (ts : List Token)
@@ -129,24 +135,31 @@ cased_printable false ts e = e
 
 printable_cased : (lowers : Bool) (set : TableSet) (text : List ℕ) → IsValidFor widest_set text
     → list_all is_printable (cased lowers (read_tokens set (tokens text))) ≡ true
-printable_cased lowers set text valid = cased_printable lowers (read_tokens set (tokens text)) (printable-read_tokens set (tokens text) (printable_valid widest_set text refl valid))
+printable_cased lowers set text valid =
+    cased_printable lowers (read_tokens set (tokens text))
+    (printable-read_tokens set (tokens text) (printable_valid widest_set text refl valid))
 
 pub IsUtf8-cased : (lowers : Bool) (set : TableSet) (text : List ℕ) → IsValidFor widest_set text
     → IsUtf8 (print (cased lowers (read_tokens set (tokens text))))
-IsUtf8-cased lowers set text valid = IsUtf8-print (cased lowers (read_tokens set (tokens text))) (printable_cased lowers set text valid)
+IsUtf8-cased lowers set text valid =
+    IsUtf8-print (cased lowers (read_tokens set (tokens text)))
+    (printable_cased lowers set text valid)
 
 pub written_cased : (lowers : Bool) (set : TableSet) (text : List ℕ)
     → (set.ucschar && set.pct_encoded) ≡ true → IsValidFor widest_set text
     → written_text (print (cased lowers (read_tokens set (tokens text))))
     ≡ print (cased lowers (read set text))
 written_cased lowers set text both valid =
-    written-print set (cased lowers (read_tokens set (tokens text))) both (printable_cased lowers set text valid)
+    written-print set (cased lowers (read_tokens set (tokens text))) both
+    (printable_cased lowers set text valid)
     ∙ ap print (cased_encode lowers set (read_tokens set (tokens text)))
 
 pub unwritten_cased : (lowers : Bool) (set : TableSet) (text : List ℕ)
     → (set.ucschar && set.pct_encoded) ≡ false
     → print (cased lowers (read_tokens set (tokens text))) ≡ print (cased lowers (read set text))
-unwritten_cased lowers set text none = ap (λ ts. print (cased lowers ts)) (sym (encode_formatting-none set (read_tokens set (tokens text)) none))
+unwritten_cased lowers set text none =
+    ap (λ ts. print (cased lowers ts))
+    (sym (encode_formatting-none set (read_tokens set (tokens text)) none))
 
 -- a set holds `ucschar` where it holds U+200E
 flag_alone : (u p : Bool) → ((u && true) || (p && false)) ≡ u

@@ -1,4 +1,5 @@
--- The components of a normal text: they meet the grammar, are cut apart where the text is, and have the meaning that the text was printed from.
+-- The components of a normal text: they meet the grammar, are cut apart where the text is, and have
+-- the meaning that the text was printed from.
 use Rattle.std.proofs.Common.{◌≡◌, ℕ, ◌<◌, Bool, true, false, cond, not, List, [], ◌∷◌, ◌++◌}
 use Rattle.std.proofs.Common.{length, refl, ap, ◌∙◌, ◌&&◌, ◌||◌, ⊎_elim, inl, inr, arith}
 use Rattle.std.proofs.Common.{option_map}
@@ -19,10 +20,10 @@ use Rattle.uri_parts.proofs.Splitting.Relative.{scheme_lacks, scheme_marks}
 use Rattle.uri_parts.proofs.TextKinds.SpeltTexts.{valid_lacks}
 use Rattle.uri_ops.specs.Target.{cleaned_path, guarded}
 use Rattle.uri_ops.specs.ComponentSets.{IsComponentSet, HasComponentSets}
-use Rattle.uri_ops.specs.Ports.{PortFunction}
+use Rattle.uri_parts.specs.Ports.{PortFunction}
 use Rattle.uri_ops.specs.Meaning.{authority_meaning, plain_path, components_meaning}
 use Rattle.uri_ops.specs.Normal.{normal_authority, normal_components}
-use Rattle.uri_ops.proofs.Meanings.ComponentEnds.{ends_outside, excludes_front, no_scheme}
+use Rattle.uri_ops.proofs.Meanings.ComponentEnds.{no_scheme}
 use Rattle.uri_ops.proofs.Meanings.PortMeanings.{authority_meaning-same}
 use Rattle.uri_ops.proofs.Targeting.Targets.{guarded_plain, cleaned_rooted}
 use Rattle.uri_ops.proofs.Meanings.AllowedParts.{is_part, part_utf8, part_valid, reprinted}
@@ -34,8 +35,10 @@ use Rattle.uri_ops.proofs.Meanings.PlainTexts.{lower_twice, scheme_lower, utf8_s
 use Rattle.uri_ops.proofs.Meanings.TextParts.{AreParts}
 use Rattle.uri_pct.proofs.Tests.{true_of}
 use Rattle.uri_parts.proofs.Splitting.Recompose.{true_to}
+use Rattle.uri_ops.proofs.Meanings.ComponentEnds.{path_outside, query_outside}
 
--- an authority that is printed from its meaning is one, lacks the marks that would end it, and has that meaning
+-- an authority that is printed from its meaning is one, lacks the marks that would end it, and has
+-- that meaning
 pub record KeepsAuthorities (kind : Kind) : Type 0 where
   pub utf8 : (default : Option ℕ) (a : List ℕ) → IsUtf8 a → is_authority kind a ≡ true
       → IsUtf8 (normal_authority (authority_meaning kind default a))
@@ -90,12 +93,15 @@ module _ (set : TableSet) (marks : List ℕ) (w : IsComponentSet marks set) wher
   pub part_cut_at : (some : List ℕ) → excludes set some ≡ true → (o : Option (List ℕ))
       → IfSome o (λ x. is_part set x ≡ true) → IfSome o (λ x. Lacks some x)
   part_cut_at some outside None h = tt
-  part_cut_at some outside (Some x) h = valid_lacks set some w.percent outside x (part_utf8 set x h) (part_valid set x h)
+  part_cut_at some outside (Some x) h =
+      valid_lacks set some w.percent outside x (part_utf8 set x h) (part_valid set x h)
 
 -- the path
 abbrev path_text : TableSet → Option (List ℕ) → Option (List ℕ) → List ℕ → List ℕ
 path_text set scheme authority path =
-    cond (is_some (option_map str_to_ascii_lowercase scheme)) (guarded authority (print (read set (plain_path scheme path)))) (print (read set (plain_path scheme path)))
+    cond (is_some (option_map str_to_ascii_lowercase scheme))
+    (guarded authority (print (read set (plain_path scheme path))))
+    (print (read set (plain_path scheme path)))
 
 module _ (set : TableSet) (w : IsComponentSet (codes "?#[]") set)
     (slash : set.ascii 47 ≡ true) where
@@ -104,10 +110,13 @@ module _ (set : TableSet) (w : IsComponentSet (codes "?#[]") set)
   unfolding reprinted
   path_part None authority path h = part_reprinted set w.percent w.unreserved path h
   path_part (Some s) authority path h =
-      part_guarded set w slash authority (reprinted set (cleaned_path path)) (part_reprinted set w.percent w.unreserved (cleaned_path path) (part_cleaned set w slash path h))
+      part_guarded set w slash authority (reprinted set (cleaned_path path))
+      (part_reprinted set w.percent w.unreserved (cleaned_path path)
+      (part_cleaned set w slash path h))
 
   path_read : (scheme authority : Option (List ℕ)) (path : List ℕ) → is_part set path ≡ true
-      → read set (plain_path (option_map str_to_ascii_lowercase scheme) (path_text set scheme authority path))
+      → read set (plain_path (option_map str_to_ascii_lowercase scheme)
+      (path_text set scheme authority path))
       ≡ read set (plain_path scheme path)
   unfolding reprinted
   path_read None authority path h = read-reprinted set w.percent path h
@@ -124,7 +133,9 @@ module _ (set : TableSet) (w : IsComponentSet (codes "?#[]") set)
       → IsRooted path → IsRooted (path_text set scheme (Some a) path)
   unfolding reprinted
   path_rooted None a path h rooted = rooted_reprinted path h rooted
-  path_rooted (Some s) a path h rooted = rooted_reprinted (cleaned_path path) (part_cleaned set w slash path h) (cleaned_rooted path rooted)
+  path_rooted (Some s) a path h rooted =
+      rooted_reprinted (cleaned_path path) (part_cleaned set w slash path h)
+      (cleaned_rooted path rooted)
 
   path_no_authority : (scheme : Option (List ℕ)) (path : List ℕ) → is_part set path ≡ true
       → has_authority path ≡ false → has_authority (path_text set scheme None path) ≡ false
@@ -148,15 +159,21 @@ module _ (kind : Kind) (sets : HasComponentSets kind) (keeps : KeepsAuthorities 
   authority_cut : (default : Option ℕ) (scheme o : Option (List ℕ)) (path : List ℕ)
       → is_part kind.path path ≡ true → IfSome o IsAuthorityPart
       → IfSome o (λ a. Lacks (codes "/?#") a × IsRooted path)
-      → IfSome (printed default o) (λ a. Lacks (codes "/?#") a × IsRooted (path_text kind.path scheme (printed default o) path))
+      → IfSome (printed default o) (λ a. Lacks (codes "/?#") a
+      × IsRooted (path_text kind.path scheme (printed default o) path))
   authority_cut default scheme None path part h cut = tt
-  authority_cut default scheme (Some a) path part h cut =
-      (keeps.lacks default a h.0 h.1, path_rooted kind.path sets.path sets.slash scheme (normal_authority (authority_meaning kind default a)) path part cut.1)
+  authority_cut default scheme (Some a) path part h cut = (
+    keeps.lacks default a h.0 h.1,
+    path_rooted kind.path sets.path sets.slash scheme
+        (normal_authority (authority_meaning kind default a)) path part cut.1,
+  )
 
   authority_none : (default : Option ℕ) (scheme o : Option (List ℕ)) (path : List ℕ)
       → is_part kind.path path ≡ true → IfNone o (has_authority path ≡ false)
-      → IfNone (printed default o) (has_authority (path_text kind.path scheme (printed default o) path) ≡ false)
-  authority_none default scheme None path part h = path_no_authority kind.path sets.path sets.slash scheme path part h
+      → IfNone (printed default o)
+      (has_authority (path_text kind.path scheme (printed default o) path) ≡ false)
+  authority_none default scheme None path part h =
+      path_no_authority kind.path sets.path sets.slash scheme path part h
   authority_none default scheme (Some a) path part h = tt
 
   authority_kept : (default other : Option ℕ) → other ≡ default → (o : Option (List ℕ))
@@ -165,21 +182,27 @@ module _ (kind : Kind) (sets : HasComponentSets kind) (keeps : KeepsAuthorities 
       ≡ option_map (authority_meaning kind default) o
   authority_kept default other e None h = refl
   authority_kept default other e (Some a) h =
-      ap (λ d. Some (authority_meaning kind d (normal_authority (authority_meaning kind default a)))) e
-      ∙ ap Some (authority_meaning-same kind default (normal_authority (authority_meaning kind default a)) a (keeps.bare default a h.0 h.1))
+      ap
+      (λ d. Some
+      (authority_meaning kind d (normal_authority (authority_meaning kind default a)))) e
+      ∙ ap Some (authority_meaning-same kind default
+      (normal_authority (authority_meaning kind default a)) a (keeps.bare default a h.0 h.1))
 
   -- a scheme where the kind needs one, and no `:` in the first segment of a path that stands alone
   abbrev meets_needs : Option (List ℕ) → Option (List ℕ) → List ℕ → Bool
-  meets_needs scheme o path = is_some scheme || (not kind.needs_scheme && (is_some o || not (has_colon_first path)))
+  meets_needs scheme o path = is_some scheme
+      || (not kind.needs_scheme && (is_some o || not (has_colon_first path)))
 
   colon_kept : (path : List ℕ) → is_part kind.path path ≡ true → has_colon_first path ≡ false
       → has_colon_first (print (read kind.path path)) ≡ false
   unfolding reprinted
-  colon_kept path part e = colon_reprinted kind.path sets.path.percent sets.path.unreserved path part e
+  colon_kept path part e = colon_reprinted kind.path sets.path.percent sets.path.unreserved path
+      part e
 
   needs_kept : (default : Option ℕ) (scheme o : Option (List ℕ)) (path : List ℕ)
       → is_part kind.path path ≡ true → meets_needs scheme o path ≡ true
-      → meets_needs (option_map str_to_ascii_lowercase scheme) (printed default o) (path_text kind.path scheme (printed default o) path)
+      → meets_needs (option_map str_to_ascii_lowercase scheme) (printed default o)
+      (path_text kind.path scheme (printed default o) path)
       ≡ true
   needs_kept default (Some s) o path part h = refl
   needs_kept default None (Some a) path part h = h
@@ -190,12 +213,17 @@ module _ (kind : Kind) (sets : HasComponentSets kind) (keeps : KeepsAuthorities 
   scheme_none : (default : Option ℕ) (scheme o : Option (List ℕ)) (path : List ℕ)
       (query fragment : Option (List ℕ))
       → is_part kind.path path ≡ true → meets_needs scheme o path ≡ true
-      → IfNone (option_map str_to_ascii_lowercase scheme) (has_scheme (marked [] (option_map str_to_ascii_lowercase scheme) (codes ":") ++ (marked (codes "//") (printed default o) [] ++ (path_text kind.path scheme (printed default o) path ++ query_text query fragment))) ≡ false)
+      → IfNone (option_map str_to_ascii_lowercase scheme)
+      (has_scheme (marked [] (option_map str_to_ascii_lowercase scheme) (codes ":")
+      ++ (marked (codes "//") (printed default o) []
+      ++ (path_text kind.path scheme (printed default o) path
+      ++ query_text query fragment))) ≡ false)
   scheme_none default (Some s) o path query fragment part h = tt
   scheme_none default None (Some a) path query fragment part h = refl
   scheme_none default None None path query fragment part h =
       let q = and_parts (not kind.needs_scheme) (not (has_colon_first path)) h in
-      no_scheme (print (read kind.path path)) (query_text query fragment) (colon_kept path part (not-true _ q.1)) (Begins-query_text query fragment)
+      no_scheme (print (read kind.path path)) (query_text query fragment)
+      (colon_kept path part (not-true _ q.1)) (Begins-query_text query fragment)
 
   abbrev pub normal_of : Components → Components
   normal_of p = normal_components (components_meaning kind ports p)
@@ -207,17 +235,12 @@ module _ (kind : Kind) (sets : HasComponentSets kind) (keeps : KeepsAuthorities 
       record {
         scheme = lowered_scheme p.scheme parts.scheme;
         authority = authority_part default p.authority parts.authority;
-        path = path_part kind.path sets.path sets.slash p.scheme (printed default p.authority) p.path parts.path;
+        path = path_part kind.path sets.path sets.slash p.scheme (printed default p.authority)
+            p.path parts.path;
         query = printed_part kind.query (codes "#[]") sets.query p.query parts.query;
         fragment = printed_part kind.fragment (codes "#[]") sets.fragment p.fragment parts.fragment;
         needs = needs_kept default p.scheme p.authority p.path parts.path parts.needs;
       }
-
-  path_outside : excludes kind.path (codes "?#") ≡ true
-  path_outside = excludes_front (codes "?#") (codes "[]") kind.path (ends_outside (codes "?#[]") kind.path refl sets.path.ends)
-
-  query_outside : excludes kind.query (codes "#") ≡ true
-  query_outside = excludes_front (codes "#") (codes "[]") kind.query (ends_outside (codes "#[]") kind.query refl sets.query.ends)
 
   -- they are the components of their text
   pub normal_split : (text : List ℕ) (p : Components) → IsSplitOf text p → AreParts kind p
@@ -228,11 +251,19 @@ module _ (kind : Kind) (sets : HasComponentSets kind) (keeps : KeepsAuthorities 
       record {
         whole = refl;
         scheme = scheme_cut (option_map str_to_ascii_lowercase p.scheme) done.scheme;
-        authority = authority_cut default p.scheme p.authority p.path parts.path parts.authority split.authority;
-        path = valid_lacks kind.path (codes "?#") sets.path.percent path_outside (normal_of p).path (part_utf8 kind.path (normal_of p).path done.path) (part_valid kind.path (normal_of p).path done.path);
-        query = part_cut_at kind.query (codes "#[]") sets.query (codes "#") query_outside (normal_of p).query done.query;
-        no_scheme = scheme_none default p.scheme p.authority p.path (normal_of p).query (normal_of p).fragment parts.path parts.needs;
-        no_authority = authority_none default p.scheme p.authority p.path parts.path split.no_authority;
+        authority = authority_cut default p.scheme p.authority p.path parts.path parts.authority
+            split.authority;
+        path = valid_lacks kind.path (codes "?#") sets.path.percent (path_outside kind sets)
+            (normal_of p).path
+            (part_utf8 kind.path (normal_of p).path done.path)
+            (part_valid kind.path (normal_of p).path done.path);
+        query = part_cut_at kind.query (codes "#[]") sets.query (codes "#")
+            (query_outside kind sets)
+            (normal_of p).query done.query;
+        no_scheme = scheme_none default p.scheme p.authority p.path (normal_of p).query
+            (normal_of p).fragment parts.path parts.needs;
+        no_authority = authority_none default p.scheme p.authority p.path parts.path
+            split.no_authority;
       }
 
   -- and mean what they were printed from
@@ -242,8 +273,19 @@ module _ (kind : Kind) (sets : HasComponentSets kind) (keeps : KeepsAuthorities 
       let scheme = option_map str_to_ascii_lowercase p.scheme in
       let twice = lowered_twice p.scheme in
       let default = option_and_then ports scheme in
-      let authority = authority_kept default (option_and_then ports (option_map str_to_ascii_lowercase scheme)) (ap (option_and_then ports) twice) p.authority parts.authority in
-      let path = path_read kind.path sets.path sets.slash p.scheme (printed default p.authority) p.path parts.path in
+      let authority = authority_kept default
+      (option_and_then ports (option_map str_to_ascii_lowercase scheme))
+      (ap (option_and_then ports) twice) p.authority parts.authority in
+      let path = path_read kind.path sets.path sets.slash p.scheme (printed default p.authority)
+      p.path parts.path in
       let query = printed_read kind.query (codes "#[]") sets.query p.query parts.query in
-      let fragment = printed_read kind.fragment (codes "#[]") sets.fragment p.fragment parts.fragment in
-      λ i. record { scheme = twice i; authority = authority i; path = path i; query = query i; fragment = fragment i }
+      let fragment = printed_read kind.fragment (codes "#[]") sets.fragment p.fragment
+      parts.fragment in
+      λ i. record {
+        scheme = twice i;
+        authority = authority i;
+        path = path i;
+        query =
+            query i;
+        fragment = fragment i;
+      }

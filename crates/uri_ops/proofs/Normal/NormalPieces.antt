@@ -16,8 +16,8 @@ use Rattle.uri_ops.specs.ComponentSets.{IsComponentSet}
 use Rattle.uri_ops.specs.Dots.{IsAbsolute, remove_dot_segments}
 use Rattle.uri_ops.specs.Meaning.{authority_meaning, plain_path, meaning_of}
 use Rattle.uri_ops.specs.Normal.{normal_authority, normal_path, normal_text}
-use Rattle.uri_ops.specs.NormalPaths.{path_text}
-use Rattle.uri_ops.specs.Ports.{PortFunction}
+use Rattle.uri_ops.specs.Normal.{path_text}
+use Rattle.uri_parts.specs.Ports.{PortFunction}
 use Rattle.uri_ops.specs.Target.{guarded}
 use Rattle.uri_ops.proofs.Meanings.AllowedParts.{part_from, part_valid, reprinted}
 use Rattle.uri_ops.proofs.Paths.ReadPaths.{part_removed}
@@ -30,19 +30,23 @@ pub removed_valid : (set : TableSet) → IsComponentSet (codes "?#[]") set → s
     → text ≡ remove_dot_segments path → IsValidFor set text
 removed_valid set w slash path text absolute utf8 valid e =
     ap (λ t. is_valid_for set t) e
-    ∙ part_valid set (remove_dot_segments path) (part_removed set w.percent w.unreserved slash path absolute (part_from set path utf8 valid))
+    ∙ part_valid set (remove_dot_segments path)
+    (part_removed set w.percent w.unreserved slash path absolute
+    (part_from set path utf8 valid))
 
 -- what is read of a path begins with `//` where the path does
 read_authority : (set : TableSet) → IsComponentSet (codes "?#[]") set → (path : List ℕ)
     → IsUtf8 path → IsValidFor set path → has_authority (print (read set path)) ≡ has_authority path
 unfolding reprinted
-read_authority set w path utf8 valid = has_authority_reprinted set w.percent w.unreserved path (part_from set path utf8 valid)
+read_authority set w path utf8 valid =
+    has_authority_reprinted set w.percent w.unreserved path (part_from set path utf8 valid)
 
 -- the guard and what is read of the path
 pub guard_written : (set : TableSet) → IsComponentSet (codes "?#[]") set → (path : List ℕ)
     → IsUtf8 path → IsValidFor set path → (authority : Option (List ℕ)) (guard old mid new : List ℕ)
     → mid ≡ old ++ guard → new ≡ mid ++ print (read set path)
-    → ((text : List ℕ) → has_authority text ≡ has_authority path → guard ++ text ≡ guarded authority text)
+    → ((text : List ℕ) → has_authority text ≡ has_authority path
+    → guard ++ text ≡ guarded authority text)
     → new ≡ old ++ guarded authority (print (read set path))
 guard_written set w path utf8 valid authority guard old mid new e f h =
     let text = print (read set path) in
@@ -62,7 +66,8 @@ pub kept_path : (set : TableSet) → IsComponentSet (codes "?#[]") set
 kept_path set w None authority path utf8 valid e = refl
 kept_path set w (Some s) authority path utf8 valid e =
     ap (λ t. guarded authority (print (read set t))) (cond-false _ _ _ e)
-    ∙ unguarded authority (print (read set path)) (read_authority set w path utf8 valid ∙ no_authority_first path e)
+    ∙ unguarded authority (print (read set path))
+    (read_authority set w path utf8 valid ∙ no_authority_first path e)
 
 pub marked_written : (before part old mid new : List ℕ) → mid ≡ old ++ before → new ≡ mid ++ part
     → new ≡ old ++ marked before (Some part) []
@@ -84,25 +89,32 @@ appended old s a p q f o1 o2 o3 o4 new e1 e2 e3 e4 e5 =
 
 -- the path, by the scheme as it stands
 pub path_written : (kind : Kind) (ports : PortFunction) (text : List ℕ)
-    → (let p = components text in let m = meaning_of kind ports text in path_text kind.path p.scheme (option_map normal_authority m.authority) p.path ≡ normal_path m)
+    → (let p = components text in let m = meaning_of kind ports text in
+    path_text kind.path p.scheme (option_map normal_authority m.authority) p.path
+    ≡ normal_path m)
 path_written kind ports text =
     let p = components text in
     let m = meaning_of kind ports text in
     let path = print (read kind.path (plain_path p.scheme p.path)) in
-    ap (λ (b : Bool). cond b (guarded (option_map normal_authority m.authority) path) path) (sym (some_map str_to_ascii_lowercase p.scheme))
+    ap (λ (b : Bool). cond b (guarded (option_map normal_authority m.authority) path) path)
+    (sym (some_map str_to_ascii_lowercase p.scheme))
 
 -- the five components are the normal text
 pub normal_written : (kind : Kind) (ports : PortFunction) (text : List ℕ)
     (old o1 o2 o3 o4 new : List ℕ)
-    → (let p = components text in let scheme = option_map str_to_ascii_lowercase p.scheme in let authority = option_map normal_authority (option_map (authority_meaning kind (option_and_then ports scheme)) p.authority) in
+    → (let p = components text in let scheme = option_map str_to_ascii_lowercase p.scheme in
+    let authority = option_map normal_authority
+    (option_map (authority_meaning kind (option_and_then ports scheme)) p.authority) in
     o1 ≡ old ++ marked [] scheme (codes ":")
     → o2 ≡ o1 ++ marked (codes "//") authority []
     → o3 ≡ o2 ++ path_text kind.path p.scheme authority p.path
     → o4 ≡ o3 ++ marked (codes "?") (option_map print (option_map (read kind.query) p.query)) []
-    → new ≡ o4 ++ marked (codes "#") (option_map print (option_map (read kind.fragment) p.fragment)) []
+    → new ≡ o4 ++ marked (codes "#") (option_map print (option_map (read kind.fragment) p.fragment))
+    []
     → new ≡ old ++ normal_text (meaning_of kind ports text))
 normal_written kind ports text old o1 o2 o3 o4 new e1 e2 e3 e4 e5 =
-    appended old _ _ _ _ _ o1 o2 o3 o4 new e1 e2 (e3 ∙ ap (λ t. o2 ++ t) (path_written kind ports text)) e4 e5
+    appended old _ _ _ _ _ o1 o2 o3 o4 new e1 e2
+    (e3 ∙ ap (λ t. o2 ++ t) (path_written kind ports text)) e4 e5
 
 pub and_off : (b c : Bool) → c ≡ false → (b && c) ≡ false
 and_off false c e = refl

@@ -1,4 +1,5 @@
--- Bytes that begin neither an octet nor a formatting character: sixteen at a time, and in the parts of a text.
+-- Bytes that begin neither an octet nor a formatting character: sixteen at a time, and in the parts
+-- of a text.
 use Rattle.std.proofs.Common.{◌≡◌, ℕ, ◌+◌, ◌<◌, ◌≤◌, ◌-◌, true, false, eqb, List, [], ◌∷◌}
 use Rattle.std.proofs.Common.{◌++◌, length, get_or, map, refl, sym, ap, ◌∙◌, arith, bit_or, ◌||◌, ⊎_elim}
 use Rattle.std.specs.Prelude.{Option, Some, None, IfSome}
@@ -27,7 +28,8 @@ none_in_block bs at percents leads room p l none k h =
     ∙ ap (λ m. eqb m 1) (bit_at-zero k) in
     not_from_false _
     (ap (λ x. x || eqb b 0xE2) (sym (byte_lane 37 bs at k room h) ∙ ap (λ m. bit m k) (sym p))
-    ∙ ap (λ x. bit percents k || x) (sym (byte_lane 0xE2 bs at k room h) ∙ ap (λ m. bit m k) (sym l))
+    ∙ ap (λ x. bit percents k || x)
+    (sym (byte_lane 0xE2 bs at k room h) ∙ ap (λ m. bit m k) (sym l))
     ∙ sym (or_test percents leads k) ∙ clear)
 
 -- and more of them behind
@@ -44,7 +46,8 @@ block_more bs i at from passed block k to = ⊎_elim
 
 pub plain_from : (bs : List ℕ) → ((k : ℕ) → k < length bs → is_plain_byte (get_or bs k 0) ≡ true)
     → IsPlain bs
-plain_from bs each = list_all-from_AllPass is_plain_byte bs (All-from_get_or (λ b. is_plain_byte b ≡ true) bs 0 each)
+plain_from bs each = list_all-from_AllPass is_plain_byte bs
+    (All-from_get_or (λ b. is_plain_byte b ≡ true) bs 0 each)
 
 -- the parts of such a text
 pub plain_apart : (xs ys : List ℕ) → IsPlain (xs ++ ys) → IsPlain xs × IsPlain ys
@@ -53,7 +56,8 @@ plain_apart xs ys e = and_parts _ _ (sym (list_all-append is_plain_byte xs ys) �
 pub plain_marked : (before behind : List ℕ) (o : Option (List ℕ)) → IsPlain (marked before o behind)
     → IfSome o IsPlain
 plain_marked before behind None e = tt
-plain_marked before behind (Some part) e = (plain_apart before part (plain_apart (before ++ part) behind e).0).1
+plain_marked before behind (Some part) e =
+    (plain_apart before part (plain_apart (before ++ part) behind e).0).1
 
 -- neither byte stands in it
 pub plain_lacks : (text : List ℕ) → IsPlain text → lacks 37 text ≡ true

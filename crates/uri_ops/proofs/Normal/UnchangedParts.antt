@@ -23,7 +23,7 @@ use Rattle.uri_ops.specs.Normal.{host_text, normal_authority}
 use Rattle.uri_ops.proofs.Meanings.AuthorityMeanings.{PartsUtf8, keeps_apart, utf8_parts}
 use Rattle.uri_ops.proofs.Meanings.Cased.{print_cased, print_text}
 use Rattle.uri_ops.proofs.Meanings.HostMeanings.{name_meaning}
-use Rattle.uri_ops.proofs.Meanings.ReadFronts.{read_chars}
+use Rattle.uri_ops.proofs.Meanings.ReadOctets.{read_chars}
 use Rattle.uri_ops.proofs.Meanings.ReadParts.{no_run}
 use Rattle.uri_ops.proofs.Meanings.WrittenFormatting.{no_lead}
 use Rattle.uri_ops.proofs.Normal.UnchangedBytes.{plain_apart, plain_lacks, plain_leads, plain_marked}
@@ -35,7 +35,8 @@ unfolding is_never_literal
 literal_chars set [] e = refl
 literal_chars set (c ∷ cs) e =
     let p = or_parts (is_bidi_formatting c) (list_any is_bidi_formatting cs) e in
-    ap (λ us. us ++ encode_formatting set (map Char cs)) (cond-false _ _ _ (and_right (set.ucschar && set.pct_encoded) (is_bidi_formatting c) p.0))
+    ap (λ us. us ++ encode_formatting set (map Char cs))
+    (cond-false _ _ _ (and_right (set.ucschar && set.pct_encoded) (is_bidi_formatting c) p.0))
     ∙ ap (λ us. Char c ∷ us) (literal_chars set cs p.1)
 
 plain_tokens : (set : TableSet) (text : List ℕ) → IsUtf8 text → IsPlain text
@@ -94,7 +95,8 @@ module _ (kind : Kind) (sets : HasComponentSets kind) (default : Option ℕ) (a 
   host_kept =
       let apart = names_outside kind.userinfo kind.reg_name (keeps_apart kind sets) in
       ap (λ h. host_text (host_meaning kind.reg_name parts.host h)) (name_of parts.host kept.name)
-      ∙ ap host_text (name_meaning kind.reg_name sets.reg_name apart parts.host (ipv4_value parts.host))
+      ∙ ap host_text
+      (name_meaning kind.reg_name sets.reg_name apart parts.host (ipv4_value parts.host))
       ∙ printed_lower kind.reg_name parts.host utf8.host all_plain.1 ∙ kept.lower
 
   -- such an authority is its own normal form
@@ -102,5 +104,6 @@ module _ (kind : Kind) (sets : HasComponentSets kind) (default : Option ℕ) (a 
   authority_kept =
       let user_kept = printed_some kind.userinfo parts.userinfo utf8.userinfo all_plain.0 in
       let port_kept = ap (port_meaning default) kept.port ∙ sym kept.port in
-      (λ i. recompose_authority (record { userinfo = user_kept i; host = host_kept i; port = port_kept i }))
+      (λ i. recompose_authority
+      (record { userinfo = user_kept i; host = host_kept i; port = port_kept i }))
       ∙ grammar.whole

@@ -15,9 +15,9 @@ use Rattle.uri_ops.specs.ComponentSets.{HasComponentSets}
 use Rattle.uri_ops.specs.Meaning.{authority_meaning, meaning_of}
 use Rattle.uri_ops.specs.Models.Unchanged.{AreKept, IsKeptAuthority, IsPlain}
 use Rattle.uri_ops.specs.Normal.{normal_authority, normal_components, normal_path, normal_text}
-use Rattle.uri_ops.specs.Ports.{PortFunction}
+use Rattle.uri_parts.specs.Ports.{PortFunction}
 use Rattle.uri_ops.specs.Target.{guarded}
-use Rattle.uri_ops.specs.Texts.{IsTextOf}
+use Rattle.uri_parts.specs.Grammar.{IsTextOf}
 use Rattle.uri_ops.proofs.Meanings.TextParts.{AreUtf8, components_utf8}
 use Rattle.uri_ops.proofs.Normal.NormalTexts.{parts_of}
 use Rattle.uri_ops.proofs.Normal.UnchangedBytes.{plain_apart, plain_marked}
@@ -49,7 +49,8 @@ authority_stays : (kind : Kind) → HasComponentSets kind → (default : Option 
     → IfSome o IsKeptAuthority
     → option_map normal_authority (option_map (authority_meaning kind default) o) ≡ o
 authority_stays kind sets default None h plain kept = refl
-authority_stays kind sets default (Some a) h plain kept = ap Some (authority_kept kind sets default a h.0 h.1 plain kept)
+authority_stays kind sets default (Some a) h plain kept =
+    ap Some (authority_kept kind sets default a h.0 h.1 plain kept)
 
 -- no `/.` stands before the path
 unguarded_path : (scheme authority : Option (List ℕ)) (path : List ℕ)
@@ -74,14 +75,21 @@ module _ (kind : Kind) (sets : HasComponentSets kind) (ports : PortFunction) (te
   utf8 = components_utf8 text w.utf8
 
   authority_same : option_map normal_authority (meaning_of kind ports text).authority ≡ p.authority
-  authority_same = authority_stays kind sets (option_and_then ports (option_map str_to_ascii_lowercase p.scheme)) p.authority (parts_of kind text w).authority all_plain.authority kept.authority
+  authority_same = authority_stays kind sets
+      (option_and_then ports (option_map str_to_ascii_lowercase p.scheme)) p.authority
+      (parts_of kind text w).authority all_plain.authority kept.authority
 
   path_same : normal_path (meaning_of kind ports text) ≡ p.path
   path_same =
       let printed = ap (λ x. print (read kind.path x)) kept.path.plain
       ∙ printed_plain kind.path p.path utf8.path all_plain.path in
-      ap (λ x. cond (is_some (option_map str_to_ascii_lowercase p.scheme)) (guarded (option_map normal_authority (meaning_of kind ports text).authority) x) x) printed
-      ∙ ap (λ s. cond (is_some s) (guarded (option_map normal_authority (meaning_of kind ports text).authority) p.path) p.path) kept.scheme
+      ap (λ x. cond (is_some (option_map str_to_ascii_lowercase p.scheme))
+      (guarded (option_map normal_authority (meaning_of kind ports text).authority) x) x)
+      printed
+      ∙ ap
+      (λ s. cond (is_some s) (guarded
+      (option_map normal_authority (meaning_of kind ports text).authority) p.path) p.path)
+      kept.scheme
       ∙ ap (λ a. cond (is_some p.scheme) (guarded a p.path) p.path) authority_same
       ∙ unguarded_path p.scheme p.authority p.path split.no_authority
 
@@ -89,7 +97,14 @@ module _ (kind : Kind) (sets : HasComponentSets kind) (ports : PortFunction) (te
   components_same =
       let query_same = printed_some kind.query p.query utf8.query all_plain.query in
       let fragment_same = printed_some kind.fragment p.fragment utf8.fragment all_plain.fragment in
-      λ i. record { scheme = kept.scheme i; authority = authority_same i; path = path_same i; query = query_same i; fragment = fragment_same i }
+      λ i. record {
+        scheme = kept.scheme i;
+        authority = authority_same i;
+        path =
+            path_same i;
+        query = query_same i;
+        fragment = fragment_same i;
+      }
 
   -- it is its own normal text
   pub text_stays : text ≡ normal_text (meaning_of kind ports text)

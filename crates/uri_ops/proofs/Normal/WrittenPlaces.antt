@@ -15,11 +15,11 @@ use Rattle.uri_parts.specs.Components.{components}
 use Rattle.uri_parts.specs.Grammar.{Kind}
 use Rattle.uri_ops.specs.Meaning.{authority_meaning, meaning_of}
 use Rattle.uri_ops.specs.Normal.{normal_authority, normal_components, normal_parts}
-use Rattle.uri_ops.specs.NormalPaths.{path_text}
-use Rattle.uri_ops.specs.Ports.{PortFunction}
+use Rattle.uri_ops.specs.Normal.{path_text}
+use Rattle.uri_parts.specs.Ports.{PortFunction}
 use Rattle.uri_ops.proofs.Normal.NormalPieces.{path_written}
 use Rattle.uri_ops.specs.Models.Places.{before_path}
-use Rattle.uri_ops.specs.Models.Written.{parts_at, written_at}
+use Rattle.uri_ops.specs.Models.Written.{authority_parts_at, written_at}
 
 pub length-behind : (part : Option (List ℕ)) (mark : ℕ)
     → length (marked [] part (mark ∷ [])) ≡ marked_length 1 part
@@ -37,7 +37,7 @@ pub parts_placed : (p : AuthorityParts) (o0 o1 o2 o3 : List ℕ)
     → o3 ≡ o2 ++ marked (codes ":") p.port []
     → (let x : AuthorityPositions = record
     { start = length o0; host_start = length o1; host_end = length o2; end = length o3 } in x)
-    ≡ parts_at (length o0) p
+    ≡ authority_parts_at (length o0) p
 parts_placed p o0 o1 o2 o3 e1 e2 e3 =
     let user = marked [] p.userinfo (codes "@") in
     let port = marked (codes ":") p.port [] in
@@ -59,7 +59,7 @@ parts_placed p o0 o1 o2 o3 e1 e2 e3 =
 
 -- by its text, where that is cut into these parts
 pub parts_cut : (place : ℕ) (p : AuthorityParts) → authority_parts (recompose_authority p) ≡ p
-    → parts_at place p ≡ authority_at place (recompose_authority p)
+    → authority_parts_at place p ≡ authority_at place (recompose_authority p)
 parts_cut place p cut = ap
     (λ (q : AuthorityParts). let host = marked_length 1 q.userinfo in let x : AuthorityPositions =
     record {
@@ -71,7 +71,7 @@ parts_cut place p cut = ap
 
 -- and components of which the authority is cut into these parts
 pub cut_placed : (c : Components) (parts : Option AuthorityParts)
-    → option_map (parts_at (marked_length 1 c.scheme + 2)) parts
+    → option_map (authority_parts_at (marked_length 1 c.scheme + 2)) parts
     ≡ option_map (authority_at (marked_length 1 c.scheme + 2)) c.authority
     → written_at c parts ≡ positions_of c
 cut_placed c parts e = ap
@@ -118,7 +118,7 @@ pub written_placed : (p : Components) (parts : Option AuthorityParts) (o0 o1 o2 
     → o1 ≡ o0 ++ marked [] p.scheme (codes ":") → o2 ≡ o1 ++ marked (codes "//") p.authority []
     → o3 ≡ o2 ++ p.path → start ≡ length o2 → stop ≡ length o3
     → end ≡ option_map (λ s. length o0 + length s) p.scheme
-    → authority ≡ option_map (parts_at (length o1 + 2)) parts
+    → authority ≡ option_map (authority_parts_at (length o1 + 2)) parts
     → query ≡ option_map (λ s. length o3 + 1 + length s) p.query
     → (let x : Positions = record {
       scheme_end = end;
@@ -149,7 +149,7 @@ written_placed p parts o0 o1 o2 o3 start stop end query authority e0 e1 e2 e3 st
     ) in
     let w = ends_at p o2 o3 start stop query n2 e3 starts stops queries in
     let f = ends ∙ ap (λ n. option_map (λ s. n + length s) p.scheme) n0 ∙ from_zero p.scheme in
-    let g = lies ∙ ap (λ n. option_map (parts_at (n + 2)) parts) n1 in
+    let g = lies ∙ ap (λ n. option_map (authority_parts_at (n + 2)) parts) n1 in
     λ i. record {
       scheme_end = f i;
       authority = g i;
@@ -207,7 +207,7 @@ pub normal_placed : (kind : Kind) (ports : PortFunction) (text : List ℕ) (old 
     → start ≡ length o2 → stop ≡ length o3
     → end ≡ option_map (λ s. length old + length s) scheme
     → places ≡ option_map
-    (λ a. parts_at (length o1 + 2) (normal_parts (authority_meaning kind default a)))
+    (λ a. authority_parts_at (length o1 + 2) (normal_parts (authority_meaning kind default a)))
     p.authority
     → query ≡ option_map (λ s. length o3 + 1 + length s)
     (option_map print (option_map (read kind.query) p.query))
@@ -229,5 +229,6 @@ normal_placed kind ports text old o1 o2 o3 start stop end query places empty e1 
     written_placed (normal_components m) (option_map normal_parts m.authority) old o1 o2 o3 start
     stop end query places empty e1 e2
     (e3 ∙ ap (λ t. o2 ++ t) (path_written kind ports text)) starts stops ends
-    (lies ∙ of_parts (parts_at (length o1 + 2)) normal_parts (authority_meaning kind default)
+    (lies ∙ of_parts (authority_parts_at (length o1 + 2)) normal_parts
+    (authority_meaning kind default)
     (components text).authority) queries

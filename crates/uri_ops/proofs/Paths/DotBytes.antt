@@ -14,6 +14,7 @@ use Rattle.std.proofs.lemmas.Bool.Decides.{nat_tests}
 use Rattle.uri_pct.specs.Tokens.{tokens, tokens_of, token_bytes, is_pct_encoded}
 use Rattle.uri_ops.specs.Dots.{dots, is_single_dot, is_double_dot}
 use Rattle.uri_ops.proofs.Paths.Segments.{same_of}
+use Rattle.uri_pct.proofs.ValidTexts.Allowed.{hexdigit_below}
 
 -- one of the spellings of a dot
 pub record IsDot (text : List ℕ) : Type 0 where
@@ -35,7 +36,9 @@ some_dot test e = ⊎_elim
 -- what holds of each dot
 pub each_dot : (P : List ℕ → Type 0) → P (codes ".") → P (codes "%2E") → P (codes "%2e")
     → (dot : List ℕ) → IsDot dot → P dot
-each_dot P one upper lower dot d = ⊎_elim (λ e. subst P (sym e) one) (λ f. ⊎_elim (λ e. subst P (sym e) upper) (λ e. subst P (sym e) lower) f) d.spelt
+each_dot P one upper lower dot d =
+    ⊎_elim (λ e. subst P (sym e) one)
+    (λ f. ⊎_elim (λ e. subst P (sym e) upper) (λ e. subst P (sym e) lower) f) d.spelt
 
 dot_bytes : (first : List ℕ) → IsDot first → token_bytes (tokens first) ≡ 46 ∷ []
 unfolding chars tokens_of is_pct_encoded encode_utf8
@@ -45,7 +48,8 @@ two_dots_bytes : (first second : List ℕ) → IsDot first → IsDot second
     → token_bytes (tokens (first ++ second)) ≡ 46 ∷ 46 ∷ []
 unfolding chars tokens_of is_pct_encoded encode_utf8
 two_dots_bytes first second d e =
-    let P : List ℕ → List ℕ → Type 0 = λ first second. token_bytes (tokens (first ++ second)) ≡ 46 ∷ 46 ∷ [] in
+    let P : List ℕ → List ℕ → Type 0 = λ first second. token_bytes (tokens (first ++ second))
+    ≡ 46 ∷ 46 ∷ [] in
     each_dot (λ first. P first second)
     (each_dot (P (codes ".")) refl refl refl second e)
     (each_dot (P (codes "%2E")) refl refl refl second e)
@@ -74,24 +78,23 @@ record BeginsWithDot (cs bytes : List ℕ) : Type 0 where
 
 first_is_dot : (c : ℕ) (more bytes : List ℕ) → encode_utf8 c ++ more ≡ 46 ∷ bytes
     → (c ≡ 46) × (more ≡ bytes)
-first_is_dot c more bytes e = encode_same c 46 more bytes (e ∙ sym (ap (λ t. t ++ bytes) (encode_ascii 46 (omega arith))))
+first_is_dot c more bytes e = encode_same c 46 more bytes
+    (e ∙ sym (ap (λ t. t ++ bytes) (encode_ascii 46 (omega arith))))
 
 two_digits : (h l : ℕ) → is_ascii_hexdigit h ≡ true → is_ascii_hexdigit l ≡ true
     → 16 * digit_value h + digit_value l ≡ 46 → (h ≡ 50) × ((l ≡ 69) ⊎ (l ≡ 101))
 two_digits h l e f g =
-    let low : digit_value l < 16 = low_digit l f in
+    let low : digit_value l < 16 = hexdigit_below l f in
     let high : digit_value h ≡ 2 = omega arith in
     let rest : digit_value l ≡ 14 = omega arith in
     (is_two h e high, is_fourteen l f rest)
   where
-    low_digit : (l : ℕ) → is_ascii_hexdigit l ≡ true → digit_value l < 16
-    low_digit l f = grind (arith, nat_tests)
-
     is_two : (h : ℕ) → is_ascii_hexdigit h ≡ true → digit_value h ≡ 2 → h ≡ 50
     is_two h e g = grind (arith, nat_tests)
 
     is_fourteen : (l : ℕ) → is_ascii_hexdigit l ≡ true → digit_value l ≡ 14 → (l ≡ 69) ⊎ (l ≡ 101)
-    is_fourteen l e g = ⊎_elim (λ k. inl (upper l e g k)) (λ k. inr (lower l e g k)) (cases_Bool (eqb l 69))
+    is_fourteen l e g = ⊎_elim (λ k. inl (upper l e g k)) (λ k. inr (lower l e g k))
+        (cases_Bool (eqb l 69))
       where
         upper : (l : ℕ) → is_ascii_hexdigit l ≡ true → digit_value l ≡ 14 → eqb l 69 ≡ true → l ≡ 69
         upper l e g k = eqb-true l 69 k
@@ -112,7 +115,8 @@ octet_is_dot c h l rest bytes e f =
     let q = and_parts (is_ascii_hexdigit h) (is_ascii_hexdigit l) p.1 in
     let s = head_same _ 46 (token_bytes (tokens_of rest)) bytes f in
     let d = two_digits h l q.0 q.1 s.0 in
-    let dot : IsDot (c ∷ h ∷ l ∷ []) = record { spelt = inr (spelling c h l (eqb-true c 37 p.0) d.0 d.1) } in
+    let dot : IsDot (c ∷ h ∷ l ∷ []) =
+    record { spelt = inr (spelling c h l (eqb-true c 37 p.0) d.0 d.1) } in
     record { dot = c ∷ h ∷ l ∷ []; rest = rest; is_dot = dot; whole = refl; behind = s.1 }
   where
     spelling : (c h l : ℕ) → c ≡ 37 → h ≡ 50 → (l ≡ 69) ⊎ (l ≡ 101)
@@ -124,10 +128,18 @@ char_is_dot : (c : ℕ) (rest bytes : List ℕ)
     → encode_utf8 c ++ token_bytes (tokens_of rest) ≡ 46 ∷ bytes → BeginsWithDot (c ∷ rest) bytes
 char_is_dot c rest bytes e =
     let s = first_is_dot c (token_bytes (tokens_of rest)) bytes e in
-    record { dot = c ∷ []; rest = rest; is_dot = record { spelt = inl (ap (λ d. d ∷ []) s.0) }; whole = refl; behind = s.1 }
+    record {
+      dot = c ∷ [];
+      rest = rest;
+      is_dot =
+          record { spelt = inl (ap (λ d. d ∷ []) s.0) };
+      whole = refl;
+      behind = s.1;
+    }
 
 some_bytes : (c : ℕ) (more : List ℕ) → encode_utf8 c ++ more ≡ [] → ⊥
-some_bytes c more e = omega (arith, ap length e, length-append (encode_utf8 c) more, length-encode c, (len_utf8_bounds c).0)
+some_bytes c more e = omega
+    (arith, ap length e, length-append (encode_utf8 c) more, length-encode c, (len_utf8_bounds c).0)
 
 nil_cons : (b : ℕ) (bs : List ℕ) → [] ≡ b ∷ bs → ⊥
 nil_cons b bs e = cc
@@ -196,18 +208,21 @@ from_bytes_double : (s : List ℕ) → IsUtf8 s → token_bytes (tokens s) ≡ 4
 from_bytes_double s u e = ap is_double_dot (sym (encodes-chars s u)) ∙ double_dot_chars (chars s) e
 
 same_tests : (a b : Bool) → (a ≡ true → b ≡ true) → (b ≡ true → a ≡ true) → a ≡ b
-same_tests a b f g = ⊎_elim (λ e. e ∙ sym (f e)) (λ e. e ∙ sym (false_from_ne_true b (λ h. false≢true (sym e ∙ g h)))) (cases_Bool a)
+same_tests a b f g = ⊎_elim (λ e. e ∙ sym (f e))
+    (λ e. e ∙ sym (false_from_ne_true b (λ h. false≢true (sym e ∙ g h)))) (cases_Bool a)
 
 -- texts that stand for the same bytes are alike single dots, and double dots
 pub same_single_dot : (s t : List ℕ) → IsUtf8 s → IsUtf8 t
     → token_bytes (tokens s) ≡ token_bytes (tokens t) → is_single_dot s ≡ is_single_dot t
 same_single_dot s t u v e = same_tests (is_single_dot s) (is_single_dot t)
-    (λ h. from_bytes_single t v (sym e ∙ single_dot_bytes s h)) (λ h. from_bytes_single s u (e ∙ single_dot_bytes t h))
+    (λ h. from_bytes_single t v (sym e ∙ single_dot_bytes s h))
+    (λ h. from_bytes_single s u (e ∙ single_dot_bytes t h))
 
 pub same_double_dot : (s t : List ℕ) → IsUtf8 s → IsUtf8 t
     → token_bytes (tokens s) ≡ token_bytes (tokens t) → is_double_dot s ≡ is_double_dot t
 same_double_dot s t u v e = same_tests (is_double_dot s) (is_double_dot t)
-    (λ h. from_bytes_double t v (sym e ∙ double_dot_bytes s h)) (λ h. from_bytes_double s u (e ∙ double_dot_bytes t h))
+    (λ h. from_bytes_double t v (sym e ∙ double_dot_bytes s h))
+    (λ h. from_bytes_double s u (e ∙ double_dot_bytes t h))
 
 -- a text that stands for no bytes is empty
 pub empty_from_bytes : (s : List ℕ) → IsUtf8 s → token_bytes (tokens s) ≡ [] → s ≡ []

@@ -44,7 +44,9 @@ closed_front : (P : List ℕ → Type 0)
 unfolding slashed
 closed_front P each [] h = each [] refl
 closed_front P each (c ∷ front) h =
-    subst P (slashed_push (segments front) [] ∙ ap (λ t. t ++ 47 ∷ []) (slashed_segments front ∙ ap (λ d. d ∷ front) (sym (eqb-true c 47 (true_of _ h)))))
+    subst P (slashed_push (segments front) []
+    ∙ ap (λ t. t ++ 47 ∷ []) (slashed_segments front
+    ∙ ap (λ d. d ∷ front) (sym (eqb-true c 47 (true_of _ h)))))
     (each (segments front) (segments_lack front))
 
 pub by_closed : (P : List ℕ → Type 0)
@@ -76,17 +78,22 @@ cleaned_lack segs e = cleaned_passes lacks_slash lacks_slash (λ s f d. f) refl 
 -- a path without dot segments is left as it is
 pub plain_segments : (segs : List (List ℕ)) → NoSlashes segs
     → lacks_dot_segments (slashed segs) ≡ true → Passes is_plain segs
-plain_segments segs e f = (and_parts true (list_all is_plain segs) (sym (ap (list_all is_plain) (segments_slashed segs e)) ∙ f)).1
+plain_segments segs e f =
+    (and_parts true (list_all is_plain segs)
+    (sym (ap (list_all is_plain) (segments_slashed segs e)) ∙ f)).1
 
 pub removed_of_plain : (path : List ℕ) → IsAbsolute path → lacks_dot_segments path ≡ true
     → remove_dot_segments path ≡ path
-removed_of_plain = by_segments (λ path. lacks_dot_segments path ≡ true → remove_dot_segments path ≡ path)
-    (λ s rest e f. remove_slashed (s ∷ rest) e ∙ ap slashed (cleaned_plain (s ∷ rest) (plain_segments (s ∷ rest) e f)))
+removed_of_plain =
+    by_segments (λ path. lacks_dot_segments path ≡ true → remove_dot_segments path ≡ path)
+    (λ s rest e f. remove_slashed (s ∷ rest) e
+    ∙ ap slashed (cleaned_plain (s ∷ rest) (plain_segments (s ∷ rest) e f)))
 
 pub underflows_of_plain : (path : List ℕ) → IsAbsolute path → lacks_dot_segments path ≡ true
     → underflows path ≡ false
 underflows_of_plain = by_segments (λ path. lacks_dot_segments path ≡ true → underflows path ≡ false)
-    (λ s rest e f. underflows_slashed (s ∷ rest) e ∙ sinks_plain false [] (s ∷ rest) (plain_segments (s ∷ rest) e f))
+    (λ s rest e f. underflows_slashed (s ∷ rest) e
+    ∙ sinks_plain false [] (s ∷ rest) (plain_segments (s ∷ rest) e f))
 
 -- what is left has no dot segment and begins with `/`
 pub absolute_slashed : (segs : List (List ℕ)) → is_none segs ≡ false → IsAbsolute (slashed segs)
@@ -107,12 +114,14 @@ some_refl s rest = refl
 
 pub removed_absolute : (path : List ℕ) → IsAbsolute path → IsAbsolute (remove_dot_segments path)
 removed_absolute = by_segments (λ path. IsAbsolute (remove_dot_segments path))
-    (λ s rest e. subst IsAbsolute (sym (remove_slashed (s ∷ rest) e)) (absolute_slashed (cleaned (s ∷ rest)) (cleaned_some (s ∷ rest) (some_refl s rest))))
+    (λ s rest e. subst IsAbsolute (sym (remove_slashed (s ∷ rest) e))
+    (absolute_slashed (cleaned (s ∷ rest)) (cleaned_some (s ∷ rest) (some_refl s rest))))
 
 -- twice is once
 pub removed_twice : (path : List ℕ) → IsAbsolute path
     → remove_dot_segments (remove_dot_segments path) ≡ remove_dot_segments path
-removed_twice path h = removed_of_plain (remove_dot_segments path) (removed_absolute path h) (removed_lacks path h)
+removed_twice path h = removed_of_plain (remove_dot_segments path) (removed_absolute path h)
+    (removed_lacks path h)
 
 -- the directory of a path that is empty or begins with `/` begins with and ends in `/`
 directory_text : (segs : List (List ℕ)) → is_none segs ≡ false → NoSlashes segs
@@ -129,38 +138,51 @@ pub directory_absolute : (path : List ℕ) → IsRooted path → IsAbsolute (dir
 unfolding directory
 directory_absolute = rooted (λ path. IsAbsolute (directory path)) (search rules)
     (by_segments (λ path. IsAbsolute (directory path))
-    (λ s rest e. subst IsAbsolute (sym (directory_slashed s rest e)) (absolute_slashed (parent (s ∷ rest) ++ [] ∷ []) (none_push (parent (s ∷ rest)) []))))
+    (λ s rest e. subst IsAbsolute (sym (directory_slashed s rest e))
+    (absolute_slashed (parent (s ∷ rest) ++ [] ∷ []) (none_push (parent (s ∷ rest)) []))))
 
 pub directory_ends : (path : List ℕ) → IsRooted path → EndsInSlash (directory path)
 unfolding directory
 directory_ends = rooted (λ path. EndsInSlash (directory path)) ([], refl)
     (by_segments (λ path. EndsInSlash (directory path))
-    (λ s rest e. (slashed (parent (s ∷ rest)), directory_slashed s rest e ∙ slashed_push (parent (s ∷ rest)) [])))
+    (λ s rest e. (
+      slashed (parent (s ∷ rest)),
+      directory_slashed s rest e
+          ∙ slashed_push (parent (s ∷ rest)) [],
+    )))
 
 -- a directory's dot segments may be removed before or after
 pub removed_directory : (path : List ℕ) → IsRooted path
     → remove_dot_segments (directory path) ≡ directory (remove_dot_segments path)
 unfolding remove_dot_segments directory run
-removed_directory = rooted (λ path. remove_dot_segments (directory path) ≡ directory (remove_dot_segments path)) refl
-    (by_segments (λ path. remove_dot_segments (directory path) ≡ directory (remove_dot_segments path))
+removed_directory = rooted (λ path. remove_dot_segments (directory path)
+    ≡ directory (remove_dot_segments path)) refl
+    (by_segments (λ path. remove_dot_segments (directory path)
+    ≡ directory (remove_dot_segments path))
     (λ s rest e.
     ap remove_dot_segments (directory_slashed s rest e)
-    ∙ remove_slashed (parent (s ∷ rest) ++ [] ∷ []) (closed_lacks (parent (s ∷ rest)) (parent_passes lacks_slash (s ∷ rest) e))
+    ∙ remove_slashed (parent (s ∷ rest) ++ [] ∷ [])
+    (closed_lacks (parent (s ∷ rest)) (parent_passes lacks_slash (s ∷ rest) e))
     ∙ ap slashed (cleaned_parent s rest)
     ∙ sym (ap directory (remove_slashed (s ∷ rest) e)
-    ∙ directory_text (cleaned (s ∷ rest)) (cleaned_some (s ∷ rest) (some_refl s rest)) (cleaned_lack (s ∷ rest) e))))
+    ∙ directory_text (cleaned (s ∷ rest)) (cleaned_some (s ∷ rest) (some_refl s rest))
+    (cleaned_lack (s ∷ rest) e))))
 
 -- of a path in two pieces, the front's may be removed first
 pub removed_in_pieces : (front q : List ℕ) → IsAbsolute front → EndsInSlash front
     → remove_dot_segments (front ++ q) ≡ remove_dot_segments (remove_dot_segments front ++ q)
-removed_in_pieces front q = by_closed (λ front. remove_dot_segments (front ++ q) ≡ remove_dot_segments (remove_dot_segments front ++ q))
+removed_in_pieces front q = by_closed
+    (λ front. remove_dot_segments (front ++ q)
+    ≡ remove_dot_segments (remove_dot_segments front ++ q))
     (λ segs e.
     ap remove_dot_segments (behind segs q)
     ∙ remove_slashed (segs ++ segments q) (behind_lacks segs q e)
     ∙ ap slashed (cleaned_front segs (segments q) (segments_some q))
-    ∙ sym (ap (λ t. remove_dot_segments (t ++ q)) (remove_slashed (segs ++ [] ∷ []) (closed_lacks segs e) ∙ ap slashed (cleaned_closed segs))
+    ∙ sym (ap (λ t. remove_dot_segments (t ++ q))
+    (remove_slashed (segs ++ [] ∷ []) (closed_lacks segs e) ∙ ap slashed (cleaned_closed segs))
     ∙ ap remove_dot_segments (behind (steps [] segs) q)
-    ∙ remove_slashed (steps [] segs ++ segments q) (behind_lacks (steps [] segs) q (steps_lack segs e))))
+    ∙ remove_slashed (steps [] segs ++ segments q)
+    (behind_lacks (steps [] segs) q (steps_lack segs e))))
     front
 
 -- a base's may be removed before merging
@@ -179,21 +201,27 @@ underflows_directory = rooted (λ path. underflows (directory path) ≡ underflo
     (by_segments (λ path. underflows (directory path) ≡ underflows path)
     (λ s rest e.
     ap underflows (directory_slashed s rest e)
-    ∙ underflows_slashed (parent (s ∷ rest) ++ [] ∷ []) (closed_lacks (parent (s ∷ rest)) (parent_passes lacks_slash (s ∷ rest) e))
+    ∙ underflows_slashed (parent (s ∷ rest) ++ [] ∷ [])
+    (closed_lacks (parent (s ∷ rest)) (parent_passes lacks_slash (s ∷ rest) e))
     ∙ sinks_closed false [] (parent (s ∷ rest)) ∙ sinks_parent false [] (s ∷ rest)
     ∙ sym (underflows_slashed (s ∷ rest) e)))
 
 pub underflows_in_pieces : (front q : List ℕ) → IsAbsolute front → EndsInSlash front
     → underflows (front ++ q) ≡ (underflows front || underflows (remove_dot_segments front ++ q))
-underflows_in_pieces front q = by_closed (λ front. underflows (front ++ q) ≡ (underflows front || underflows (remove_dot_segments front ++ q)))
+underflows_in_pieces front q =
+    by_closed (λ front. underflows (front ++ q)
+    ≡ (underflows front || underflows (remove_dot_segments front ++ q)))
     (λ segs e.
     ap underflows (behind segs q) ∙ underflows_slashed (segs ++ segments q) (behind_lacks segs q e)
     ∙ sinks_front segs (segments q)
-    ∙ sym (ap (λ b. b || underflows (remove_dot_segments (slashed (segs ++ [] ∷ [])) ++ q)) (underflows_slashed (segs ++ [] ∷ []) (closed_lacks segs e) ∙ sinks_closed false [] segs)
+    ∙ sym (ap (λ b. b || underflows (remove_dot_segments (slashed (segs ++ [] ∷ [])) ++ q))
+    (underflows_slashed (segs ++ [] ∷ []) (closed_lacks segs e) ∙ sinks_closed false [] segs)
     ∙ ap (λ b. sinks false [] segs || b) (
-    ap (λ t. underflows (t ++ q)) (remove_slashed (segs ++ [] ∷ []) (closed_lacks segs e) ∙ ap slashed (cleaned_closed segs))
+    ap (λ t. underflows (t ++ q)) (remove_slashed (segs ++ [] ∷ []) (closed_lacks segs e)
+    ∙ ap slashed (cleaned_closed segs))
     ∙ ap underflows (behind (steps [] segs) q)
-    ∙ underflows_slashed (steps [] segs ++ segments q) (behind_lacks (steps [] segs) q (steps_lack segs e)))))
+    ∙ underflows_slashed (steps [] segs ++ segments q)
+    (behind_lacks (steps [] segs) q (steps_lack segs e)))))
     front
 
 pub underflows_merged : (path q : List ℕ) → IsRooted path
@@ -201,7 +229,8 @@ pub underflows_merged : (path q : List ℕ) → IsRooted path
     ≡ (underflows path || underflows (directory (remove_dot_segments path) ++ q))
 underflows_merged path q h =
     underflows_in_pieces (directory path) q (directory_absolute path h) (directory_ends path h)
-    ∙ ap (λ b. b || underflows (remove_dot_segments (directory path) ++ q)) (underflows_directory path h)
+    ∙ ap (λ b. b || underflows (remove_dot_segments (directory path) ++ q))
+    (underflows_directory path h)
     ∙ ap (λ t. underflows path || underflows (t ++ q)) (removed_directory path h)
 
 -- nothing gets longer
@@ -213,7 +242,13 @@ length_pop : (xs : List (List ℕ)) → length (slashed (pop xs)) ≤ length (sl
 unfolding pop slashed
 length_pop [] = omega arith
 length_pop (s ∷ []) = omega arith
-length_pop (s ∷ t ∷ rest) = omega (arith, length_pop (t ∷ rest), length-append s (slashed (pop (t ∷ rest))), length-append s (slashed (t ∷ rest)))
+length_pop (s ∷ t ∷ rest) = omega (
+  arith,
+  length_pop (t ∷ rest),
+  length-append s (slashed (pop (t ∷ rest))),
+  length-append s
+      (slashed (t ∷ rest)),
+)
 
 -- a dot segment has room for the `/` that it leaves
 dot_some : (s : List ℕ) → is_dot_segment s ≡ true → 0 < length s
@@ -226,18 +261,35 @@ length_segment s = omega (arith, length-append s [])
 
 length_turn : (single double : Bool) (output : List (List ℕ)) (s : List ℕ)
     → ((single || double) ≡ true → 0 < length s) →
-    length (slashed (turn single double output s ++ end_of (single || double))) ≤ length (slashed output) + length (slashed (s ∷ []))
+    length (slashed (turn single double output s ++ end_of (single || double)))
+    ≤ length (slashed output) + length (slashed (s ∷ []))
 unfolding turn
-length_turn true double output s h = omega (arith, h refl, length_pair output ([] ∷ []), length_segment [], length_segment s)
-length_turn false true output s h = omega (arith, h refl, length_pop output, length_pair (pop output) ([] ∷ []), length_segment [], length_segment s)
-length_turn false false output s h = omega (arith, ap (λ t. length (slashed t)) (append-nil (output ++ s ∷ [])), length_pair output (s ∷ []))
+length_turn true double output s h =
+    omega (arith, h refl, length_pair output ([] ∷ []), length_segment [], length_segment s)
+length_turn false true output s h =
+    omega (
+      arith,
+      h refl,
+      length_pop output,
+      length_pair (pop output) ([] ∷ []),
+      length_segment [],
+      length_segment s,
+    )
+length_turn false false output s h =
+    omega (
+      arith,
+      ap (λ t. length (slashed t)) (append-nil (output ++ s ∷ [])),
+      length_pair output
+          (s ∷ []),
+    )
 
 length_more : (xs : List (List ℕ)) (dot : Bool)
     → length (slashed xs) ≤ length (slashed (xs ++ end_of dot))
 length_more xs dot = omega (arith, length_pair xs (end_of dot))
 
 length_steps : (output segs : List (List ℕ))
-    → length (slashed (steps output segs ++ closing segs)) ≤ length (slashed output) + length (slashed segs)
+    → length (slashed (steps output segs ++ closing segs))
+    ≤ length (slashed output) + length (slashed segs)
 unfolding steps closing step_of
 length_steps output [] = omega (arith, ap (λ t. length (slashed t)) (append-nil output))
 length_steps output (s ∷ []) = length_turn (is_single_dot s) (is_double_dot s) output s (dot_some s)

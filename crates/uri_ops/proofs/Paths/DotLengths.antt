@@ -21,13 +21,15 @@ use Rattle.uri_ops.proofs.Paths.TakenSegments.{absolute_is}
 
 -- what a dot takes, whatever follows
 dot_len_of : (d : List ℕ) → IsDot d → (r : List ℕ) → dot_len (d ++ r) ≡ length d
-dot_len_of = each_dot (λ d. (r : List ℕ) → dot_len (d ++ r) ≡ length d) (λ r. refl) (λ r. refl) (λ r. refl)
+dot_len_of = each_dot (λ d. (r : List ℕ) → dot_len (d ++ r) ≡ length d) (λ r. refl) (λ r. refl)
+    (λ r. refl)
 
 dot_some : (d : List ℕ) → IsDot d → 0 < length d
 dot_some = each_dot (λ d. 0 < length d) (omega arith) (omega arith) (omega arith)
 
 dot_single : (d : List ℕ) → IsDot d → (has_slash d ≡ false) × (is_single_dot d ≡ true)
-dot_single = each_dot (λ d. (has_slash d ≡ false) × (is_single_dot d ≡ true)) (refl, refl) (refl, refl) (refl, refl)
+dot_single = each_dot (λ d. (has_slash d ≡ false) × (is_single_dot d ≡ true)) (refl, refl)
+    (refl, refl) (refl, refl)
 
 IsDouble : List ℕ → List ℕ → Type 0
 IsDouble d e = (has_slash (d ++ e) ≡ false) × (is_double_dot (d ++ e) ≡ true)
@@ -54,7 +56,8 @@ three_bytes (p ∷ q ∷ []) x a b c some = absurd (omega (arith, c, some))
 three_bytes (p ∷ q ∷ r ∷ text) x a b c some = cc
 
 spelt_at : (text : List ℕ)
-    → (eqb (get_or text 0 0) 37 && (eqb (get_or text 1 0) 50 && (eqb (get_or text 2 0) 69 || eqb (get_or text 2 0) 101))) ≡ true
+    → (eqb (get_or text 0 0) 37 && (eqb (get_or text 1 0) 50
+    && (eqb (get_or text 2 0) 69 || eqb (get_or text 2 0) 101))) ≡ true
     → IsDot (take 3 text)
 spelt_at text e =
     let f = and_parts (eqb (get_or text 0 0) 37) _ e in
@@ -62,15 +65,22 @@ spelt_at text e =
     let percent = eqb-true _ 37 f.0 in
     let two = eqb-true _ 50 g.0 in
     ⊎_elim
-    (λ h. record { spelt = inr (inl (three_bytes text 69 percent two (eqb-true _ 69 h) (omega arith))) })
-    (λ h. record { spelt = inr (inr (three_bytes text 101 percent two (eqb-true _ 101 h) (omega arith))) })
+    (λ h. record {
+      spelt =
+          inr (inl (three_bytes text 69 percent two (eqb-true _ 69 h) (omega arith)));
+    })
+    (λ h. record {
+      spelt =
+          inr (inr (three_bytes text 101 percent two (eqb-true _ 101 h) (omega arith)));
+    })
     (or_cases (eqb (get_or text 2 0) 69) _ g.1)
 
 dot_at : (text : List ℕ) (n : ℕ) → n ≡ dot_len text → 0 < n → IsDot (take n text)
 dot_at text n is some = ⊎_elim
     (λ e.
     let one : n ≡ 1 = is ∙ cond-true _ _ _ e in
-    subst (λ m. IsDot (take m text)) (sym one) (record { spelt = inl (one_byte text (eqb-true _ 46 e)) }))
+    subst (λ m. IsDot (take m text)) (sym one)
+    (record { spelt = inl (one_byte text (eqb-true _ 46 e)) }))
     (λ e. ⊎_elim
     (λ f.
     let three : n ≡ 3 = is ∙ cond-false _ _ _ e ∙ cond-true _ _ _ f in
@@ -114,7 +124,8 @@ module _ (path : List ℕ) (first second : ℕ) (at : first ≡ dot_len path)
     (next : second ≡ dot_len (drop first path)) where
   first_some : 0 < first + second → 0 < first
   first_some some = ⊎_elim
-      (λ (none : first ≡ 0). absurd (omega (arith, some, none, next ∙ ap (λ n. dot_len (drop n path)) none ∙ sym at ∙ none)))
+      (λ (none : first ≡ 0). absurd
+      (omega (arith, some, none, next ∙ ap (λ n. dot_len (drop n path)) none ∙ sym at ∙ none)))
       (λ h. h)
       (some_or_none first)
     where
@@ -136,8 +147,10 @@ module _ (path : List ℕ) (first second : ℕ) (at : first ≡ dot_len path)
   unfolding IsDouble
   double_told some =
       let before = first_some (omega (arith, some)) in
-      subst (λ t. (has_slash t ≡ false) × (is_double_dot t ≡ true)) (sym (take-add first second path))
-      (dots_double (take first path) (take second (drop first path)) (dot_at path first at before) (dot_at (drop first path) second next some))
+      subst (λ t. (has_slash t ≡ false) × (is_double_dot t ≡ true))
+      (sym (take-add first second path))
+      (dots_double (take first path) (take second (drop first path)) (dot_at path first at before)
+      (dot_at (drop first path) second next some))
 
   -- a dot segment that stands first is told, with what ends it
   Told : List ℕ → Type 0
@@ -149,8 +162,11 @@ module _ (path : List ℕ) (first second : ℕ) (at : first ≡ dot_len path)
       let w = some_dot (bytes_eq s) single in
       let dot : IsDot s = subst IsDot (sym (same_of s w.0 w.1.1)) w.1.0 in
       let one : first ≡ length s = at ∙ ap dot_len whole ∙ dot_len_of s dot r in
-      let rest : drop first path ≡ r = ap (drop first) whole ∙ drop_at s r first (sym one) in
-      (omega (arith, one, next ∙ ap dot_len rest ∙ rooted_none r rooted), omega (arith, one, dot_some s dot))
+      let rest : drop first path ≡ r = ap (drop first) whole ∙ drop_at s r first (sym one) in (
+        omega (arith, one, next ∙ ap dot_len rest ∙ rooted_none r rooted),
+        omega
+            (arith, one, dot_some s dot),
+      )
 
   two_told : (s r : List ℕ) → path ≡ s ++ r → is_double_dot s ≡ true
       → (first + second ≡ length s) × (0 < second)

@@ -29,7 +29,20 @@ normal : Removes (codes "/b/c/g") (codes "/b/c/g")
     × Removes (codes "/b/c/../../") (codes "/")
     × Removes (codes "/b/c/../../g") (codes "/g")
 unfolding Removes remove_dot_segments underflows run
-normal = ((refl, refl), (refl, refl), (refl, refl), (refl, refl), (refl, refl), (refl, refl), (refl, refl), (refl, refl), (refl, refl), (refl, refl), (refl, refl), (refl, refl))
+normal = (
+  (refl, refl),
+  (refl, refl),
+  (refl, refl),
+  (refl, refl),
+  (refl, refl),
+  (refl, refl),
+  (refl, refl),
+  (refl, refl),
+  (refl, refl),
+  (refl, refl),
+  (refl, refl),
+  (refl, refl),
+)
 
 abnormal : Underflows (codes "/b/c/../../../g") (codes "/g")
     × Underflows (codes "/b/c/../../../../g") (codes "/g")
@@ -46,7 +59,22 @@ abnormal : Underflows (codes "/b/c/../../../g") (codes "/g")
     × Removes (codes "/b/c/g;x=1/./y") (codes "/b/c/g;x=1/y")
     × Removes (codes "/b/c/g;x=1/../y") (codes "/b/c/y")
 unfolding Removes Underflows remove_dot_segments underflows run
-abnormal = ((refl, refl), (refl, refl), (refl, refl), (refl, refl), (refl, refl), (refl, refl), (refl, refl), (refl, refl), (refl, refl), (refl, refl), (refl, refl), (refl, refl), (refl, refl), (refl, refl))
+abnormal = (
+  (refl, refl),
+  (refl, refl),
+  (refl, refl),
+  (refl, refl),
+  (refl, refl),
+  (refl, refl),
+  (refl, refl),
+  (refl, refl),
+  (refl, refl),
+  (refl, refl),
+  (refl, refl),
+  (refl, refl),
+  (refl, refl),
+  (refl, refl),
+)
 
 -- encoded dots, in either case and mixed
 encoded_dots : Removes (codes "/a/b/%2E%2e/c") (codes "/a/c")
@@ -72,12 +100,27 @@ ends : Removes (codes "/a/b/..") (codes "/a/")
     × Removes (codes "/") (codes "/")
     × Removes [] []
 unfolding Removes Underflows remove_dot_segments underflows run
-ends = ((refl, refl), (refl, refl), (refl, refl), (refl, refl), (refl, refl), (refl, refl), (refl, refl), (refl, refl), (refl, refl), (refl, refl), (refl, refl), (refl, refl))
+ends = (
+  (refl, refl),
+  (refl, refl),
+  (refl, refl),
+  (refl, refl),
+  (refl, refl),
+  (refl, refl),
+  (refl, refl),
+  (refl, refl),
+  (refl, refl),
+  (refl, refl),
+  (refl, refl),
+  (refl, refl),
+)
 
 directories : (directory [] ≡ codes "/") × (directory (codes "/") ≡ codes "/")
     × (directory (codes "/b/c/d;p") ≡ codes "/b/c/")
-    × (directory (codes "/bar/..") ≡ codes "/bar/../") × (directory (codes "/bar/%2E.") ≡ codes "/bar/%2E./")
-    × (directory (codes "/bar/.") ≡ codes "/bar/") × (directory (codes "/bar/../") ≡ codes "/bar/../") × (directory (codes "//") ≡ codes "//")
+    × (directory (codes "/bar/..") ≡ codes "/bar/../")
+    × (directory (codes "/bar/%2E.") ≡ codes "/bar/%2E./")
+    × (directory (codes "/bar/.") ≡ codes "/bar/")
+    × (directory (codes "/bar/../") ≡ codes "/bar/../") × (directory (codes "//") ≡ codes "//")
 unfolding directory
 directories = (refl, refl, refl, refl, refl, refl, refl, refl)
 
@@ -87,7 +130,8 @@ dot_segments : (lacks_dot_segments (codes "/a/...//b.%2e") ≡ true)
 dot_segments = (refl, refl, refl, refl)
 
 -- a full-width dot (U+FF0E) is no dot, as itself or as octets
-full_width : Removes (codes "/a/" ++ (0xEF ∷ 0xBC ∷ 0x8E ∷ 0xEF ∷ 0xBC ∷ 0x8E ∷ [])) (codes "/a/" ++ (0xEF ∷ 0xBC ∷ 0x8E ∷ 0xEF ∷ 0xBC ∷ 0x8E ∷ []))
+full_width : Removes (codes "/a/" ++ (0xEF ∷ 0xBC ∷ 0x8E ∷ 0xEF ∷ 0xBC ∷ 0x8E ∷ []))
+    (codes "/a/" ++ (0xEF ∷ 0xBC ∷ 0x8E ∷ 0xEF ∷ 0xBC ∷ 0x8E ∷ []))
     × Removes (codes "/a/%EF%BC%8E") (codes "/a/%EF%BC%8E")
 unfolding Removes remove_dot_segments underflows run
 full_width = ((refl, refl), (refl, refl))

@@ -57,8 +57,10 @@ unfolding run
 ends zero b h = nil_from_length b.input (omega arith)
 ends (suc n) b h = ⊎_elim
     (λ e. ap (λ (x : Buffers). x.input) (cond-true _ _ _ e) ∙ none_length b.input e)
-    (λ e. ap (λ (x : Buffers). x.input) (cond-false _ _ _ e) ∙ (let less = shorter b e in ends n (step b) (omega arith)))
+    (λ e. ap (λ (x : Buffers). x.input) (cond-false _ _ _ e)
+    ∙ (let less = shorter b e in ends n (step b) (omega arith)))
     (cases_Bool (is_empty b.input))
 
 pub run_whole-ends : (path : List ℕ) → (run_whole path).input ≡ []
-run_whole-ends path = ends (length path + 1) (record { input = path; output = []; underflowed = false }) (omega arith)
+run_whole-ends path = ends (length path + 1)
+    (record { input = path; output = []; underflowed = false }) (omega arith)

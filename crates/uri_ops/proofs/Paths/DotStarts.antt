@@ -40,19 +40,22 @@ record Behind (text : List ℕ) : Type 0 where
 behind : (b : Bool) (s rest : List ℕ) → dots_begin b (s ++ rest) ≡ false → Behind rest
 unfolding dots_begin
 behind b [] rest e = record { behind = b; none = e }
-behind b (c ∷ s) rest e = behind (c == 47) s rest (or_parts (b && is_dot_start c) (dots_begin (c == 47) (s ++ rest)) e).1
+behind b (c ∷ s) rest e = behind (c == 47) s rest
+    (or_parts (b && is_dot_start c) (dots_begin (c == 47) (s ++ rest)) e).1
 
 plain_first : (s rest : List ℕ) → dots_begin true (s ++ rest) ≡ false → is_plain s ≡ true
 unfolding dots_begin
 plain_first [] rest e = refl
-plain_first (c ∷ s) rest e = ap not (plain_start c s (or_parts (is_dot_start c) (dots_begin (c == 47) (s ++ rest)) e).0)
+plain_first (c ∷ s) rest e =
+    ap not (plain_start c s (or_parts (is_dot_start c) (dots_begin (c == 47) (s ++ rest)) e).0)
 
 plain_all : (b : Bool) (segs : List (List ℕ)) → dots_begin b (slashed segs) ≡ false
     → Passes is_plain segs
 unfolding dots_begin slashed
 plain_all b [] e = refl
 plain_all b (s ∷ rest) e =
-    let first : dots_begin true (s ++ slashed rest) ≡ false = (or_parts (b && is_dot_start 47) (dots_begin true (s ++ slashed rest)) e).1 in
+    let first : dots_begin true (s ++ slashed rest) ≡ false =
+    (or_parts (b && is_dot_start 47) (dots_begin true (s ++ slashed rest)) e).1 in
     let more = behind true s (slashed rest) first in
     and_from _ _ (plain_first s (slashed rest) first) (plain_all more.behind rest more.none)
 
@@ -64,7 +67,8 @@ unfolding slashed
 rooted_behind s (t ∷ rest) front back e free closed = inr (search rules)
 rooted_behind s [] front back e free (inl none) = inl none
 rooted_behind s [] front back e free (inr ends) =
-    absurd (false≢true (sym free ∙ ap has_slash (sym (append-nil s) ∙ sym e ∙ ends.1) ∙ any_slash ends.0 (codes "/") refl))
+    absurd (false≢true (sym free ∙ ap has_slash (sym (append-nil s) ∙ sym e ∙ ends.1)
+    ∙ any_slash ends.0 (codes "/") refl))
 
 first_of : (path front back s : List ℕ) (rest : List (List ℕ)) → path ≡ front ++ back
     → front ≡ s ++ slashed rest → has_slash s ≡ false → IsClosed front back → IsNoDots path
@@ -77,7 +81,8 @@ first_of path front back s rest e f free closed h =
     let behind : drop (length s) path ≡ slashed rest ++ back = ap (drop (length s)) whole
     ∙ drop_at s (slashed rest ++ back) (length s) refl in
     ap not (ap is_dot_segment (sym segment)
-    ∙ h (length s) (ap has_slash segment ∙ free) (subst IsRooted (sym behind) (rooted_behind s rest front back f free closed)))
+    ∙ h (length s) (ap has_slash segment ∙ free)
+    (subst IsRooted (sym behind) (rooted_behind s rest front back f free closed)))
 
 plain_segments : (segs : List (List ℕ)) (text : List ℕ) → slashed segs ≡ 47 ∷ text
     → dots_begin false text ≡ false
@@ -122,24 +127,30 @@ module _ (bytes : List ℕ) (i : ℕ) (within : i < length bytes) where
       ∙ begin_more false (take i bytes) (get_or bytes i 0) e f
 
   next_ends : (get_or bytes i 0 == 47) ≡ ends_behind false (take (i + 1) bytes)
-  next_ends = sym (ap (ends_behind false) (one_more bytes i within) ∙ ends_more false (take i bytes) (get_or bytes i 0))
+  next_ends = sym (ap (ends_behind false) (one_more bytes i within)
+      ∙ ends_more false (take i bytes) (get_or bytes i 0))
 
 one_further : (bytes : List ℕ) (i : ℕ) → i + 1 < length bytes
     → dots_begin false (take (i + 1) bytes) ≡ false → begins_at bytes i ≡ false
     → dots_begin false (take (i + 1 + 1) bytes) ≡ false
 one_further bytes i within plain e =
-    next_plain bytes (i + 1) within plain (ap (λ b. b && is_dot_start (get_or bytes (i + 1) 0)) (sym (next_ends bytes i (omega (arith, within)))) ∙ e)
+    next_plain bytes (i + 1) within plain
+    (ap (λ b. b && is_dot_start (get_or bytes (i + 1) 0))
+    (sym (next_ends bytes i (omega (arith, within)))) ∙ e)
 
 some_further : (bytes : List ℕ) (i n : ℕ) → i + n < length bytes
     → dots_begin false (take (i + 1) bytes) ≡ false
     → ((k : ℕ) → k < n → begins_at bytes (i + k) ≡ false)
     → dots_begin false (take (i + n + 1) bytes) ≡ false
-some_further bytes i zero within plain none = ap (λ m. dots_begin false (take m bytes)) (omega arith)
+some_further bytes i zero within plain none =
+    ap (λ m. dots_begin false (take m bytes)) (omega arith)
     ∙ plain
 some_further bytes i (suc n) within plain none =
     let next : i + suc n + 1 ≡ i + n + 1 + 1 = omega arith in
     ap (λ m. dots_begin false (take m bytes)) next
-    ∙ one_further bytes (i + n) (omega (arith, within)) (some_further bytes i n (omega (arith, within)) plain (λ k h. none k (omega (arith, h)))) (none n (omega arith))
+    ∙ one_further bytes (i + n) (omega (arith, within))
+    (some_further bytes i n (omega (arith, within)) plain (λ k h. none k (omega (arith, h))))
+    (none n (omega arith))
 
 first_plain : (bytes : List ℕ) → dots_begin false (take 1 bytes) ≡ false
 unfolding dots_begin
@@ -166,14 +177,20 @@ module _ (bytes : List ℕ) (n : ℕ) (h : IsBeforeDots bytes n) where
       let within = h.within in
       let end : 0 + (n - 1) + 1 ≡ n = omega (arith, some) in
       ap (λ m. dots_begin false (take m bytes)) (sym end)
-      ∙ some_further bytes 0 (n - 1) (omega (arith, some, within)) (first_plain bytes) (λ k to. ap (begins_at bytes) (omega arith) ∙ h.none k (omega (arith, to)))
+      ∙ some_further bytes 0 (n - 1) (omega (arith, some, within)) (first_plain bytes)
+      (λ k to. ap (begins_at bytes) (omega arith) ∙ h.none k (omega (arith, to)))
 
   closed_before : IsClosed (take n bytes) (drop n bytes)
   closed_before = ⊎_elim
       (λ (more : n < length bytes).
       let some = h.some in
       let end : n - 1 + 1 ≡ n = omega (arith, some) in
-      inr (take (n - 1) bytes, ap (λ m. take m bytes) (sym end) ∙ one_more bytes (n - 1) (omega (arith, more)) ∙ ap (λ c. take (n - 1) bytes ++ c ∷ []) (h.ends more)))
+      inr (
+        take (n - 1) bytes,
+        ap (λ m. take m bytes) (sym end)
+            ∙ one_more bytes (n - 1) (omega (arith, more))
+            ∙ ap (λ c. take (n - 1) bytes ++ c ∷ []) (h.ends more),
+      ))
       (λ (all : length bytes ≤ n). inl (drop_all n bytes all))
       (cases_lt n (length bytes))
 
@@ -183,7 +200,10 @@ module _ (bytes : List ℕ) (n : ℕ) (h : IsBeforeDots bytes n) where
       let front = take n bytes in
       record {
         plain = plain_segments (segments front) front (slashed_segments front) none_before
-            (λ s rest e. first_of bytes front (drop n bytes) s rest (sym (take-append-drop n bytes)) (ap (drop 1) (sym (slashed_segments front) ∙ ap slashed e)) (first_lacks s rest (subst NoSlashes e (segments_lack front))).0 closed_before first);
+            (λ s rest e. first_of bytes front (drop n bytes) s rest (sym (take-append-drop n bytes))
+            (ap (drop 1) (sym (slashed_segments front) ∙ ap slashed e))
+            (first_lacks s rest (subst NoSlashes e (segments_lack front))).0 closed_before
+            first);
         closed = closed_before;
       }
 
@@ -193,7 +213,9 @@ module _ (bytes : List ℕ) (n : ℕ) (h : IsBeforeDots bytes n) where
       let within = h.within in
       let end : n - 1 + 1 ≡ n = omega (arith, some) in
       ⊎_elim
-      (λ (more : n < length bytes). subst (IsCharBoundary bytes) end (IsCharBoundary-after_ascii bytes (n - 1) u (omega (arith, more)) (omega (arith, h.ends more))))
+      (λ (more : n < length bytes). subst (IsCharBoundary bytes) end
+      (IsCharBoundary-after_ascii bytes (n - 1) u (omega (arith, more))
+      (omega (arith, h.ends more))))
       (λ (all : length bytes ≤ n). (within, λ more. absurd (omega (arith, more, all))))
       (cases_lt n (length bytes))
 

@@ -12,7 +12,8 @@ use Rattle.uri_ops.specs.Target.{guarded}
 pub path_begins : (old path new : List ℕ) (start : ℕ) → start ≡ length old → new ≡ old ++ path
     → IsUtf8 old → IsUtf8 new → IsCharBoundary new start
 path_begins old path new start at is before after =
-    IsCharBoundary-from_take new start after (omega (arith, at, ap length is, length-append old path))
+    IsCharBoundary-from_take new start after
+    (omega (arith, at, ap length is, length-append old path))
     (subst IsUtf8 (sym (ap (take start) is ∙ take_at old path start (sym at))) before)
 
 -- behind an authority no path is guarded

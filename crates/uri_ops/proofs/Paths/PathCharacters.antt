@@ -25,17 +25,20 @@ slashed_passes p slash (s ∷ rest) =
 
 pub removed_passes : (p : ℕ → Bool) → p 47 ≡ true → (path : List ℕ) → IsAbsolute path
     → list_all p path ≡ true → list_all p (remove_dot_segments path) ≡ true
-removed_passes p slash = by_segments (λ path. list_all p path ≡ true → list_all p (remove_dot_segments path) ≡ true)
+removed_passes p slash =
+    by_segments (λ path. list_all p path ≡ true → list_all p (remove_dot_segments path) ≡ true)
     (λ s rest e f.
     ap (list_all p) (remove_slashed (s ∷ rest) e) ∙ slashed_passes p slash (cleaned (s ∷ rest))
-    ∙ cleaned_passes (list_all p) (list_all p) (λ t g d. g) refl (s ∷ rest) (sym (slashed_passes p slash (s ∷ rest)) ∙ f))
+    ∙ cleaned_passes (list_all p) (list_all p) (λ t g d. g) refl (s ∷ rest)
+    (sym (slashed_passes p slash (s ∷ rest)) ∙ f))
 
 before_passes : (p : ℕ → Bool) (text : List ℕ) → list_all p text ≡ true
     → list_all p (before_last_slash text) ≡ true
 before_passes p [] e = refl
 before_passes p (c ∷ rest) e =
     let f = and_parts (p c) (list_all p rest) e in
-    cond_both (has_slash rest) (c ∷ before_last_slash rest) [] (λ t. list_all p t ≡ true) (λ h. and_from _ _ f.0 (before_passes p rest f.1)) (λ h. refl)
+    cond_both (has_slash rest) (c ∷ before_last_slash rest) [] (λ t. list_all p t ≡ true)
+    (λ h. and_from _ _ f.0 (before_passes p rest f.1)) (λ h. refl)
 
 closed_passes : (p : ℕ → Bool) → p 47 ≡ true → (text : List ℕ) → list_all p text ≡ true
     → list_all p (text ++ 47 ∷ []) ≡ true
@@ -46,25 +49,38 @@ pub directory_passes : (p : ℕ → Bool) → p 47 ≡ true → (path : List ℕ
     → list_all p (directory path) ≡ true
 unfolding directory
 directory_passes p slash path e =
-    cond_both (is_empty path) (47 ∷ []) _ (λ t. list_all p t ≡ true) (λ h. closed_passes p slash [] refl)
-    (λ h. cond_both (is_double_dot (last_segment path)) (path ++ 47 ∷ []) (up_to_last_slash path) (λ t. list_all p t ≡ true)
+    cond_both (is_empty path) (47 ∷ []) _ (λ t. list_all p t ≡ true)
+    (λ h. closed_passes p slash [] refl)
+    (λ h. cond_both (is_double_dot (last_segment path)) (path ++ 47 ∷ []) (up_to_last_slash path)
+    (λ t. list_all p t ≡ true)
     (λ d. closed_passes p slash path e)
-    (λ d. cond_both (has_slash path) (before_last_slash path ++ 47 ∷ []) [] (λ t. list_all p t ≡ true)
+    (λ d. cond_both (has_slash path) (before_last_slash path ++ 47 ∷ []) []
+    (λ t. list_all p t ≡ true)
     (λ g. closed_passes p slash (before_last_slash path) (before_passes p path e)) (λ g. refl)))
 
 -- so none of some marks is in it, `/` not being one
 pub lacks_test : (marks text : List ℕ) → Lacks marks text
     → list_all (λ c. not (is_one_of marks c)) text ≡ true
-lacks_test marks text h = list_all-from_AllPass (λ c. not (is_one_of marks c)) text (All-weaker (λ c. is_one_of marks c ≡ false) (λ c. not (is_one_of marks c) ≡ true) (λ c e. not_from_false _ e) text h)
+lacks_test marks text h = list_all-from_AllPass (λ c. not (is_one_of marks c)) text
+    (All-weaker (λ c. is_one_of marks c ≡ false) (λ c. not (is_one_of marks c) ≡ true)
+    (λ c e. not_from_false _ e) text h)
 
 pub test_lacks : (marks text : List ℕ) → list_all (λ c. not (is_one_of marks c)) text ≡ true
     → Lacks marks text
-test_lacks marks text h = All-weaker (λ c. not (is_one_of marks c) ≡ true) (λ c. is_one_of marks c ≡ false) (λ c e. not-true _ e) text (AllPass-from_list_all (λ c. not (is_one_of marks c)) text h)
+test_lacks marks text h = All-weaker (λ c. not (is_one_of marks c) ≡ true)
+    (λ c. is_one_of marks c ≡ false) (λ c e. not-true _ e) text
+    (AllPass-from_list_all (λ c. not (is_one_of marks c)) text h)
 
 pub removed_Lacks : (marks : List ℕ) → is_one_of marks 47 ≡ false → (path : List ℕ)
     → IsAbsolute path → Lacks marks path → Lacks marks (remove_dot_segments path)
-removed_Lacks marks slash path h e = test_lacks marks (remove_dot_segments path) (removed_passes (λ c. not (is_one_of marks c)) (not_from_false _ slash) path h (lacks_test marks path e))
+removed_Lacks marks slash path h e =
+    test_lacks marks (remove_dot_segments path)
+    (removed_passes (λ c. not (is_one_of marks c)) (not_from_false _ slash) path h
+    (lacks_test marks path e))
 
 pub directory_Lacks : (marks : List ℕ) → is_one_of marks 47 ≡ false → (path : List ℕ)
     → Lacks marks path → Lacks marks (directory path)
-directory_Lacks marks slash path e = test_lacks marks (directory path) (directory_passes (λ c. not (is_one_of marks c)) (not_from_false _ slash) path (lacks_test marks path e))
+directory_Lacks marks slash path e =
+    test_lacks marks (directory path)
+    (directory_passes (λ c. not (is_one_of marks c)) (not_from_false _ slash) path
+    (lacks_test marks path e))

@@ -29,11 +29,13 @@ use Rattle.uri_parts.proofs.Splitting.Recompose.{true_to}
 -- a path with its dot segments removed begins as the path does
 pub starts_cleaned : (path : List ℕ) → starts 47 (cleaned_path path) ≡ starts 47 path
 starts_cleaned path =
-    cond_both (starts 47 path) (remove_dot_segments path) path (λ t. starts 47 t ≡ starts 47 path) (λ e. true_of _ (removed_absolute path (true_to _ e)) ∙ sym e) (λ e. refl)
+    cond_both (starts 47 path) (remove_dot_segments path) path (λ t. starts 47 t ≡ starts 47 path)
+    (λ e. true_of _ (removed_absolute path (true_to _ e)) ∙ sym e) (λ e. refl)
 
 pub cleaned_twice : (path : List ℕ) → cleaned_path (cleaned_path path) ≡ cleaned_path path
 cleaned_twice path = ⊎_elim
-    (λ e. cond-true _ _ _ (starts_cleaned path ∙ e) ∙ ap remove_dot_segments (cond-true _ _ _ e) ∙ removed_twice path (true_to _ e) ∙ sym (cond-true _ _ _ e))
+    (λ e. cond-true _ _ _ (starts_cleaned path ∙ e) ∙ ap remove_dot_segments (cond-true _ _ _ e)
+    ∙ removed_twice path (true_to _ e) ∙ sym (cond-true _ _ _ e))
     (λ e. cond-false _ _ _ (starts_cleaned path ∙ e))
     (cases_Bool (starts 47 path))
 
@@ -46,8 +48,10 @@ dot_first s rest = cleaned_front (codes "." ∷ []) (s ∷ rest) refl
 pub removed_guard : (path : List ℕ) → IsAbsolute path
     → remove_dot_segments (codes "/." ++ path) ≡ remove_dot_segments path
 unfolding slashed
-removed_guard = by_segments (λ path. remove_dot_segments (codes "/." ++ path) ≡ remove_dot_segments path)
-    (λ s rest e. remove_slashed (codes "." ∷ s ∷ rest) e ∙ ap slashed (dot_first s rest) ∙ sym (remove_slashed (s ∷ rest) e))
+removed_guard =
+    by_segments (λ path. remove_dot_segments (codes "/." ++ path) ≡ remove_dot_segments path)
+    (λ s rest e. remove_slashed (codes "." ∷ s ∷ rest) e ∙ ap slashed (dot_first s rest)
+    ∙ sym (remove_slashed (s ∷ rest) e))
 
 pub authority_first : (path : List ℕ) → has_authority path ≡ true → starts 47 path ≡ true
 authority_first [] e = e
@@ -56,7 +60,8 @@ authority_first (c ∷ path) e = (and_parts (eqb c 47) _ e).0
 pub cleaned_guarded : (authority : Option (List ℕ)) (path : List ℕ)
     → cleaned_path (guarded authority path) ≡ cleaned_path path
 cleaned_guarded authority path =
-    cond_both (is_absent authority && has_authority path) (codes "/." ++ path) path (λ t. cleaned_path t ≡ cleaned_path path)
+    cond_both (is_absent authority && has_authority path) (codes "/." ++ path) path
+    (λ t. cleaned_path t ≡ cleaned_path path)
     (λ e.
     let first = authority_first path (and_parts (is_absent authority) (has_authority path) e).1 in
     removed_guard path (true_to _ first) ∙ sym (cond-true _ _ _ first))
@@ -69,7 +74,9 @@ module _ (set : TableSet) (w : IsComponentSet (codes "?#[]") set)
   allows_dot = and_from _ true (allows-ascii set 46 (lit< tt) ∙ w.unreserved.ascii 46 refl) refl
 
   part_dot : is_part set (codes ".") ≡ true
-  part_dot = part_from set (codes ".") (subst IsUtf8 (encode_ascii 46 (lit< tt)) (IsUtf8-encode 46 (low_scalar 46 (omega arith)))) allows_dot
+  part_dot = part_from set (codes ".")
+      (subst IsUtf8 (encode_ascii 46 (lit< tt)) (IsUtf8-encode 46 (low_scalar 46 (omega arith))))
+      allows_dot
 
   part_guard : (path : List ℕ) → starts 47 path ≡ true → is_part set path ≡ true
       → is_part set (codes "/." ++ path) ≡ true
@@ -78,13 +85,16 @@ module _ (set : TableSet) (w : IsComponentSet (codes "?#[]") set)
       let slashed_path : c ∷ path ≡ 47 ∷ path = ap (λ d. d ∷ path) (eqb-true c 47 e) in
       let rest = (part_cut set [] path (ap (is_part set) (sym slashed_path) ∙ f)).1 in
       ap (λ t. is_part set (codes "/." ++ t)) slashed_path
-      ∙ part_join set slash (codes "/.") path (part_join set slash [] (codes ".") (part_nil set) part_dot) rest
+      ∙ part_join set slash (codes "/.") path
+      (part_join set slash [] (codes ".") (part_nil set) part_dot) rest
 
   pub part_guarded : (authority : Option (List ℕ)) (path : List ℕ) → is_part set path ≡ true
       → is_part set (guarded authority path) ≡ true
   part_guarded authority path f =
-      cond_both (is_absent authority && has_authority path) (codes "/." ++ path) path (λ t. is_part set t ≡ true)
-      (λ e. part_guard path (authority_first path (and_parts (is_absent authority) (has_authority path) e).1) f)
+      cond_both (is_absent authority && has_authority path) (codes "/." ++ path) path
+      (λ t. is_part set t ≡ true)
+      (λ e. part_guard path
+      (authority_first path (and_parts (is_absent authority) (has_authority path) e).1) f)
       (λ e. f)
 
   pub part_cleaned : (path : List ℕ) → is_part set path ≡ true
@@ -98,7 +108,9 @@ module _ (set : TableSet) (w : IsComponentSet (codes "?#[]") set)
   cleaned_reprinted path f =
       let first = starts_reprinted set w.percent w.unreserved path f in
       ⊎_elim
-      (λ e. cond-true _ _ _ (first ∙ e) ∙ removed_reprinted set w.percent w.unreserved path (true_to _ e) f ∙ ap (reprinted set) (sym (cond-true _ _ _ e)))
+      (λ e. cond-true _ _ _ (first ∙ e)
+      ∙ removed_reprinted set w.percent w.unreserved path (true_to _ e) f
+      ∙ ap (reprinted set) (sym (cond-true _ _ _ e)))
       (λ e. cond-false _ _ _ (first ∙ e) ∙ ap (reprinted set) (sym (cond-false _ _ _ e)))
       (cases_Bool (starts 47 path))
 

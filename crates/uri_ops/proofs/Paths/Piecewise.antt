@@ -25,6 +25,7 @@ use Rattle.uri_ops.proofs.Paths.ReadPaths.{removed_reprinted}
 use Rattle.uri_ops.proofs.Paths.ReadStarts.{empty_reprinted}
 use Rattle.uri_ops.proofs.Paths.SegmentMaps.{KeepsDots}
 use Rattle.uri_pct.proofs.Tests.{true_of}
+use Rattle.uri_ops.proofs.Paths.DotRuns.{some_length}
 
 -- a change of texts that goes from `/` to `/`, and keeps which segments are dots
 pub record IsPiecewise (change : List ℕ → List ℕ) (among : List ℕ → Bool) : Type 0 where
@@ -86,11 +87,7 @@ rooted_mark : (c : ℕ) (text : List ℕ) → IsRooted (c ∷ text) → c ≡ 47
 rooted_mark c text h = ⊎_elim (λ none. absurd (nil_cons c text none))
     (λ a. eqb-true c 47 (true_of _ a)) h
 
-some_text : (text : List ℕ) → is_empty text ≡ false → 0 < length text
-some_text [] e = absurd (false≢true (sym e))
-some_text (c ∷ text) e = omega arith
-
-not_empty : (text : List ℕ) → 0 < length text → is_empty text ≡ false
+pub not_empty : (text : List ℕ) → 0 < length text → is_empty text ≡ false
 not_empty [] some = absurd (omega (arith, some))
 not_empty (c ∷ text) some = refl
 
@@ -174,7 +171,7 @@ module _ (change : List ℕ → List ℕ) (among : List ℕ → Bool) (p : IsPie
       (h : IsLeft path kept (change rest) underflowed) (e : among rest ≡ true)
       (some : 0 < length rest) where
     some_changed : 0 < length (change rest)
-    some_changed = some_text (change rest) (p.empty rest e ∙ not_empty rest some)
+    some_changed = some_length (change rest) (p.empty rest e ∙ not_empty rest some)
 
     pub kept_directory : IsPlainDirectory kept
     kept_directory = directory_of_left path kept (change rest) underflowed h some_changed
@@ -263,6 +260,7 @@ module _ (change : List ℕ → List ℕ) (among : List ℕ → Bool) (p : IsPie
                 (ap (λ t. kept ++ change t) is ∙ ap (λ t. kept ++ t) (sym head))
                 (ap change rest_is ∙ sym tail) refl
                 (left_kept path kept (change rest) underflowed h some_changed m
-                (ap lacks_dot_segments head ∙ p.plain (take n rest) two.front_among f.plain) closed),
+                (ap lacks_dot_segments head ∙ p.plain (take n rest) two.front_among f.plain)
+                closed),
             ap among rest_is ∙ two.more,
           )

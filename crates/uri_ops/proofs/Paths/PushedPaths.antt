@@ -30,7 +30,8 @@ absolute_take (c ∷ path) (suc n) h some = h
 pub absolute_start : (path : List ℕ) → IsAbsolute path
     → (begins_with_dot path ≡ false) × (0 < length path)
 absolute_start [] h = absurd (false≢true (true_of _ h))
-absolute_start (c ∷ path) h = (ap (λ b. b == 46 || b == 37) (eqb-true c 47 (true_of _ h)), omega arith)
+absolute_start (c ∷ path) h =
+    (ap (λ b. b == 46 || b == 37) (eqb-true c 47 (true_of _ h)), omega arith)
 
 -- the root of an absolute path, and what stands behind it
 pub root_left : (path : List ℕ) → IsAbsolute path → IsLeft path (take 1 path) (drop 1 path) false
@@ -57,8 +58,11 @@ pub whole_plain : (path front : List ℕ) (n : ℕ) → IsAbsolute path → n �
     → (front ≡ remove_dot_segments path) × (false ≡ underflows path)
 whole_plain path front n absolute end plain is =
     let all : take n path ≡ path = ap (λ m. take m path) end ∙ take-length path in
-    let free = sym (ap lacks_dot_segments all) ∙ plain in
-    (is ∙ all ∙ sym (removed_of_plain path absolute free), sym (underflows_of_plain path absolute free))
+    let free = sym (ap lacks_dot_segments all) ∙ plain in (
+      is ∙ all ∙ sym (removed_of_plain path absolute free),
+      sym
+          (underflows_of_plain path absolute free),
+    )
 
 -- behind what stood there
 module _ (old : List ℕ) (start : ℕ) (at : start ≡ length old) (mid : List ℕ) where
@@ -73,7 +77,8 @@ module _ (old : List ℕ) (start : ℕ) (at : start ≡ length old) (mid : List 
       ∙ ap (λ t. old ++ t) is
 
   -- one path, of which the front without dot segments is appended before the rest is read
-  module _ (path : List ℕ) (absolute : IsAbsolute path) (n : ℕ) (front : List ℕ) (is : front ≡ take n path) (e : mid ≡ old ++ front) where
+  module _ (path : List ℕ) (absolute : IsAbsolute path) (n : ℕ) (front : List ℕ)
+      (is : front ≡ take n path) (e : mid ≡ old ++ front) where
     front_is : drop start mid ≡ take n path
     front_is = behind_old front e ∙ is
 
@@ -82,7 +87,9 @@ module _ (old : List ℕ) (start : ℕ) (at : start ≡ length old) (mid : List 
         → IsPlainDirectory (drop start mid)
     front_pushed some within more plain closed = subst IsPlainDirectory (sym front_is) (record {
       absolute = absolute_take path n absolute some;
-      closed = ⊎_elim (λ none. absurd (more (omega (arith, within, length-drop n path, ap length none)))) (λ d. d) closed;
+      closed =
+          ⊎_elim (λ none. absurd (more (omega (arith, within, length-drop n path, ap length none))))
+          (λ d. d) closed;
       plain = plain;
     })
 
@@ -94,19 +101,23 @@ module _ (old : List ℕ) (start : ℕ) (at : start ≡ length old) (mid : List 
       pub path_pushed : (new : List ℕ) → take start new ≡ take start mid
           → drop start new ≡ remove_dot_segments (drop start mid ++ rest)
           → new ≡ old ++ remove_dot_segments path
-      path_pushed new before kept = whole front new (remove_dot_segments path) e before (kept ∙ ap remove_dot_segments path_is)
+      path_pushed new before kept = whole front new (remove_dot_segments path) e before
+          (kept ∙ ap remove_dot_segments path_is)
 
       pub path_underflows : (underflowed : Bool) → underflowed ≡ underflows (drop start mid ++ rest)
           → underflowed ≡ underflows path
       path_underflows underflowed f = f ∙ ap underflows path_is
 
   -- two paths, of which the first has the base's directory
-  module _ (base path : List ℕ) (absolute : IsAbsolute path) (same : directory path ≡ directory base) (front : List ℕ)
-      (removed : remove_dot_segments front ≡ remove_dot_segments (directory path)) (e : mid ≡ old ++ remove_dot_segments front) where
+  module _ (base path : List ℕ) (absolute : IsAbsolute path)
+      (same : directory path ≡ directory base) (front : List ℕ)
+      (removed : remove_dot_segments front ≡ remove_dot_segments (directory path))
+      (e : mid ≡ old ++ remove_dot_segments front) where
     clean : IsPlainDirectory (remove_dot_segments (directory path))
     clean = record {
       absolute = removed_absolute (directory path) (directory_absolute path (inr absolute));
-      closed = subst EndsInSlash (sym (removed_directory path (inr absolute))) (directory_ends (remove_dot_segments path) (inr (removed_absolute path absolute)));
+      closed = subst EndsInSlash (sym (removed_directory path (inr absolute)))
+          (directory_ends (remove_dot_segments path) (inr (removed_absolute path absolute)));
       plain = removed_lacks (directory path) (directory_absolute path (inr absolute));
     }
 
@@ -121,9 +132,11 @@ module _ (old : List ℕ) (start : ℕ) (at : start ≡ length old) (mid : List 
           → drop start new ≡ remove_dot_segments (drop start mid ++ reference)
           → new ≡ old ++ remove_dot_segments (merged base reference)
       merged_pushed new before kept =
-          whole (remove_dot_segments front) new (remove_dot_segments (merged base reference)) e before
+          whole (remove_dot_segments front) new (remove_dot_segments (merged base reference)) e
+          before
           (kept ∙ ap (λ t. remove_dot_segments (t ++ reference)) kept_is
-          ∙ sym (removed_in_pieces (directory path) reference (directory_absolute path (inr absolute)) (directory_ends path (inr absolute)))
+          ∙ sym (removed_in_pieces (directory path) reference
+          (directory_absolute path (inr absolute)) (directory_ends path (inr absolute)))
           ∙ ap (λ t. remove_dot_segments (t ++ reference)) same)
 
       pub merged_underflows : (of_base of_reference : Bool) → of_base ≡ underflows front
@@ -132,8 +145,10 @@ module _ (old : List ℕ) (start : ℕ) (at : start ≡ length old) (mid : List 
           → (of_base || of_reference) ≡ underflows (merged base reference)
       merged_underflows of_base of_reference f g h =
           ap (λ b. b || of_reference) (f ∙ g)
-          ∙ ap (λ b. underflows (directory path) || b) (h ∙ ap (λ t. underflows (t ++ reference)) kept_is)
-          ∙ sym (underflows_in_pieces (directory path) reference (directory_absolute path (inr absolute)) (directory_ends path (inr absolute)))
+          ∙ ap (λ b. underflows (directory path) || b)
+          (h ∙ ap (λ t. underflows (t ++ reference)) kept_is)
+          ∙ sym (underflows_in_pieces (directory path) reference
+          (directory_absolute path (inr absolute)) (directory_ends path (inr absolute)))
           ∙ ap (λ t. underflows (t ++ reference)) same
 
 -- what is read of a base's path

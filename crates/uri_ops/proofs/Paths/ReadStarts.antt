@@ -30,10 +30,25 @@ pub record FirstSegment (text : List ℕ) : Type 0 where
 pub first_segment : (text : List ℕ) → (has_slash text ≡ false) ⊎ FirstSegment text
 first_segment [] = inl refl
 first_segment (c ∷ text) = ⊎_elim
-    (λ e. inr (record { segment = []; rest = text; whole = ap (λ d. d ∷ text) (eqb-true c 47 e); lacks = refl }))
+    (λ e.
+    inr
+    (record {
+      segment = [];
+      rest = text;
+      whole =
+          ap (λ d. d ∷ text) (eqb-true c 47 e);
+      lacks = refl;
+    }))
     (λ e. ⊎_elim
     (λ h. inl (or_from _ _ e h))
-    (λ (w : FirstSegment text). inr (record { segment = c ∷ w.segment; rest = w.rest; whole = ap (λ t. c ∷ t) w.whole; lacks = or_from _ _ e w.lacks }))
+    (λ (w : FirstSegment text). inr
+    (record {
+      segment = c ∷ w.segment;
+      rest = w.rest;
+      whole = ap (λ t. c ∷ t) w.whole;
+      lacks =
+          or_from _ _ e w.lacks;
+    }))
     (first_segment text))
     (cases_Bool (eqb c 47))
 
@@ -80,7 +95,11 @@ module _ (set : TableSet) (lacks : LacksPercent set) (wide : IsSubset unreserved
   empty_reprinted (c ∷ s) e = some (reprinted set (c ∷ s)) refl
     where
       some : (t : List ℕ) → t ≡ reprinted set (c ∷ s) → is_empty t ≡ false
-      some [] f = absurd (nil_cons c s (empty_from_bytes (c ∷ s) (part_utf8 set (c ∷ s) e) (sym (token_bytes-reprinted set lacks (c ∷ s) e) ∙ ap (λ t. token_bytes (tokens t)) (sym f) ∙ no_bytes)))
+      some [] f =
+          absurd
+          (nil_cons c s (empty_from_bytes (c ∷ s) (part_utf8 set (c ∷ s) e)
+          (sym (token_bytes-reprinted set lacks (c ∷ s) e)
+          ∙ ap (λ t. token_bytes (tokens t)) (sym f) ∙ no_bytes)))
       some (d ∷ t) f = refl
 
   no_colon : (s : List ℕ) → is_part set s ≡ true → list_any (λ c. eqb c 58) s ≡ false
@@ -110,7 +129,8 @@ module _ (set : TableSet) (lacks : LacksPercent set) (wide : IsSubset unreserved
       ap (λ t. has_authority (reprinted set t)) w.1 ∙ ap has_authority (reprinted_first set w.0)
       ∙ authority_slash (reprinted set w.0)
       ∙ starts_reprinted w.0 p.1 ∙ sym (ap has_authority w.1 ∙ authority_slash w.0))
-      (λ h. no_authority_first (reprinted set x) (starts_reprinted x e ∙ h) ∙ sym (no_authority_first x h))
+      (λ h. no_authority_first (reprinted set x) (starts_reprinted x e ∙ h)
+      ∙ sym (no_authority_first x h))
       (cases_Bool (starts 47 x))
 
   -- and no `:` comes into its first segment
@@ -126,5 +146,7 @@ module _ (set : TableSet) (lacks : LacksPercent set) (wide : IsSubset unreserved
       ∙ ap has_colon_first (reprinted-cut set w.segment w.rest (part_utf8 set w.segment p.0))
       ∙ ap (list_any (λ c. eqb c 58)) (before_slash (reprinted set w.segment) (reprinted set w.rest)
       (no_slash set lacks wide w.segment p.0 w.lacks))
-      ∙ no_colon w.segment p.0 (sym (ap has_colon_first w.whole ∙ ap (list_any (λ c. eqb c 58)) (before_slash w.segment w.rest w.lacks)) ∙ c))
+      ∙ no_colon w.segment p.0
+      (sym (ap has_colon_first w.whole
+      ∙ ap (list_any (λ c. eqb c 58)) (before_slash w.segment w.rest w.lacks)) ∙ c))
       (first_segment x)

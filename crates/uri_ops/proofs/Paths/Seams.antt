@@ -23,8 +23,11 @@ ends_by_byte : (path : List ℕ) → 0 < length path → get_or path (length pat
     → EndsInSlash path
 ends_by_byte path some last =
     let front = take (length path - 1) path in
-    let all : length path - 1 + 1 ≡ length path = omega (arith, some) in
-    (front, sym (ap (λ n. take n path) all ∙ take-length path) ∙ one_more path (length path - 1) (omega (arith, some)) ∙ ap (λ c. front ++ c ∷ []) last)
+    let all : length path - 1 + 1 ≡ length path = omega (arith, some) in (
+      front,
+      sym (ap (λ n. take n path) all ∙ take-length path)
+          ∙ one_more path (length path - 1) (omega (arith, some)) ∙ ap (λ c. front ++ c ∷ []) last,
+    )
 
 pub directory_told : (path : List ℕ) (n : ℕ) → IsAbsolute path
     → get_or path (length path - 1) 0 ≡ 47 → n ≡ length path
@@ -55,7 +58,8 @@ parent_plain path kept rest underflowed h = record {
 
 -- what is kept of the directory is appended, and what is left of the path behind it
 module _ (old : List ℕ) (start : ℕ) (at : start ≡ length old) (path kept rest : List ℕ)
-    (underflowed : Bool) (h : IsLeft path kept rest underflowed) (mid : List ℕ) (e : mid ≡ old ++ kept) where
+    (underflowed : Bool) (h : IsLeft path kept rest underflowed) (mid : List ℕ)
+    (e : mid ≡ old ++ kept) where
   pub kept_pushed : IsPlainDirectory kept → IsPlainDirectory (drop start mid)
   kept_pushed d = subst IsPlainDirectory (sym (behind_old old start at mid kept e)) d
 
@@ -64,12 +68,14 @@ module _ (old : List ℕ) (start : ℕ) (at : start ≡ length old) (path kept r
       → new ≡ old ++ remove_dot_segments path
   rest_pushed new before is =
       whole old start at mid kept new (remove_dot_segments path) e before
-      (is ∙ ap (λ t. remove_dot_segments (t ++ rest)) (behind_old old start at mid kept e) ∙ h.removed)
+      (is ∙ ap (λ t. remove_dot_segments (t ++ rest)) (behind_old old start at mid kept e)
+      ∙ h.removed)
 
   pub rest_underflows : (of_rest : Bool) → of_rest ≡ underflows (drop start mid ++ rest)
       → (underflowed || of_rest) ≡ underflows path
   rest_underflows of_rest is =
-      ap (λ b. underflowed || b) (is ∙ ap (λ t. underflows (t ++ rest)) (behind_old old start at mid kept e))
+      ap (λ b. underflowed || b) (is
+      ∙ ap (λ t. underflows (t ++ rest)) (behind_old old start at mid kept e))
       ∙ h.underflow
 
 -- a path that begins with a dot or an octet has a byte
@@ -88,26 +94,32 @@ module _ (text : List ℕ) (start : ℕ) (d : IsPlainDirectory (drop start text)
   none_appended e = left_none (λ t. t) (λ t. true) unchanged (drop start text ++ path)
       (drop start text) path false before_path e
 
-  module _ (n : ℕ) (front : IsPlainFront path n) (some : 0 < length path) (taken new : List ℕ) (is : taken ≡ take n path) (grown : new ≡ text ++ taken) where
+  module _ (n : ℕ) (front : IsPlainFront path n) (some : 0 < length path) (taken new : List ℕ)
+      (is : taken ≡ take n path) (grown : new ≡ text ++ taken) where
     pub text_before : take start new ≡ take start text
     text_before = before_more text start d.absolute taken new grown
 
     behind_front : IsLeft (drop start text ++ path) (drop start new) (drop n path) false
     behind_front =
-        left_as (drop start text ++ path) (drop start text ++ take n path) (drop start new) (drop n path) (drop n path) false false
-        (kept_more text start d.absolute taken new grown ∙ ap (λ t. drop start text ++ t) is) refl refl
-        (left_kept (drop start text ++ path) (drop start text) path false before_path some n front.plain front.closed)
+        left_as (drop start text ++ path) (drop start text ++ take n path) (drop start new)
+        (drop n path) (drop n path) false false
+        (kept_more text start d.absolute taken new grown ∙ ap (λ t. drop start text ++ t) is) refl
+        refl
+        (left_kept (drop start text ++ path) (drop start text) path false before_path some n
+        front.plain front.closed)
 
     pub front_done : n ≡ length path
         → (drop start new ≡ remove_dot_segments (drop start text ++ path))
         × (false ≡ underflows (drop start text ++ path))
     front_done all =
         left_last (drop start text ++ path) (drop start new) false
-        (left_as _ _ (drop start new) _ [] false false refl (sym (drop_all n path (omega (arith, all)))) refl behind_front)
+        (left_as _ _ (drop start new) _ [] false false refl
+        (sym (drop_all n path (omega (arith, all)))) refl behind_front)
 
     pub front_directory : n < length path → IsPlainDirectory (drop start new)
     front_directory more =
-        directory_of_left (drop start text ++ path) (drop start new) (drop n path) false behind_front
+        directory_of_left (drop start text ++ path) (drop start new) (drop n path) false
+        behind_front
         (omega (arith, more, length-drop n path))
 
     module _ (rest last : List ℕ) (rest_is : rest ≡ drop n path) where

@@ -1,4 +1,5 @@
--- Dot segments are removed alike before and after a change of the segments that keeps which of them are dots.
+-- Dot segments are removed alike before and after a change of the segments that keeps which of them
+-- are dots.
 use Rattle.std.proofs.Common.{◌≡◌, ℕ, Bool, true, false, cond, List, [], ◌∷◌, ◌++◌, map, refl, sym}
 use Rattle.std.proofs.Common.{ap, ◌∙◌, ◌||◌}
 use Rattle.std.specs.List.{list_all}
@@ -70,7 +71,8 @@ module _ (f : List ℕ → List ℕ) (among : List ℕ → Bool)
       let k = keeps s (and_parts (among s) true e).0 in
       ap (λ b. end_of (b || is_double_dot (f s))) k.single
       ∙ ap (λ b. end_of (is_single_dot s || b)) k.double ∙ end_map nil (is_dot_segment s)
-  closing_map nil (s ∷ t ∷ rest) e = closing_map nil (t ∷ rest) (and_parts (among s) (list_all among (t ∷ rest)) e).1
+  closing_map nil (s ∷ t ∷ rest) e =
+      closing_map nil (t ∷ rest) (and_parts (among s) (list_all among (t ∷ rest)) e).1
 
   pub cleaned_map : f [] ≡ [] → (segs : List (List ℕ)) → Passes among segs
       → cleaned (map f segs) ≡ map f (cleaned segs)
@@ -89,9 +91,11 @@ module _ (f : List ℕ → List ℕ) (among : List ℕ → Bool)
       → parent (map f segs) ≡ map f (parent segs)
   unfolding parent
   parent_map [] e = refl
-  parent_map (s ∷ []) e = ap (λ b. cond b (f s ∷ []) []) (keeps s (and_parts (among s) true e).0).double
+  parent_map (s ∷ []) e = ap (λ b. cond b (f s ∷ []) [])
+      (keeps s (and_parts (among s) true e).0).double
       ∙ last_map (is_double_dot s) s
-  parent_map (s ∷ t ∷ rest) e = ap (λ r. f s ∷ r) (parent_map (t ∷ rest) (and_parts (among s) (list_all among (t ∷ rest)) e).1)
+  parent_map (s ∷ t ∷ rest) e = ap (λ r. f s ∷ r)
+      (parent_map (t ∷ rest) (and_parts (among s) (list_all among (t ∷ rest)) e).1)
 
   pub sinks_map : (before : Bool) (output segs : List (List ℕ)) → Passes among segs
       → sinks before (map f output) (map f segs) ≡ sinks before output segs
@@ -100,9 +104,11 @@ module _ (f : List ℕ → List ℕ) (among : List ℕ → Bool)
   sinks_map before output (s ∷ rest) e =
       let p = and_parts (among s) (list_all among rest) e in
       let k = keeps s p.0 in
-      ap (λ o. sinks (sunk (is_single_dot (f s)) (is_double_dot (f s)) before (map f output)) o (map f rest)) (step_map output s p.0)
+      ap (λ o. sinks (sunk (is_single_dot (f s)) (is_double_dot (f s)) before (map f output)) o
+      (map f rest)) (step_map output s p.0)
       ∙ ap (λ b. sinks b (map f (step_of output s)) (map f rest)) (
       ap (λ b. sunk b (is_double_dot (f s)) before (map f output)) k.single
       ∙ ap (λ b. sunk (is_single_dot s) b before (map f output)) k.double
       ∙ sunk_map f (is_single_dot s) (is_double_dot s) before output)
-      ∙ sinks_map (sunk (is_single_dot s) (is_double_dot s) before output) (step_of output s) rest p.1
+      ∙ sinks_map (sunk (is_single_dot s) (is_double_dot s) before output) (step_of output s) rest
+      p.1

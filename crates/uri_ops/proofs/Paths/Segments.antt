@@ -54,7 +54,8 @@ sunk false false before output = before
 
 unfoldable pub sinks : Bool → List (List ℕ) → List (List ℕ) → Bool
 sinks before output [] = before
-sinks before output (s ∷ rest) = sinks (sunk (is_single_dot s) (is_double_dot s) before output) (step_of output s) rest
+sinks before output (s ∷ rest) =
+    sinks (sunk (is_single_dot s) (is_double_dot s) before output) (step_of output s) rest
 
 -- what a directory keeps
 unfoldable pub parent : List (List ℕ) → List (List ℕ)
@@ -76,7 +77,8 @@ same_of a b e = (bytes_eq-Decides a b).0 e
 pub single_only : (s : List ℕ) → is_single_dot s ≡ true → is_double_dot s ≡ false
 single_only s e = ⊎_elim (λ h. ap is_double_dot (same_of s (codes ".") h))
     (λ f. ⊎_elim (λ h. ap is_double_dot (same_of s (codes "%2E") h))
-    (λ f. ⊎_elim (λ h. ap is_double_dot (same_of s (codes "%2e") h)) (λ f. absurd (false≢true f)) (or_cases _ _ f))
+    (λ f. ⊎_elim (λ h. ap is_double_dot (same_of s (codes "%2e") h)) (λ f. absurd (false≢true f))
+    (or_cases _ _ f))
     (or_cases _ _ f)) (or_cases (bytes_eq s (codes ".")) _ e)
 
 -- one list after another
@@ -97,7 +99,8 @@ pub sinks_append : (before : Bool) (output xs ys : List (List ℕ))
     → sinks before output (xs ++ ys) ≡ sinks (sinks before output xs) (steps output xs) ys
 unfolding sinks steps
 sinks_append before output [] ys = refl
-sinks_append before output (x ∷ xs) ys = sinks_append (sunk (is_single_dot x) (is_double_dot x) before output) (step_of output x) xs ys
+sinks_append before output (x ∷ xs) ys =
+    sinks_append (sunk (is_single_dot x) (is_double_dot x) before output) (step_of output x) xs ys
 
 pub cleaned_append : (xs : List (List ℕ)) (y : List ℕ) (ys : List (List ℕ))
     → cleaned (xs ++ y ∷ ys) ≡ steps (steps [] xs) (y ∷ ys) ++ closing (y ∷ ys)
@@ -125,7 +128,8 @@ pub pop_passes : (p : List ℕ → Bool) (xs : List (List ℕ)) → Passes p xs 
 unfolding pop
 pop_passes p [] e = refl
 pop_passes p (s ∷ []) e = refl
-pop_passes p (s ∷ t ∷ rest) e = let f = and_parts (p s) (list_all p (t ∷ rest)) e in and_from _ _ f.0 (pop_passes p (t ∷ rest) f.1)
+pop_passes p (s ∷ t ∷ rest) e = let f = and_parts (p s) (list_all p (t ∷ rest)) e in
+    and_from _ _ f.0 (pop_passes p (t ∷ rest) f.1)
 
 pub append_passes : (p : List ℕ → Bool) (xs ys : List (List ℕ)) → Passes p xs → Passes p ys
     → Passes p (xs ++ ys)
@@ -137,7 +141,8 @@ pub turn_passes : (p : List ℕ → Bool) (single double : Bool) (output : List 
 unfolding turn
 turn_passes p true double output s e f = e
 turn_passes p false true output s e f = pop_passes p output e
-turn_passes p false false output s e f = append_passes p output (s ∷ []) e (and_from _ _ (f refl) refl)
+turn_passes p false false output s e f =
+    append_passes p output (s ∷ []) e (and_from _ _ (f refl) refl)
 
 pub steps_pass : (p q : List ℕ → Bool)
     → ((s : List ℕ) → q s ≡ true → is_dot_segment s ≡ false → p s ≡ true)
@@ -146,7 +151,8 @@ unfolding steps step_of
 steps_pass p q kept output [] e f = e
 steps_pass p q kept output (s ∷ rest) e f =
     let g = and_parts (q s) (list_all q rest) f in
-    steps_pass p q kept (step_of output s) rest (turn_passes p (is_single_dot s) (is_double_dot s) output s e (kept s g.0)) g.1
+    steps_pass p q kept (step_of output s) rest
+    (turn_passes p (is_single_dot s) (is_double_dot s) output s e (kept s g.0)) g.1
 
 closing_passes : (p : List ℕ → Bool) (segs : List (List ℕ)) → p [] ≡ true → Passes p (closing segs)
 unfolding closing
@@ -162,7 +168,9 @@ pub cleaned_passes : (p q : List ℕ → Bool)
     → ((s : List ℕ) → q s ≡ true → is_dot_segment s ≡ false → p s ≡ true) → p [] ≡ true
     → (segs : List (List ℕ)) → Passes q segs → Passes p (cleaned segs)
 unfolding cleaned
-cleaned_passes p q kept e segs f = append_passes p (steps [] segs) (closing segs) (steps_pass p q kept [] segs refl f) (closing_passes p segs e)
+cleaned_passes p q kept e segs f =
+    append_passes p (steps [] segs) (closing segs) (steps_pass p q kept [] segs refl f)
+    (closing_passes p segs e)
 
 -- where nothing is a dot segment, everything is kept
 step_plain : (output : List (List ℕ)) (s : List ℕ) → is_plain s ≡ true
@@ -183,8 +191,10 @@ steps_plain output (s ∷ rest) e =
 closing_plain : (xs : List (List ℕ)) → Passes is_plain xs → closing xs ≡ []
 unfolding closing
 closing_plain [] e = refl
-closing_plain (s ∷ []) e = cond-false (is_dot_segment s) ([] ∷ []) [] (not-true _ (and_parts (is_plain s) true e).0)
-closing_plain (s ∷ t ∷ rest) e = closing_plain (t ∷ rest) (and_parts (is_plain s) (list_all is_plain (t ∷ rest)) e).1
+closing_plain (s ∷ []) e = cond-false (is_dot_segment s) ([] ∷ []) []
+    (not-true _ (and_parts (is_plain s) true e).0)
+closing_plain (s ∷ t ∷ rest) e =
+    closing_plain (t ∷ rest) (and_parts (is_plain s) (list_all is_plain (t ∷ rest)) e).1
 
 pub cleaned_plain : (xs : List (List ℕ)) → Passes is_plain xs → cleaned xs ≡ xs
 unfolding cleaned
@@ -211,7 +221,9 @@ unfolding is_none
 cleaned_front xs [] e = absurd (false≢true (sym e))
 cleaned_front xs (y ∷ ys) e =
     cleaned_append xs y ys
-    ∙ sym (cleaned_append (steps [] xs) y ys ∙ ap (λ o. steps o (y ∷ ys) ++ closing (y ∷ ys)) (steps_plain [] (steps [] xs) (steps_are_plain xs)))
+    ∙ sym (cleaned_append (steps [] xs) y ys
+    ∙ ap (λ o. steps o (y ∷ ys) ++ closing (y ∷ ys))
+    (steps_plain [] (steps [] xs) (steps_are_plain xs)))
 
 -- the directory of what is left is what is left of the directory
 parent_cond : (b : Bool) (output : List (List ℕ)) (s : List ℕ)
@@ -228,7 +240,8 @@ unfolding turn
 turn_parent true double output s only = ap (λ b. cond b output output) (only refl)
     ∙ sym (pop_push output [])
 turn_parent false true output s only = sym (pop_push (pop output) [])
-turn_parent false false output s only = sym (ap pop (append-nil (output ++ s ∷ [])) ∙ pop_push output s)
+turn_parent false false output s only =
+    sym (ap pop (append-nil (output ++ s ∷ [])) ∙ pop_push output s)
 
 pub steps_parent : (output : List (List ℕ)) (s : List ℕ) (rest : List (List ℕ))
     → steps output (parent (s ∷ rest)) ≡ pop (steps output (s ∷ rest) ++ closing (s ∷ rest))
@@ -240,15 +253,19 @@ steps_parent output s (t ∷ rest) = steps_parent (step_of output s) t rest
 pub parent_plain : (segs : List (List ℕ)) → Passes is_plain segs → parent segs ≡ pop segs
 unfolding parent pop
 parent_plain [] e = refl
-parent_plain (s ∷ []) e = cond-false (is_double_dot s) (s ∷ []) [] (or_parts (is_single_dot s) (is_double_dot s) (not-true _ (and_parts (is_plain s) true e).0)).1
-parent_plain (s ∷ t ∷ rest) e = ap (λ r. s ∷ r) (parent_plain (t ∷ rest) (and_parts (is_plain s) (list_all is_plain (t ∷ rest)) e).1)
+parent_plain (s ∷ []) e = cond-false (is_double_dot s) (s ∷ []) []
+    (or_parts (is_single_dot s) (is_double_dot s) (not-true _ (and_parts (is_plain s) true e).0)).1
+parent_plain (s ∷ t ∷ rest) e =
+    ap (λ r. s ∷ r)
+    (parent_plain (t ∷ rest) (and_parts (is_plain s) (list_all is_plain (t ∷ rest)) e).1)
 
 pub cleaned_parent : (s : List ℕ) (rest : List (List ℕ))
     → cleaned (parent (s ∷ rest) ++ [] ∷ []) ≡ parent (cleaned (s ∷ rest)) ++ [] ∷ []
 unfolding cleaned
 cleaned_parent s rest =
     cleaned_closed (parent (s ∷ rest))
-    ∙ ap (λ t. t ++ [] ∷ []) (steps_parent [] s rest ∙ sym (parent_plain (cleaned (s ∷ rest)) (cleaned_is_plain (s ∷ rest))))
+    ∙ ap (λ t. t ++ [] ∷ []) (steps_parent [] s rest
+    ∙ sym (parent_plain (cleaned (s ∷ rest)) (cleaned_is_plain (s ∷ rest))))
 
 sunk_true : (single double : Bool) (output : List (List ℕ)) → sunk single double true output ≡ true
 unfolding sunk
@@ -259,7 +276,8 @@ sunk_true false false output = refl
 sinks_true : (output segs : List (List ℕ)) → sinks true output segs ≡ true
 unfolding sinks
 sinks_true output [] = refl
-sinks_true output (s ∷ rest) = ap (λ b. sinks b (step_of output s) rest) (sunk_true (is_single_dot s) (is_double_dot s) output)
+sinks_true output (s ∷ rest) =
+    ap (λ b. sinks b (step_of output s) rest) (sunk_true (is_single_dot s) (is_double_dot s) output)
     ∙ sinks_true (step_of output s) rest
 
 pub sinks_or : (before : Bool) (output segs : List (List ℕ))
@@ -290,7 +308,8 @@ sinks_front xs ys =
     sinks_append false [] xs ys ∙ sinks_or (sinks false [] xs) (steps [] xs) ys
     ∙ ap (λ b. sinks false [] xs || b) (sym (
     sinks_append false [] (steps [] xs) ys
-    ∙ ap (λ b. sinks b (steps [] (steps [] xs)) ys) (sinks_plain false [] (steps [] xs) (steps_are_plain xs))
+    ∙ ap (λ b. sinks b (steps [] (steps [] xs)) ys)
+    (sinks_plain false [] (steps [] xs) (steps_are_plain xs))
     ∙ ap (λ o. sinks false o ys) (steps_plain [] (steps [] xs) (steps_are_plain xs))))
 
 pub sinks_closed : (before : Bool) (output xs : List (List ℕ))
@@ -320,7 +339,9 @@ unfolding sinks parent
 sinks_parent before output [] = refl
 sinks_parent before output (s ∷ []) = sinks_cond (is_double_dot s) before output s
     ∙ sunk_parent (is_single_dot s) (is_double_dot s) before output
-sinks_parent before output (s ∷ t ∷ rest) = sinks_parent (sunk (is_single_dot s) (is_double_dot s) before output) (step_of output s) (t ∷ rest)
+sinks_parent before output (s ∷ t ∷ rest) =
+    sinks_parent (sunk (is_single_dot s) (is_double_dot s) before output) (step_of output s)
+    (t ∷ rest)
 
 -- something is left of a path that is not empty
 pub none_push : (xs : List (List ℕ)) (y : List ℕ) → is_none (xs ++ y ∷ []) ≡ false

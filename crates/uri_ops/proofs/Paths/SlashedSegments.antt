@@ -31,12 +31,14 @@ NoSlashes segs = Passes lacks_slash segs
 -- the parts of `NoSlashes (s ∷ rest)`
 pub first_lacks : (s : List ℕ) (rest : List (List ℕ)) → NoSlashes (s ∷ rest)
     → (has_slash s ≡ false) × NoSlashes rest
-first_lacks s rest e = let f = and_parts (lacks_slash s) (list_all lacks_slash rest) e in (not-true _ f.0, f.1)
+first_lacks s rest e = let f = and_parts (lacks_slash s) (list_all lacks_slash rest) e in
+    (not-true _ f.0, f.1)
 
 pub slashed_append : (xs ys : List (List ℕ)) → slashed (xs ++ ys) ≡ slashed xs ++ slashed ys
 unfolding slashed
 slashed_append [] ys = refl
-slashed_append (x ∷ xs) ys = ap (λ t. 47 ∷ t) (ap (λ t. x ++ t) (slashed_append xs ys) ∙ sym (append_assoc x (slashed xs) (slashed ys)))
+slashed_append (x ∷ xs) ys = ap (λ t. 47 ∷ t)
+    (ap (λ t. x ++ t) (slashed_append xs ys) ∙ sym (append_assoc x (slashed xs) (slashed ys)))
 
 pub slashed_push : (xs : List (List ℕ)) (s : List ℕ) → slashed (xs ++ s ∷ []) ≡ slashed xs ++ 47 ∷ s
 unfolding slashed
@@ -55,9 +57,14 @@ segment_front [] (t ∷ rest) e = (refl, refl)
 segment_front (c ∷ s) rest e =
     let p = or_parts (eqb c 47) (has_slash s) e in
     let ih = segment_front s rest p.1 in
-    let m : prefix_len (λ c. not (is_one_of (codes "/") c)) ((c ∷ s) ++ slashed rest) ≡ suc (prefix_len (λ c. not (is_one_of (codes "/") c)) (s ++ slashed rest)) = cond-true _ _ _ (not_from_false _ (mark_slash c ∙ p.0))
-    ∙ omega arith in
-    (ap (λ n. take n ((c ∷ s) ++ slashed rest)) m ∙ ap (λ t. c ∷ t) ih.0, ap (λ n. drop n ((c ∷ s) ++ slashed rest)) m ∙ ih.1)
+    let m : prefix_len (λ c. not (is_one_of (codes "/") c)) ((c ∷ s) ++ slashed rest)
+    ≡ suc (prefix_len (λ c. not (is_one_of (codes "/") c)) (s ++ slashed rest)) =
+    cond-true _ _ _ (not_from_false _ (mark_slash c ∙ p.0))
+    ∙ omega arith in (
+      ap (λ n. take n ((c ∷ s) ++ slashed rest)) m
+          ∙ ap (λ t. c ∷ t) ih.0,
+      ap (λ n. drop n ((c ∷ s) ++ slashed rest)) m ∙ ih.1,
+    )
 
 -- the cut at the last `/`
 pub any_slash : (s t : List ℕ) → has_slash t ≡ true → has_slash (s ++ t) ≡ true
@@ -85,7 +92,8 @@ empty_slashed (s ∷ rest) = refl
 
 -- one step of section 5.2.4 takes one segment
 abbrev buffers : List ℕ → List ℕ → Bool → Buffers
-buffers input output underflowed = record { input = input; output = output; underflowed = underflowed }
+buffers input output underflowed =
+    record { input = input; output = output; underflowed = underflowed }
 
 abbrev next : Bool → List (List ℕ) → List (List ℕ)
 next dot [] = end_of dot
@@ -103,15 +111,21 @@ next_false (t ∷ rest) = refl
 buffers_turn : (single double : Bool) (s : List ℕ) (rest output : List (List ℕ)) (before : Bool)
     → NoSlashes output →
     cond single (buffers (or_slash (slashed rest)) (slashed output) before)
-    (cond double (buffers (or_slash (slashed rest)) (before_last_slash (slashed output)) (before || is_empty (slashed output)))
+    (cond double (buffers (or_slash (slashed rest)) (before_last_slash (slashed output))
+    (before || is_empty (slashed output)))
     (buffers (slashed rest) (slashed output ++ 47 ∷ s) before))
-    ≡ buffers (slashed (next (single || double) rest)) (slashed (turn single double output s)) (sunk single double before output)
+    ≡ buffers (slashed (next (single || double) rest)) (slashed (turn single double output s))
+    (sunk single double before output)
 unfolding turn sunk
-buffers_turn true double s rest output before e = ap (λ i. buffers i (slashed output) before) (or_slash_next rest)
+buffers_turn true double s rest output before e =
+    ap (λ i. buffers i (slashed output) before) (or_slash_next rest)
 buffers_turn false true s rest output before e =
-    ap (λ i. buffers i (before_last_slash (slashed output)) (before || is_empty (slashed output))) (or_slash_next rest)
-    ∙ ap (λ o. buffers (slashed (next true rest)) o (before || is_empty (slashed output))) (before_slashed output e)
-    ∙ ap (λ b. buffers (slashed (next true rest)) (slashed (pop output)) (before || b)) (empty_slashed output)
+    ap (λ i. buffers i (before_last_slash (slashed output)) (before || is_empty (slashed output)))
+    (or_slash_next rest)
+    ∙ ap (λ o. buffers (slashed (next true rest)) o (before || is_empty (slashed output)))
+    (before_slashed output e)
+    ∙ ap (λ b. buffers (slashed (next true rest)) (slashed (pop output)) (before || b))
+    (empty_slashed output)
 buffers_turn false false s rest output before e =
     ap (λ i. buffers (slashed i) (slashed output ++ 47 ∷ s) before) (next_false rest)
     ∙ ap (λ o. buffers (slashed (next false rest)) o before) (sym (slashed_push output s))
@@ -119,13 +133,15 @@ buffers_turn false false s rest output before e =
 cut : List ℕ → List ℕ → List (List ℕ) → Bool → Buffers
 cut segment rest output before =
     cond (is_single_dot segment) (buffers (or_slash rest) (slashed output) before)
-    (cond (is_double_dot segment) (buffers (or_slash rest) (before_last_slash (slashed output)) (before || is_empty (slashed output)))
+    (cond (is_double_dot segment) (buffers (or_slash rest) (before_last_slash (slashed output))
+    (before || is_empty (slashed output)))
     (buffers rest (slashed output ++ 47 ∷ segment) before))
 
 step_segment : (s : List ℕ) (rest output : List (List ℕ)) (before : Bool) → has_slash s ≡ false
     → NoSlashes output →
     step (buffers (slashed (s ∷ rest)) (slashed output) before)
-    ≡ buffers (slashed (next (is_dot_segment s) rest)) (slashed (step_of output s)) (sunk (is_single_dot s) (is_double_dot s) before output)
+    ≡ buffers (slashed (next (is_dot_segment s) rest)) (slashed (step_of output s))
+    (sunk (is_single_dot s) (is_double_dot s) before output)
 unfolding slashed step_of cut
 step_segment s rest output before e f =
     let p = segment_front s rest e in
@@ -142,7 +158,8 @@ run_empty (suc n) output before = refl
 -- the `/` that a dot segment at the end leaves
 run_closing : (n : ℕ) (dot : Bool) (output : List (List ℕ)) (before : Bool)
     → length (end_of dot) ≤ n →
-    run n (buffers (slashed (end_of dot)) (slashed output) before) ≡ buffers [] (slashed (output ++ end_of dot)) before
+    run n (buffers (slashed (end_of dot)) (slashed output) before)
+    ≡ buffers [] (slashed (output ++ end_of dot)) before
 unfolding run slashed
 run_closing n false output before h = run_empty n (slashed output) before
     ∙ ap (λ o. buffers [] (slashed o) before) (sym (append-nil output))
@@ -152,7 +169,8 @@ run_closing (suc n) true output before h = run_empty n (slashed output ++ 47 ∷
 
 run_segments : (n : ℕ) (segs output : List (List ℕ)) (before : Bool) → NoSlashes segs
     → NoSlashes output → length segs + length (closing segs) ≤ n →
-    run n (buffers (slashed segs) (slashed output) before) ≡ buffers [] (slashed (steps output segs ++ closing segs)) (sinks before output segs)
+    run n (buffers (slashed segs) (slashed output) before)
+    ≡ buffers [] (slashed (steps output segs ++ closing segs)) (sinks before output segs)
 unfolding run slashed steps closing sinks step_of
 run_segments n [] output before e f h = run_empty n (slashed output) before
     ∙ ap (λ o. buffers [] (slashed o) before) (sym (append-nil output))
@@ -160,12 +178,15 @@ run_segments zero (s ∷ rest) output before e f h = absurd (omega arith)
 run_segments (suc n) (s ∷ []) output before e f h =
     let g = first_lacks s [] e in
     ap (run n) (step_segment s [] output before g.0 f)
-    ∙ run_closing n (is_dot_segment s) (step_of output s) (sunk (is_single_dot s) (is_double_dot s) before output) (omega arith)
+    ∙ run_closing n (is_dot_segment s) (step_of output s)
+    (sunk (is_single_dot s) (is_double_dot s) before output) (omega arith)
 run_segments (suc n) (s ∷ t ∷ rest) output before e f h =
     let g = first_lacks s (t ∷ rest) e in
     ap (run n) (step_segment s (t ∷ rest) output before g.0 f)
-    ∙ run_segments n (t ∷ rest) (step_of output s) (sunk (is_single_dot s) (is_double_dot s) before output) g.1
-    (turn_passes lacks_slash (is_single_dot s) (is_double_dot s) output s f (λ d. not_from_false _ g.0)) (omega arith)
+    ∙ run_segments n (t ∷ rest) (step_of output s)
+    (sunk (is_single_dot s) (is_double_dot s) before output) g.1
+    (turn_passes lacks_slash (is_single_dot s) (is_double_dot s) output s f
+    (λ d. not_from_false _ g.0)) (omega arith)
 
 closing_short : (segs : List (List ℕ)) → length (closing segs) ≤ 1
 unfolding closing
@@ -186,7 +207,8 @@ run_slashed : (segs : List (List ℕ)) → NoSlashes segs
     → run (length (slashed segs) + 1) (buffers (slashed segs) [] false)
     ≡ buffers [] (slashed (cleaned segs)) (sinks false [] segs)
 unfolding slashed cleaned
-run_slashed segs e = run_segments (length (slashed segs) + 1) segs [] false e refl (omega (arith, length_slashed segs, closing_short segs))
+run_slashed segs e = run_segments (length (slashed segs) + 1) segs [] false e refl
+    (omega (arith, length_slashed segs, closing_short segs))
 
 pub remove_slashed : (segs : List (List ℕ)) → NoSlashes segs
     → remove_dot_segments (slashed segs) ≡ slashed (cleaned segs)
@@ -228,8 +250,10 @@ kept_slashed s (t ∷ rest) e =
     let T = slashed (t ∷ rest) in
     let U = slashed (pop (t ∷ rest)) in
     ap (λ segment. kept segment ((47 ∷ s) ++ T) ((47 ∷ s) ++ U)) (last_append (47 ∷ s) T refl)
-    ∙ ap (λ x. cond (is_double_dot (last_segment T)) x (((47 ∷ s) ++ U) ++ 47 ∷ [])) (append_assoc (47 ∷ s) T (47 ∷ []))
-    ∙ ap (λ x. cond (is_double_dot (last_segment T)) ((47 ∷ s) ++ (T ++ 47 ∷ [])) x) (append_assoc (47 ∷ s) U (47 ∷ []))
+    ∙ ap (λ x. cond (is_double_dot (last_segment T)) x (((47 ∷ s) ++ U) ++ 47 ∷ []))
+    (append_assoc (47 ∷ s) T (47 ∷ []))
+    ∙ ap (λ x. cond (is_double_dot (last_segment T)) ((47 ∷ s) ++ (T ++ 47 ∷ [])) x)
+    (append_assoc (47 ∷ s) U (47 ∷ []))
     ∙ cond_prefix (is_double_dot (last_segment T)) (47 ∷ s) (T ++ 47 ∷ []) (U ++ 47 ∷ [])
     ∙ ap (λ x. (47 ∷ s) ++ x) (kept_slashed t rest (first_lacks s (t ∷ rest) e).1)
     ∙ sym (append_assoc (47 ∷ s) (slashed (parent (t ∷ rest))) (47 ∷ []))
@@ -238,7 +262,8 @@ pub directory_slashed : (s : List ℕ) (rest : List (List ℕ)) → NoSlashes (s
     → directory (slashed (s ∷ rest)) ≡ slashed (parent (s ∷ rest) ++ [] ∷ [])
 unfolding directory slashed kept
 directory_slashed s rest e =
-    ap (λ front. kept (last_segment (slashed (s ∷ rest))) (slashed (s ∷ rest)) front) (before_slashed (s ∷ rest) e)
+    ap (λ front. kept (last_segment (slashed (s ∷ rest))) (slashed (s ∷ rest)) front)
+    (before_slashed (s ∷ rest) e)
     ∙ kept_slashed s rest e ∙ sym (slashed_push (parent (s ∷ rest)) [])
 
 pub parent_passes : (p : List ℕ → Bool) (segs : List (List ℕ)) → Passes p segs
@@ -250,7 +275,8 @@ parent_passes p (s ∷ []) e = passes (is_double_dot s)
     passes : (b : Bool) → Passes p (cond b (s ∷ []) [])
     passes true = e
     passes false = refl
-parent_passes p (s ∷ t ∷ rest) e = let f = and_parts (p s) (list_all p (t ∷ rest)) e in and_from _ _ f.0 (parent_passes p (t ∷ rest) f.1)
+parent_passes p (s ∷ t ∷ rest) e = let f = and_parts (p s) (list_all p (t ∷ rest)) e in
+    and_from _ _ f.0 (parent_passes p (t ∷ rest) f.1)
 
 -- the segments of a text
 tail_of : (xs ys : List ℕ) → 47 ∷ xs ≡ 47 ∷ ys → xs ≡ ys
@@ -266,20 +292,24 @@ pub slashed_segments : (text : List ℕ) → slashed (segments text) ≡ 47 ∷ 
 unfolding slashed
 slashed_segments [] = refl
 slashed_segments (c ∷ text) = ⊎_elim
-    (λ e. ap slashed (cond-true _ _ _ e) ∙ ap (λ t. 47 ∷ t) (slashed_segments text) ∙ ap (λ b. 47 ∷ b ∷ text) (sym (eqb-true c 47 e)))
-    (λ e. ap slashed (cond-false _ _ _ e) ∙ onto_slashed c (segments text) text (slashed_segments text))
+    (λ e. ap slashed (cond-true _ _ _ e) ∙ ap (λ t. 47 ∷ t) (slashed_segments text)
+    ∙ ap (λ b. 47 ∷ b ∷ text) (sym (eqb-true c 47 e)))
+    (λ e. ap slashed (cond-false _ _ _ e)
+    ∙ onto_slashed c (segments text) text (slashed_segments text))
     (cases_Bool (eqb c 47))
 
 onto_lacks : (c : ℕ) (parts : List (List ℕ)) → eqb c 47 ≡ false → NoSlashes parts
     → NoSlashes (onto_first c parts)
 onto_lacks c [] e f = and_from _ _ (not_from_false _ (ap (λ t. t || false) e)) refl
-onto_lacks c (s ∷ parts) e f = let g = first_lacks s parts f in and_from _ _ (not_from_false _ (ap (λ t. t || has_slash s) e ∙ g.0)) g.1
+onto_lacks c (s ∷ parts) e f = let g = first_lacks s parts f in
+    and_from _ _ (not_from_false _ (ap (λ t. t || has_slash s) e ∙ g.0)) g.1
 
 pub segments_lack : (text : List ℕ) → NoSlashes (segments text)
 segments_lack [] = refl
 segments_lack (c ∷ text) = ⊎_elim
     (λ e. ap (list_all lacks_slash) (cond-true _ _ _ e) ∙ segments_lack text)
-    (λ e. ap (list_all lacks_slash) (cond-false _ _ _ e) ∙ onto_lacks c (segments text) e (segments_lack text))
+    (λ e. ap (list_all lacks_slash) (cond-false _ _ _ e)
+    ∙ onto_lacks c (segments text) e (segments_lack text))
     (cases_Bool (eqb c 47))
 
 onto_some : (c : ℕ) (parts : List (List ℕ)) → is_none (onto_first c parts) ≡ false

@@ -22,7 +22,8 @@ use Rattle.uri_pct.proofs.Tests.{true_of}
 module _ (xs : List (List ℕ)) (plain : Passes is_plain xs) (s : List ℕ) where
   left_plain : Passes is_plain (step_of xs s)
   unfolding step_of
-  left_plain = turn_passes is_plain (is_single_dot s) (is_double_dot s) xs s plain (λ e. not_from_false _ e)
+  left_plain = turn_passes is_plain (is_single_dot s) (is_double_dot s) xs s plain
+      (λ e. not_from_false _ e)
 
   cleaned_behind : (ys : List (List ℕ)) → is_none ys ≡ false
       → cleaned (xs ++ s ∷ ys) ≡ cleaned (step_of xs s ++ ys)
@@ -31,7 +32,9 @@ module _ (xs : List (List ℕ)) (plain : Passes is_plain xs) (s : List ℕ) wher
   cleaned_behind (y ∷ ys) e =
       cleaned_append xs s (y ∷ ys)
       ∙ ap (λ o. steps o (s ∷ y ∷ ys) ++ closing (y ∷ ys)) (steps_plain [] xs plain)
-      ∙ sym (cleaned_append (step_of xs s) y ys ∙ ap (λ o. steps o (y ∷ ys) ++ closing (y ∷ ys)) (steps_plain [] (step_of xs s) left_plain))
+      ∙ sym (cleaned_append (step_of xs s) y ys
+      ∙ ap (λ o. steps o (y ∷ ys) ++ closing (y ∷ ys))
+      (steps_plain [] (step_of xs s) left_plain))
 
   cleaned_last : is_dot_segment s ≡ true
       → cleaned (xs ++ s ∷ []) ≡ cleaned (step_of xs s ++ [] ∷ [])
@@ -40,7 +43,8 @@ module _ (xs : List (List ℕ)) (plain : Passes is_plain xs) (s : List ℕ) wher
       cleaned_append xs s []
       ∙ ap (λ o. steps o (s ∷ []) ++ end_of (is_dot_segment s)) (steps_plain [] xs plain)
       ∙ ap (λ b. step_of xs s ++ end_of b) dot
-      ∙ sym (cleaned_closed (step_of xs s) ∙ ap (λ o. o ++ [] ∷ []) (steps_plain [] (step_of xs s) left_plain))
+      ∙ sym (cleaned_closed (step_of xs s)
+      ∙ ap (λ o. o ++ [] ∷ []) (steps_plain [] (step_of xs s) left_plain))
 
   meets_none : Bool
   meets_none = sunk (is_single_dot s) (is_double_dot s) false xs
@@ -55,14 +59,16 @@ module _ (xs : List (List ℕ)) (plain : Passes is_plain xs) (s : List ℕ) wher
       ∙ sinks_or meets_none (step_of xs s) ys
       ∙ ap (λ b. meets_none || b) (sym (
       sinks_append false [] (step_of xs s) ys
-      ∙ ap (λ b. sinks b (steps [] (step_of xs s)) ys) (sinks_plain false [] (step_of xs s) left_plain)
+      ∙ ap (λ b. sinks b (steps [] (step_of xs s)) ys)
+      (sinks_plain false [] (step_of xs s) left_plain)
       ∙ ap (λ o. sinks false o ys) (steps_plain [] (step_of xs s) left_plain)))
 
   sinks_last : sinks false [] (xs ++ s ∷ [])
       ≡ (meets_none || sinks false [] (step_of xs s ++ [] ∷ []))
   sinks_last =
       sinks_behind []
-      ∙ ap (λ b. meets_none || b) (ap (sinks false []) (append-nil (step_of xs s)) ∙ sym (sinks_closed false [] (step_of xs s)))
+      ∙ ap (λ b. meets_none || b) (ap (sinks false []) (append-nil (step_of xs s))
+      ∙ sym (sinks_closed false [] (step_of xs s)))
 
 -- the same of texts
 removed_behind : (xs : List (List ℕ)) (q : List ℕ) → NoSlashes xs
@@ -95,7 +101,8 @@ module _ (xs : List (List ℕ)) (plain : Passes is_plain xs) (lack : NoSlashes x
     (free : has_slash s ≡ false) (dot : is_dot_segment s ≡ true) where
   left_lacks : NoSlashes (step_of xs s)
   unfolding step_of
-  left_lacks = turn_passes lacks_slash (is_single_dot s) (is_double_dot s) xs s lack (λ e. not_from_false _ free)
+  left_lacks = turn_passes lacks_slash (is_single_dot s) (is_double_dot s) xs s lack
+      (λ e. not_from_false _ free)
 
   removed_last : remove_dot_segments (slashed (xs ++ [] ∷ []) ++ (s ++ []))
       ≡ remove_dot_segments (slashed (step_of xs s ++ [] ∷ []) ++ [])
@@ -116,8 +123,10 @@ module _ (xs : List (List ℕ)) (plain : Passes is_plain xs) (lack : NoSlashes x
   pub removed_dot : (rest : List ℕ) → IsRooted rest
       → remove_dot_segments (slashed (xs ++ [] ∷ []) ++ (s ++ rest))
       ≡ remove_dot_segments (slashed (step_of xs s ++ [] ∷ []) ++ drop 1 rest)
-  removed_dot = rooted (λ rest. remove_dot_segments (slashed (xs ++ [] ∷ []) ++ (s ++ rest)) ≡ remove_dot_segments (slashed (step_of xs s ++ [] ∷ []) ++ drop 1 rest))
-      removed_last (λ rest h. ap (λ t. remove_dot_segments (slashed (xs ++ [] ∷ []) ++ (s ++ t))) (absolute_is rest h) ∙ removed_next (drop 1 rest))
+  removed_dot = rooted (λ rest. remove_dot_segments (slashed (xs ++ [] ∷ []) ++ (s ++ rest))
+      ≡ remove_dot_segments (slashed (step_of xs s ++ [] ∷ []) ++ drop 1 rest))
+      removed_last (λ rest h. ap (λ t. remove_dot_segments (slashed (xs ++ [] ∷ []) ++ (s ++ t)))
+      (absolute_is rest h) ∙ removed_next (drop 1 rest))
 
   sinks_at : Bool
   sinks_at = meets_none xs plain s
@@ -143,10 +152,13 @@ module _ (xs : List (List ℕ)) (plain : Passes is_plain xs) (lack : NoSlashes x
 
   pub underflows_dot : (rest : List ℕ) → IsRooted rest
       → underflows (slashed (xs ++ [] ∷ []) ++ (s ++ rest))
-      ≡ (sunk (is_single_dot s) (is_double_dot s) false xs || underflows (slashed (step_of xs s ++ [] ∷ []) ++ drop 1 rest))
+      ≡ (sunk (is_single_dot s) (is_double_dot s) false xs
+      || underflows (slashed (step_of xs s ++ [] ∷ []) ++ drop 1 rest))
   unfolding sinks_at meets_none
-  underflows_dot = rooted (λ rest. underflows (slashed (xs ++ [] ∷ []) ++ (s ++ rest)) ≡ (sinks_at || underflows (slashed (step_of xs s ++ [] ∷ []) ++ drop 1 rest)))
-      underflows_last (λ rest h. ap (λ t. underflows (slashed (xs ++ [] ∷ []) ++ (s ++ t))) (absolute_is rest h) ∙ underflows_next (drop 1 rest))
+  underflows_dot = rooted (λ rest. underflows (slashed (xs ++ [] ∷ []) ++ (s ++ rest))
+      ≡ (sinks_at || underflows (slashed (step_of xs s ++ [] ∷ []) ++ drop 1 rest)))
+      underflows_last (λ rest h. ap (λ t. underflows (slashed (xs ++ [] ∷ []) ++ (s ++ t)))
+      (absolute_is rest h) ∙ underflows_next (drop 1 rest))
 
 -- a dot segment at the end leaves the `/` that may stand behind it
 closing_slashed : (xs : List (List ℕ)) (y : List ℕ) → is_dot_segment y ≡ true

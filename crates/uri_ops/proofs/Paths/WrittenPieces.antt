@@ -8,7 +8,6 @@ use Rattle.uri_pct.specs.Reading.{read}
 use Rattle.uri_pct.specs.Sets.{TableSet}
 use Rattle.uri_pct.specs.Tables.{set_of}
 use Rattle.uri_pct.specs.Tokens.{print}
-use Rattle.uri_pct.proofs.Tests.{true_of}
 use Rattle.uri_ops.specs.ComponentSets.{IsComponentSet}
 use Rattle.uri_ops.specs.Dots.{IsAbsolute, remove_dot_segments, underflows}
 use Rattle.uri_ops.specs.Models.Directories.{IsPlainDirectory}
@@ -22,6 +21,7 @@ use Rattle.uri_ops.proofs.Paths.Piecewise.{IsPiecewise, reading, unchanged}
 use Rattle.uri_ops.proofs.Paths.ReadPaths.{part_cut, removed_reprinted, reprinted_first}
 use Rattle.uri_ops.proofs.Paths.ReadPaths.{underflows_reprinted}
 use Rattle.uri_ops.proofs.Paths.SlashedSegments.{slashed}
+use Rattle.uri_ops.proofs.Paths.TakenSegments.{absolute_is}
 
 -- which texts may be pieces
 abbrev pub is_piece : Pieces → List ℕ → Bool
@@ -66,15 +66,12 @@ unfolding slashed
 root_directory = directory_slashed [] refl refl
 
 -- what is read of a path that begins with `/`, piece by piece behind that
-behind_root : (path : List ℕ) → IsAbsolute path → path ≡ 47 ∷ drop 1 path
-behind_root [] h = absurd (false≢true (true_of _ h))
-behind_root (c ∷ path) h = ap (λ d. d ∷ path) (eqb-true c 47 (true_of _ h))
 
 module _ (set : TableSet) (w : IsComponentSet (codes "?#[]") set) (slash : set.ascii 47 ≡ true)
     (path rest : List ℕ) (absolute : IsAbsolute path) (e : is_part set path ≡ true)
     (is : rest ≡ drop 1 path) where
   root_and_rest : path ≡ 47 ∷ rest
-  root_and_rest = behind_root path absolute ∙ ap (λ t. 47 ∷ t) (sym is)
+  root_and_rest = absolute_is path absolute ∙ ap (λ t. 47 ∷ t) (sym is)
 
   pub rest_piece : IsPathPiece set rest
   rest_piece = record {

@@ -1,4 +1,5 @@
--- A target means the same where base and reference are replaced by their normal texts, and is refused alike.
+-- A target means the same where base and reference are replaced by their normal texts, and is
+-- refused alike.
 use Rattle.std.proofs.Common.{◌≡◌, ℕ, true, false, cond, not, List, [], ◌∷◌, ◌++◌, refl, sym, ap}
 use Rattle.std.proofs.Common.{◌∙◌, ◌&&◌, ◌||◌, ⊎_elim, option_map}
 use Rattle.std.specs.Prelude.{codes, Option, Some, None, IfSome, is_some, is_none}
@@ -14,10 +15,10 @@ use Rattle.uri_ops.specs.Dots.{is_empty, directory}
 use Rattle.uri_ops.specs.Target.{is_opaque, is_fragment_only, is_refused_as_opaque, joined}
 use Rattle.uri_ops.specs.Target.{cleaned_path, guarded}
 use Rattle.uri_ops.specs.ComponentSets.{IsComponentSet, HasComponentSets}
-use Rattle.uri_ops.specs.Ports.{PortFunction}
+use Rattle.uri_parts.specs.Ports.{PortFunction}
 use Rattle.uri_ops.specs.Meaning.{Meaning, authority_meaning, components_meaning}
 use Rattle.uri_ops.specs.Normal.{normal_authority, normal_components}
-use Rattle.uri_ops.specs.References.{reference_kind}
+use Rattle.uri_ops.specs.NormalTargets.{reference_kind}
 use Rattle.uri_ops.proofs.Meanings.AllowedParts.{is_part, reprinted, reprinted-nil, read-reprinted}
 use Rattle.uri_ops.proofs.Paths.ReadStarts.{empty_reprinted, starts_reprinted}
 use Rattle.uri_ops.proofs.Paths.PathMeanings.{authority_first, starts_cleaned, cleaned_twice}
@@ -32,11 +33,20 @@ use Rattle.uri_pct.proofs.Tests.{none_map}
 
 abbrev pub of_parts : Option (List ℕ) → Option (List ℕ) → List ℕ → Option (List ℕ) → Option (List ℕ)
     → Components
-of_parts scheme authority path query fragment = record { scheme = scheme; authority = authority; path = path; query = query; fragment = fragment }
+of_parts scheme authority path query fragment =
+    record {
+      scheme = scheme;
+      authority = authority;
+      path = path;
+      query = query;
+      fragment =
+          fragment;
+    }
 
 -- components with a scheme
 pub with_scheme : (P : Components → Type 0)
-    → ((s : List ℕ) (a : Option (List ℕ)) (p : List ℕ) (q f : Option (List ℕ)) → P (of_parts (Some s) a p q f))
+    → ((s : List ℕ) (a : Option (List ℕ)) (p : List ℕ) (q f : Option (List ℕ))
+    → P (of_parts (Some s) a p q f))
     → (c : Components) → is_some c.scheme ≡ true → P c
 with_scheme P each c h = some c.scheme h
   where
@@ -67,14 +77,24 @@ module _ (set : TableSet) (w : IsComponentSet (codes "?#[]") set)
   -- the path that is merged
   merged_read : (authority : Option (List ℕ)) (base path : List ℕ) → IsRooted base
       → is_part set base ≡ true → is_part set path ≡ true
-      → read set (cleaned_path (directory (guarded authority (print (read set (cleaned_path base)))) ++ print (read set path)))
+      → read set
+      (cleaned_path (directory (guarded authority (print (read set (cleaned_path base))))
+      ++ print (read set path)))
       ≡ read set (cleaned_path (directory base ++ path))
   unfolding reprinted
   merged_read authority base path h e f = cleaned_merged set w slash authority base path h e f
 
 module _ (kind : Kind) (sets : HasComponentSets kind) (ports : PortFunction) where
   reference_sets : HasComponentSets (reference_kind kind)
-  reference_sets = record { userinfo = sets.userinfo; reg_name = sets.reg_name; path = sets.path; slash = sets.slash; query = sets.query; fragment = sets.fragment }
+  reference_sets = record {
+    userinfo = sets.userinfo;
+    reg_name = sets.reg_name;
+    path =
+        sets.path;
+    slash = sets.slash;
+    query = sets.query;
+    fragment = sets.fragment;
+  }
 
   abbrev meaning : Components → Meaning
   meaning p = components_meaning kind ports p
@@ -85,7 +105,8 @@ module _ (kind : Kind) (sets : HasComponentSets kind) (ports : PortFunction) whe
   -- the target's path has lost its dot segments, and may have a guard
   pub target_meaning : (t : Components) → is_some t.scheme ≡ true
       → meaning (record t { path = guarded t.authority (cleaned_path t.path) }) ≡ meaning t
-  target_meaning = with_scheme (λ t. meaning (record t { path = guarded t.authority (cleaned_path t.path) }) ≡ meaning t)
+  target_meaning = with_scheme
+      (λ t. meaning (record t { path = guarded t.authority (cleaned_path t.path) }) ≡ meaning t)
       (λ s a p q f.
       let e = cleaned_guarded a (cleaned_path p) ∙ cleaned_twice p in
       λ i. record (meaning (of_parts (Some s) a p q f)) { path = read kind.path (e i) })
@@ -113,7 +134,9 @@ module _ (kind : Kind) (sets : HasComponentSets kind) (ports : PortFunction) whe
   either_query : (q : Option (List ℕ)) (other base : Option (List ℕ))
       → IfSome q (λ x. is_part kind.query x ≡ true)
       → option_map (read kind.query) other ≡ option_map (read kind.query) base
-      → option_map (read kind.query) (cond (is_some (option_map print (option_map (read kind.query) q))) (option_map print (option_map (read kind.query) q)) other)
+      → option_map (read kind.query)
+      (cond (is_some (option_map print (option_map (read kind.query) q)))
+      (option_map print (option_map (read kind.query) q)) other)
       ≡ option_map (read kind.query) (cond (is_some q) q base)
   either_query None other base h e = e
   either_query (Some x) other base h e = printed_query (Some x) h
@@ -131,7 +154,14 @@ module _ (kind : Kind) (sets : HasComponentSets kind) (ports : PortFunction) whe
       let query = either_query q (normal base).query base.query hq (ap (λ m. m.query) same) in
       let fragment = printed_fragment f hf in
       ap meaning (cond-true _ _ _ nothing)
-      ∙ (λ i. record { scheme = (same i).scheme; authority = (same i).authority; path = (same i).path; query = query i; fragment = fragment i })
+      ∙ (λ i. record {
+        scheme = (same i).scheme;
+        authority = (same i).authority;
+        path =
+            (same i).path;
+        query = query i;
+        fragment = fragment i;
+      })
 
   -- with a path
   on_path : (b : List ℕ) (ba : Option (List ℕ)) (bp : List ℕ) (bq bf : Option (List ℕ)) (p : List ℕ)
@@ -140,7 +170,8 @@ module _ (kind : Kind) (sets : HasComponentSets kind) (ports : PortFunction) whe
       → is_part kind.path p ≡ true → IfSome q (λ x. is_part kind.query x ≡ true)
       → IfSome f (λ x. is_part kind.fragment x ≡ true) → is_empty p ≡ false
       → (starts 47 p ≡ false → IsRooted bp)
-      → meaning (joined (normal (of_parts (Some b) ba bp bq bf)) (normal (of_parts None None p q f)))
+      → meaning
+      (joined (normal (of_parts (Some b) ba bp bq bf)) (normal (of_parts None None p q f)))
       ≡ meaning (joined (of_parts (Some b) ba bp bq bf) (of_parts None None p q f))
   on_path b ba bp bq bf p q f parts hp hq hf some rooted =
       let base = of_parts (Some b) ba bp bq bf in
@@ -154,12 +185,27 @@ module _ (kind : Kind) (sets : HasComponentSets kind) (ports : PortFunction) whe
       (λ h.
       let path = read_cleaned kind.path sets.path sets.slash p hp in
       ap meaning (cond-true _ _ _ (first ∙ h))
-      ∙ (λ i. record { scheme = (same i).scheme; authority = (same i).authority; path = path i; query = query i; fragment = fragment i })
+      ∙ (λ i. record {
+        scheme = (same i).scheme;
+        authority = (same i).authority;
+        path =
+            path i;
+        query = query i;
+        fragment = fragment i;
+      })
       ∙ sym (ap meaning (cond-false _ _ _ some ∙ cond-true _ _ _ h)))
       (λ h.
-      let path = merged_read kind.path sets.path sets.slash (normal base).authority bp p (rooted h) parts.path hp in
+      let path = merged_read kind.path sets.path sets.slash (normal base).authority bp p (rooted h)
+      parts.path hp in
       ap meaning (cond-false _ _ _ (first ∙ h))
-      ∙ (λ i. record { scheme = (same i).scheme; authority = (same i).authority; path = path i; query = query i; fragment = fragment i })
+      ∙ (λ i. record {
+        scheme = (same i).scheme;
+        authority = (same i).authority;
+        path =
+            path i;
+        query = query i;
+        fragment = fragment i;
+      })
       ∙ sym (ap meaning (cond-false _ _ _ some ∙ cond-false _ _ _ h)))
       (cases_Bool (starts 47 p))
 
@@ -169,16 +215,27 @@ module _ (kind : Kind) (sets : HasComponentSets kind) (ports : PortFunction) whe
       → IsUtf8 a → is_authority kind a ≡ true
       → is_part kind.path p ≡ true → IfSome q (λ x. is_part kind.query x ≡ true)
       → IfSome f (λ x. is_part kind.fragment x ≡ true)
-      → meaning (joined (normal (of_parts (Some b) ba bp bq bf)) (normal (of_parts None (Some a) p q f)))
+      → meaning
+      (joined (normal (of_parts (Some b) ba bp bq bf)) (normal (of_parts None (Some a) p q f)))
       ≡ meaning (joined (of_parts (Some b) ba bp bq bf) (of_parts None (Some a) p q f))
   with_authority b ba bp bq bf a p q f u e hp hq hf =
       let twice = lower_twice b in
-      let authority = ap (λ t. Some (authority_meaning kind (ports t) (normal_authority (authority_meaning kind None a)))) twice
+      let authority =
+      ap
+      (λ t. Some (authority_meaning kind (ports t)
+      (normal_authority (authority_meaning kind None a)))) twice
       ∙ ap Some (moved_authority (ports (str_to_ascii_lowercase b)) a u e) in
       let path = read_cleaned kind.path sets.path sets.slash p hp in
       let query = printed_query q hq in
       let fragment = printed_fragment f hf in
-      λ i. record { scheme = Some (twice i); authority = authority i; path = path i; query = query i; fragment = fragment i }
+      λ i. record {
+        scheme = Some (twice i);
+        authority = authority i;
+        path = path i;
+        query =
+            query i;
+        fragment = fragment i;
+      }
 
   -- what is joined means the same where both are those of normal texts
   pub joined_normal : (b : List ℕ) (ba : Option (List ℕ)) (bp : List ℕ) (bq bf : Option (List ℕ))
@@ -189,17 +246,25 @@ module _ (kind : Kind) (sets : HasComponentSets kind) (ports : PortFunction) whe
       → meaning (joined (normal (of_parts (Some b) ba bp bq bf)) (normal (of_parts s a p q f)))
       ≡ meaning (joined (of_parts (Some b) ba bp bq bf) (of_parts s a p q f))
   joined_normal b ba bp bq bf (Some s) a p q f base r rooted =
-      normal_meaning (reference_kind kind) reference_sets (keeps_authorities (reference_kind kind) reference_sets) ports (of_parts (Some s) a p q f) r
-  joined_normal b ba bp bq bf None (Some a) p q f base r rooted = with_authority b ba bp bq bf a p q f r.authority.0 r.authority.1 r.path r.query r.fragment
-  joined_normal b ba bp bq bf None None [] q f base r rooted = no_path (of_parts (Some b) ba bp bq bf) q f base r.query r.fragment
-  joined_normal b ba bp bq bf None None (c ∷ p) q f base r rooted = on_path b ba bp bq bf (c ∷ p) q f base r.path r.query r.fragment refl (λ h. rooted refl refl refl)
+      normal_meaning (reference_kind kind) reference_sets
+      (keeps_authorities (reference_kind kind) reference_sets) ports (of_parts (Some s) a p q f)
+      r
+  joined_normal b ba bp bq bf None (Some a) p q f base r rooted =
+      with_authority b ba bp bq bf a p q f r.authority.0 r.authority.1 r.path r.query r.fragment
+  joined_normal b ba bp bq bf None None [] q f base r rooted =
+      no_path (of_parts (Some b) ba bp bq bf) q f base r.query r.fragment
+  joined_normal b ba bp bq bf None None (c ∷ p) q f base r rooted =
+      on_path b ba bp bq bf (c ∷ p) q f base r.path r.query r.fragment refl
+      (λ h. rooted refl refl refl)
 
   -- an opaque base
   starts_guarded : (authority : Option (List ℕ)) (path : List ℕ)
       → starts 47 (guarded authority path) ≡ starts 47 path
   starts_guarded authority path =
-      cond_both (is_none authority && has_authority path) (codes "/." ++ path) path (λ t. starts 47 t ≡ starts 47 path)
-      (λ e. sym (authority_first path (and_parts (is_none authority) (has_authority path) e).1)) (λ e. refl)
+      cond_both (is_none authority && has_authority path) (codes "/." ++ path) path
+      (λ t. starts 47 t ≡ starts 47 path)
+      (λ e. sym (authority_first path (and_parts (is_none authority) (has_authority path) e).1))
+      (λ e. refl)
 
   opaque_normal : (b : List ℕ) (ba : Option (List ℕ)) (bp : List ℕ) (bq bf : Option (List ℕ))
       → is_part kind.path bp ≡ true
@@ -208,20 +273,27 @@ module _ (kind : Kind) (sets : HasComponentSets kind) (ports : PortFunction) whe
   opaque_normal b ba bp bq bf h =
       let base = of_parts (Some b) ba bp bq bf in
       let first = starts_guarded (normal base).authority (print (read kind.path (cleaned_path bp)))
-      ∙ starts_printed kind.path sets.path sets.slash (cleaned_path bp) (part_cleaned kind.path sets.path sets.slash bp h)
+      ∙ starts_printed kind.path sets.path sets.slash (cleaned_path bp)
+      (part_cleaned kind.path sets.path sets.slash bp h)
       ∙ starts_cleaned bp in
-      ap (λ t. t && not (starts 47 (normal base).path)) (none_map normal_authority (option_map (authority_meaning kind (ports (str_to_ascii_lowercase b))) ba) ∙ none_map (authority_meaning kind (ports (str_to_ascii_lowercase b))) ba)
+      ap (λ t. t && not (starts 47 (normal base).path))
+      (none_map normal_authority (option_map
+      (authority_meaning kind (ports (str_to_ascii_lowercase b))) ba)
+      ∙ none_map (authority_meaning kind (ports (str_to_ascii_lowercase b))) ba)
       ∙ ap (λ t. is_none ba && not t) first
 
   fragment_only_normal : (s a : Option (List ℕ)) (p : List ℕ) (q f : Option (List ℕ))
       → is_part kind.path p ≡ true
-      → (is_some (normal (of_parts s a p q f)).scheme || is_fragment_only (normal (of_parts s a p q f)))
+      → (is_some (normal (of_parts s a p q f)).scheme
+      || is_fragment_only (normal (of_parts s a p q f)))
       ≡ (is_some s || is_fragment_only (of_parts s a p q f))
   fragment_only_normal (Some s) a p q f h = refl
   fragment_only_normal None (Some a) p q f h = refl
   fragment_only_normal None None p q f h =
-      ap (λ t. t && is_none (option_map print (option_map (read kind.query) q))) (empty_printed kind.path sets.path sets.slash p h)
-      ∙ ap (λ t. is_empty p && t) (none_map print (option_map (read kind.query) q) ∙ none_map (read kind.query) q)
+      ap (λ t. t && is_none (option_map print (option_map (read kind.query) q)))
+      (empty_printed kind.path sets.path sets.slash p h)
+      ∙ ap (λ t. is_empty p && t) (none_map print (option_map (read kind.query) q)
+      ∙ none_map (read kind.query) q)
 
   pub refused_normal : (b : List ℕ) (ba : Option (List ℕ)) (bp : List ℕ) (bq bf : Option (List ℕ))
       (s a : Option (List ℕ)) (p : List ℕ) (q f : Option (List ℕ))
@@ -231,5 +303,7 @@ module _ (kind : Kind) (sets : HasComponentSets kind) (ports : PortFunction) whe
       ≡ is_refused_as_opaque (of_parts (Some b) ba bp bq bf) (of_parts s a p q f)
   refused_normal b ba bp bq bf s a p q f hb hp =
       let r = of_parts s a p q f in
-      ap (λ t. t && not (is_some (normal r).scheme || is_fragment_only (normal r))) (opaque_normal b ba bp bq bf hb)
-      ∙ ap (λ t. is_opaque (of_parts (Some b) ba bp bq bf) && not t) (fragment_only_normal s a p q f hp)
+      ap (λ t. t && not (is_some (normal r).scheme || is_fragment_only (normal r)))
+      (opaque_normal b ba bp bq bf hb)
+      ∙ ap (λ t. is_opaque (of_parts (Some b) ba bp bq bf) && not t)
+      (fragment_only_normal s a p q f hp)

@@ -1,7 +1,7 @@
 -- What a target has of a base and a reference (section 5.2.2), by what the reference has.
 use Rattle.std.proofs.Common.{◌≡◌, ℕ, ◌+◌, true, false, cond, List, [], ◌∷◌, ◌++◌, length, refl}
 use Rattle.std.proofs.Common.{sym, ap, ◌∙◌, arith, ◌-◌, ◌&&◌, append_assoc, length-append, option_map}
-use Rattle.std.specs.Prelude.{codes, Option, Some, None, is_none, is_some, ◌==◌}
+use Rattle.std.specs.Prelude.{codes, Option, Some, None, is_some, ◌==◌}
 use Rattle.std.proofs.lemmas.Bool.{cond-true, cond-false, cond_both, false≢true, ne_eqb}
 use Rattle.uri_parts.specs.declared.positions.AuthorityPositions.{AuthorityPositions}
 use Rattle.uri_parts.specs.Components.{Components, IsRooted, components, marked, recompose, starts}
@@ -15,11 +15,7 @@ use Rattle.uri_ops.proofs.Normal.WrittenPlaces.{length-behind}
 use Rattle.uri_ops.proofs.Paths.DotLaws.{directory_absolute}
 use Rattle.uri_ops.proofs.Targeting.Swaps.{not_opaque, rooted_base}
 use Rattle.uri_ops.proofs.Targeting.Targets.{absolute_append}
-use Rattle.uri_pct.proofs.Tests.{true_of}
-
-none_where : (o : Option (List ℕ)) → is_some o ≡ false → is_none o ≡ true
-none_where None e = refl
-none_where (Some x) e = absurd (false≢true (sym e))
+use Rattle.uri_pct.proofs.Tests.{true_of, absent}
 
 -- a reference with an authority stands behind the base's scheme
 pub joined_beside : (b r : Components) → is_some r.scheme ≡ false → is_some r.authority ≡ true
@@ -72,7 +68,7 @@ pub rooted_where_merged : (base : List ℕ) (r : Components)
     → is_empty r.path ≡ false → IsRooted (components base).path
 rooted_where_merged base r refused s e =
     rooted_base (components base).authority (components base).path
-    (not_opaque (components base) r refused (none_where r.scheme s) e)
+    (not_opaque (components base) r refused (absent r.scheme s) e)
     (IsSplitOf-components base).authority
 
 -- the base's query is taken by a reference of a fragment alone

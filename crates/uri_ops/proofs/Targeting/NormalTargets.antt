@@ -1,4 +1,5 @@
--- A base and a reference, and others that mean the same: the normal form of the target is one, or there is none of either.
+-- A base and a reference, and others that mean the same: the normal form of the target is one, or
+-- there is none of either.
 use Rattle.std.proofs.Common.{◌≡◌, ℕ, Bool, true, List, refl, sym, ap, subst, ◌∙◌}
 use Rattle.std.specs.Prelude.{Result, Ok, Err, IfErr, IsErrAnd, is_ok}
 use Rattle.std.specs.Result.{result_map_both}
@@ -12,12 +13,12 @@ use Rattle.uri_ops.specs.NormalTargets.{HasMeaningOf, HasTargetMeaning, IsRefuse
 use Rattle.uri_ops.specs.NormalTargets.{IsTargetOfMeanings, IsErrorOfMeanings, IsNormalTarget}
 use Rattle.uri_ops.specs.NormalTargets.{IsRefusedAlike}
 use Rattle.uri_ops.specs.Normalizers.{IsNormalForm}
-use Rattle.uri_ops.specs.Ports.{PortFunction}
-use Rattle.uri_ops.specs.References.{reference_kind, resolved_meaning}
+use Rattle.uri_parts.specs.Ports.{PortFunction}
+use Rattle.uri_ops.specs.NormalTargets.{reference_kind, resolved_meaning}
 use Rattle.uri_ops.specs.Resolving.{IsTarget, IsErrorFor, IsRefusalFor}
 use Rattle.uri_ops.specs.Target.{Refusal, BaseWithFragment, InvalidReferenceAgainstOpaqueBase}
 use Rattle.uri_ops.specs.Target.{resolution_of}
-use Rattle.uri_ops.specs.Texts.{IsTextOf}
+use Rattle.uri_parts.specs.Grammar.{IsTextOf}
 use Rattle.uri_ops.specs.declared.resolve.ResolveError.{ResolveError}
 use Rattle.uri_ops.specs.declared.resolve.ResolveError.TheVariants as Of
 use Rattle.uri_ops.proofs.Targeting.Swaps.{resolved_alike}
@@ -65,10 +66,10 @@ module _ {A : Type 0} (f : List ℕ → A) where
   refusal_alike (Err w) y z e h = ap Err (same_refusal w z (mapped y) (sym e) (ap mapped h))
 
 -- a text with the same meaning has the same normal form
-same_normal_form : (kind : Kind) (ports : PortFunction) (text other normal : List ℕ)
+pub normal_form_by_meaning : (kind : Kind) (ports : PortFunction) (text other normal : List ℕ)
     → meaning_of kind ports other ≡ meaning_of kind ports text → IsNormalForm kind ports text normal
     → IsNormalForm kind ports other normal
-same_normal_form kind ports text other normal e h = record {
+normal_form_by_meaning kind ports text other normal e h = record {
   text = record { text = h.text.text ∙ ap normal_text (sym e) };
   meaning = h.meaning ∙ sym e;
   same = λ u w. let both = h.same u w in (λ d. e ∙ both.0 d, λ d. both.1 (sym e ∙ d));
@@ -80,7 +81,8 @@ refused_alike : (b r base reference : Components) (error : ResolveError)
     → is_ok (resolution_of b r) ≡ is_ok (resolution_of base reference)
     → IsRefusalFor base reference error → IsRefusalFor b r error
 refused_alike b r base reference Of.BaseWithFragment f e h = f BaseWithFragment h
-refused_alike b r base reference Of.InvalidReferenceAgainstOpaqueBase f e h = f InvalidReferenceAgainstOpaqueBase h
+refused_alike b r base reference Of.InvalidReferenceAgainstOpaqueBase f e h =
+    f InvalidReferenceAgainstOpaqueBase h
 refused_alike b r base reference Of.PathUnderflow f e h = h
 refused_alike b r base reference Of.OutOfMemory f e h = e ∙ h
 
@@ -89,47 +91,57 @@ error_alike : (allowed : Bool) (b r base reference : Components) (error : Resolv
     → is_ok (resolution_of b r) ≡ is_ok (resolution_of base reference)
     → IsErrorFor allowed base reference error → IsRefusedFor b r error
 error_alike allowed b r base reference Of.BaseWithFragment f e h = f BaseWithFragment h
-error_alike allowed b r base reference Of.InvalidReferenceAgainstOpaqueBase f e h = f InvalidReferenceAgainstOpaqueBase h
+error_alike allowed b r base reference Of.InvalidReferenceAgainstOpaqueBase f e h =
+    f InvalidReferenceAgainstOpaqueBase h
 error_alike allowed b r base reference Of.PathUnderflow f e h = e ∙ h.0
 error_alike allowed b r base reference Of.OutOfMemory f e h = e ∙ h
 
 module _ (kind of_reference : Kind) (sets : HasComponentSets kind)
     (needs : kind.needs_scheme ≡ true) (same : of_reference ≡ reference_kind kind)
     (ports : PortFunction)
-    (base reference : List ℕ) (of_base : IsTextOf kind base) (of_ref : IsTextOf of_reference reference) where
+    (base reference : List ℕ) (of_base : IsTextOf kind base)
+    (of_ref : IsTextOf of_reference reference) where
   resolve_alike : (b r : List ℕ) → HasMeaningOf kind ports base b
       → HasMeaningOf of_reference ports reference r
       → resolved_meaning kind ports b r ≡ resolved_meaning kind ports base reference
   resolve_alike b r v w =
       let x = subst (λ k. IsTextOf k reference) same of_ref in
       let y = subst (λ k. HasMeaningOf k ports reference r) same w in
-      resolved_alike kind ports sets b base r reference needs v.of_kind of_base y.of_kind x v.meaning y.meaning
+      resolved_alike kind ports sets b base r reference needs v.of_kind of_base y.of_kind x
+      v.meaning y.meaning
 
   target_meaning : (b r target : List ℕ) → HasMeaningOf kind ports base b
       → HasMeaningOf of_reference ports reference r
       → resolution_of (components base) (components reference) ≡ Ok target
       → HasTargetMeaning kind ports b r target
   target_meaning b r target v w e =
-      let t = target_alike (meaning_of kind ports) (resolution_of (components b) (components r)) (resolution_of (components base) (components reference)) target (resolve_alike b r v w) e in
+      let t = target_alike (meaning_of kind ports) (resolution_of (components b) (components r))
+      (resolution_of (components base) (components reference)) target (resolve_alike b r v w)
+      e in
       (t.0, (t.1.0, t.1.1))
 
   refusal_for : (b r : List ℕ) → HasMeaningOf kind ports base b
       → HasMeaningOf of_reference ports reference r → (z : Refusal)
       → resolution_of (components base) (components reference) ≡ Err z
       → resolution_of (components b) (components r) ≡ Err z
-  refusal_for b r v w z e = refusal_alike (meaning_of kind ports) (resolution_of (components b) (components r)) (resolution_of (components base) (components reference)) z (resolve_alike b r v w) e
+  refusal_for b r v w z e = refusal_alike (meaning_of kind ports)
+      (resolution_of (components b) (components r))
+      (resolution_of (components base) (components reference)) z (resolve_alike b r v w) e
 
   ok_for : (b r : List ℕ) → HasMeaningOf kind ports base b
       → HasMeaningOf of_reference ports reference r
       → is_ok (resolution_of (components b) (components r))
       ≡ is_ok (resolution_of (components base) (components reference))
-  ok_for b r v w = ok_alike (meaning_of kind ports) (resolution_of (components b) (components r)) (resolution_of (components base) (components reference)) (resolve_alike b r v w)
+  ok_for b r v w = ok_alike (meaning_of kind ports) (resolution_of (components b) (components r))
+      (resolution_of (components base) (components reference)) (resolve_alike b r v w)
 
   refused_for : (allowed : Bool) (b r : List ℕ) (error : ResolveError)
       → HasMeaningOf kind ports base b → HasMeaningOf of_reference ports reference r
       → IsErrorFor allowed (components base) (components reference) error
       → IsRefusedFor (components b) (components r) error
-  refused_for allowed b r error v w h = error_alike allowed (components b) (components r) (components base) (components reference) error (refusal_for b r v w) (ok_for b r v w) h
+  refused_for allowed b r error v w h =
+      error_alike allowed (components b) (components r) (components base) (components reference)
+      error (refusal_for b r v w) (ok_for b r v w) h
 
   pub normal_target : (target normal : List ℕ)
       → resolution_of (components base) (components reference) ≡ Ok target
@@ -139,7 +151,7 @@ module _ (kind of_reference : Kind) (sets : HasComponentSets kind)
     target = (target, (e, h));
     swap = λ b r v w.
         let t = target_meaning b r target v w e in
-        (t.0, (t.1.0, same_normal_form kind ports target t.0 normal t.1.1 h));
+        (t.0, (t.1.0, normal_form_by_meaning kind ports target t.0 normal t.1.1 h));
   }
 
   pub refusal : (error : ResolveError)
@@ -149,19 +161,30 @@ module _ (kind of_reference : Kind) (sets : HasComponentSets kind)
       let h = refusal_where_allowed (components base) (components reference) error e in
       record {
         refusal = h;
-        swap = λ b r v w. refused_alike (components b) (components r) (components base) (components reference) error (refusal_for b r v w) (ok_for b r v w) h;
+        swap = λ b r v w. refused_alike (components b) (components r) (components base)
+            (components reference) error (refusal_for b r v w) (ok_for b r v w) h;
       }
 
 -- under any function of default ports
 module _ (kind of_reference : Kind) (sets : HasComponentSets kind)
     (needs : kind.needs_scheme ≡ true) (same : of_reference ≡ reference_kind kind) (allowed : Bool)
-    (base reference : List ℕ) (of_base : IsTextOf kind base) (of_ref : IsTextOf of_reference reference) where
+    (base reference : List ℕ) (of_base : IsTextOf kind base)
+    (of_ref : IsTextOf of_reference reference) where
   pub target_of_meanings : (target : List ℕ)
       → IsTarget allowed (components base) (components reference) target
       → IsTargetOfMeanings kind of_reference base reference target
-  target_of_meanings target h = record { alike = λ ports b r v w. target_meaning kind of_reference sets needs same ports base reference of_base of_ref b r target v w h.0 }
+  target_of_meanings target h = record {
+    alike =
+        λ ports b r v w. target_meaning kind of_reference sets needs same ports base reference
+        of_base
+        of_ref b r target v w h.0;
+  }
 
   pub error_of_meanings : (error : ResolveError)
       → IsErrorFor allowed (components base) (components reference) error
       → IsErrorOfMeanings kind of_reference base reference error
-  error_of_meanings error h = record { alike = λ ports b r v w. refused_for kind of_reference sets needs same ports base reference of_base of_ref allowed b r error v w h }
+  error_of_meanings error h = record {
+    alike =
+        λ ports b r v w. refused_for kind of_reference sets needs same ports base reference of_base
+        of_ref allowed b r error v w h;
+  }

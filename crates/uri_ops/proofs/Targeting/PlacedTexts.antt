@@ -15,11 +15,12 @@ use Rattle.uri_parts.proofs.Authorities.AuthorityPlaces.{host_place}
 use Rattle.uri_parts.proofs.Splitting.Fragments.{from_start, mark_boundary}
 use Rattle.uri_parts.proofs.Splitting.Marks.{fragment_text}
 use Rattle.uri_parts.proofs.Splitting.Places.{after_mark, before_hash, before_hash-append}
-use Rattle.uri_parts.proofs.Splitting.Places.{length-before_hash, path_place, range-between}
+use Rattle.uri_parts.proofs.Splitting.Places.{length-before_hash, range-between}
+use Rattle.uri_parts.proofs.Splitting.PlacedComponents.{path_place}
 use Rattle.uri_parts.proofs.Splitting.Recompose.{IsSplitOf-components, recompose-components}
 use Rattle.uri_ops.specs.Dots.{IsAbsolute}
 use Rattle.uri_ops.specs.Models.Places.{IsSlashOrAt, before_path}
-use Rattle.uri_ops.specs.Texts.{IsTextOf}
+use Rattle.uri_parts.specs.Grammar.{IsTextOf}
 use Rattle.uri_ops.proofs.Normal.NormalTexts.{parts_of}
 use Rattle.uri_ops.proofs.Normal.WrittenPlaces.{length-before, length-before_path, length-behind}
 use Rattle.uri_ops.proofs.Paths.LastSlashes.{cut, length_before, taken_slash}

@@ -1,5 +1,5 @@
 -- A reference's path behind a directory, where neither has dot segments.
-use Rattle.std.proofs.Common.{◌≡◌, ℕ, ◌+◌, true, false, List, [], ◌∷◌, ◌++◌, length, take, drop}
+use Rattle.std.proofs.Common.{◌≡◌, ℕ, ◌+◌, true, false, List, [], ◌++◌, length, take, drop}
 use Rattle.std.proofs.Common.{ap, sym, refl, ◌∙◌, ◌&&◌, ◌||◌, append_assoc, length-append, option_map}
 use Rattle.std.proofs.Common.{arith, inr}
 use Rattle.std.specs.Prelude.{codes, not, Option, Some, None, is_none, is_some}
@@ -22,7 +22,8 @@ use Rattle.uri_ops.proofs.Paths.LeftPaths.{plain_behind}
 use Rattle.uri_ops.proofs.Paths.GuardedPaths.{guarded_behind}
 use Rattle.uri_ops.proofs.Targeting.JoinedPieces.{joined_behind}
 use Rattle.uri_ops.proofs.Targeting.Targets.{absolute_append}
-use Rattle.uri_pct.proofs.Tests.{true_of}
+use Rattle.uri_pct.proofs.Tests.{true_of, present, no_part}
+use Rattle.uri_ops.proofs.Paths.DotRuns.{none_length}
 
 -- a base up to the last `/` of its path
 pub plain_front : (b : Components) (slash : ℕ) (front : List ℕ) → IsAbsolute b.path
@@ -57,23 +58,11 @@ text_of_path r s a = λ i. marked [] (s i) (codes ":") ++
     (marked (codes "//") (a i) [] ++
     (r.path ++ (marked (codes "?") r.query [] ++ marked (codes "#") r.fragment [])))
 
-pub no_part : (o : Option (List ℕ)) → is_some o ≡ false → o ≡ None
-no_part None e = refl
-no_part (Some x) e = absurd (false≢true (sym e))
-
-no_text : (text : List ℕ) → is_empty text ≡ true → text ≡ []
-no_text [] e = refl
-no_text (c ∷ text) e = absurd (false≢true e)
-
 -- a base with an authority takes every reference
 taken_behind : (b r : Components) → is_some b.authority ≡ true → is_refused_as_opaque b r ≡ false
 taken_behind b r some = ap
     (λ x. (x && not (starts 47 b.path)) && not (is_some r.scheme || is_fragment_only r))
     (present b.authority some)
-  where
-    present : (o : Option (List ℕ)) → is_some o ≡ true → is_none o ≡ false
-    present None e = absurd (false≢true e)
-    present (Some x) e = refl
 
 -- a path or a query is more than a fragment
 more_than_fragment : (r : Components) → (is_empty r.path && is_none r.query) ≡ false
@@ -211,7 +200,7 @@ module _ (b r : Components) (front : List ℕ) (s : is_some r.scheme ≡ false)
       let scheme = no_part r.scheme s in
       let authority = no_part r.authority a in
       let path : b.path ≡ b.path ++ r.path = sym
-      (ap (λ x. b.path ++ x) (no_text r.path e) ∙ append-nil b.path) in
+      (ap (λ x. b.path ++ x) (none_length r.path e) ∙ append-nil b.path) in
       let done : finished (joined b r) ≡ record b
       { path = b.path ++ r.path; query = r.query; fragment = r.fragment } =
       ap finished joined_beneath
@@ -226,13 +215,9 @@ module _ (b r : Components) (front : List ℕ) (s : is_some r.scheme ≡ false)
         underflow = lasting;
         text = behind_text b r front b.path scheme authority f done;
         alone = λ h. absurd (false≢true
-            (more_than_fragment r (ap (λ x. x && is_none r.query) e ∙ not_none r.query q) h));
+            (more_than_fragment r (ap (λ x. x && is_none r.query) e ∙ present r.query q) h));
         behind = λ _. behind_places b r front b.path scheme authority f done;
       }
-    where
-      not_none : (o : Option (List ℕ)) → is_some o ≡ true → is_none o ≡ false
-      not_none None h = absurd (false≢true h)
-      not_none (Some x) h = refl
 
   -- and else behind all that stands before the base's fragment
   pub fragment_target : is_some r.query ≡ false
@@ -250,7 +235,8 @@ module _ (b r : Components) (front : List ℕ) (s : is_some r.scheme ≡ false)
       let query = marked (codes "?") b.query [] in
       let fragment = marked (codes "#") r.fragment [] in
       let end : recompose r ≡ fragment = text_of_path r (no_part r.scheme s) (no_part r.authority a)
-      ∙ (λ i. no_text r.path e i ++ (marked (codes "?") (no_part r.query q i) [] ++ fragment)) in
+      ∙ (λ i. none_length r.path e i
+      ++ (marked (codes "?") (no_part r.query q i) [] ++ fragment)) in
       let only : is_fragment_only r ≡ true =
       λ i. is_none (no_part r.scheme s i) && is_none (no_part r.authority a i) && e i && is_none
       (no_part r.query q i) in

@@ -4,7 +4,8 @@ use Rattle.std.specs.Result.{result_map_both}
 use Rattle.uri_ops.specs.Target.{Refusal, BaseWithFragment, InvalidReferenceAgainstOpaqueBase}
 
 unfoldable pub outcome : {A : Type 0} → Bool → Bool → A → Result A Refusal
-outcome fragment opaque x = cond fragment (Err BaseWithFragment) (cond opaque (Err InvalidReferenceAgainstOpaqueBase) (Ok x))
+outcome fragment opaque x = cond fragment (Err BaseWithFragment)
+    (cond opaque (Err InvalidReferenceAgainstOpaqueBase) (Ok x))
 
 pub outcome_map : {A B : Type 0} (f : A → B) (fragment opaque : Bool) (x : A)
     → result_map_both f (λ (refusal : Refusal). refusal) (outcome fragment opaque x)

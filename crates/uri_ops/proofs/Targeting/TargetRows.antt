@@ -8,13 +8,18 @@ use Rattle.uri_ops.specs.Target.{resolution_of, target_underflows}
 
 -- the target, where its path does not underflow and where it does; and a refusal
 Resolves : List ℕ → List ℕ → List ℕ → Type 0
-Resolves base reference target = (resolution_of (components base) (components reference) ≡ Ok target) × (target_underflows (components base) (components reference) ≡ false)
+Resolves base reference target =
+    (resolution_of (components base) (components reference) ≡ Ok target)
+    × (target_underflows (components base) (components reference) ≡ false)
 
 Underflows : List ℕ → List ℕ → List ℕ → Type 0
-Underflows base reference target = (resolution_of (components base) (components reference) ≡ Ok target) × (target_underflows (components base) (components reference) ≡ true)
+Underflows base reference target =
+    (resolution_of (components base) (components reference) ≡ Ok target)
+    × (target_underflows (components base) (components reference) ≡ true)
 
 Refuses : List ℕ → List ℕ → Refusal → Type 0
-Refuses base reference refusal = resolution_of (components base) (components reference) ≡ Err refusal
+Refuses base reference refusal = resolution_of (components base) (components reference)
+    ≡ Err refusal
 
 base : List ℕ
 base = codes "http://a/b/c/d;p?q"
@@ -45,8 +50,31 @@ normal_examples :
     × Resolves base (codes "../../") (codes "http://a/")
     × Resolves base (codes "../../g") (codes "http://a/g")
 unfolding Resolves base remove_dot_segments underflows directory run
-normal_examples =
-    ((refl, refl), (refl, refl), (refl, refl), (refl, refl), (refl, refl), (refl, refl), (refl, refl), (refl, refl), (refl, refl), (refl, refl), (refl, refl), (refl, refl), (refl, refl), (refl, refl), (refl, refl), (refl, refl), (refl, refl), (refl, refl), (refl, refl), (refl, refl), (refl, refl), (refl, refl), (refl, refl))
+normal_examples = (
+  (refl, refl),
+  (refl, refl),
+  (refl, refl),
+  (refl, refl),
+  (refl, refl),
+  (refl, refl),
+  (refl, refl),
+  (refl, refl),
+  (refl, refl),
+  (refl, refl),
+  (refl, refl),
+  (refl, refl),
+  (refl, refl),
+  (refl, refl),
+  (refl, refl),
+  (refl, refl),
+  (refl, refl),
+  (refl, refl),
+  (refl, refl),
+  (refl, refl),
+  (refl, refl),
+  (refl, refl),
+  (refl, refl),
+)
 
 -- section 5.4.2
 abnormal_examples :
@@ -70,11 +98,30 @@ abnormal_examples :
     × Resolves base (codes "g#s/../x") (codes "http://a/b/c/g#s/../x")
     × Resolves base (codes "http:g") (codes "http:g")
 unfolding Resolves Underflows base remove_dot_segments underflows directory run
-abnormal_examples =
-    ((refl, refl), (refl, refl), (refl, refl), (refl, refl), (refl, refl), (refl, refl), (refl, refl), (refl, refl), (refl, refl), (refl, refl), (refl, refl), (refl, refl), (refl, refl), (refl, refl), (refl, refl), (refl, refl), (refl, refl), (refl, refl), (refl, refl))
+abnormal_examples = (
+  (refl, refl),
+  (refl, refl),
+  (refl, refl),
+  (refl, refl),
+  (refl, refl),
+  (refl, refl),
+  (refl, refl),
+  (refl, refl),
+  (refl, refl),
+  (refl, refl),
+  (refl, refl),
+  (refl, refl),
+  (refl, refl),
+  (refl, refl),
+  (refl, refl),
+  (refl, refl),
+  (refl, refl),
+  (refl, refl),
+  (refl, refl),
+)
 
--- what is not in the RFC: encoded dots, `/.` before `//`, a base that ends in a double dot, an empty reference path, a path
--- that does not begin with `/`
+-- what is not in the RFC: encoded dots, `/.` before `//`, a base that ends in a double dot, an
+-- empty reference path, a path that does not begin with `/`
 others :
     Resolves (codes "foo:/bar/..") (codes ".") (codes "foo:/")
     × Resolves (codes "foo:/") (codes ".//@@") (codes "foo:/.//@@")
@@ -86,12 +133,26 @@ others :
     × Resolves (codes "foo:") (codes "#x") (codes "foo:#x")
     × Underflows (codes "foo:/..") (codes "?a") (codes "foo:/?a")
     × Underflows (codes "HTTP://A/%2e%2E/b/c") (codes "%2E./d") (codes "HTTP://A/d")
-    × Resolves (codes "http://example.com/foo/bar") (codes "?baz") (codes "http://example.com/foo/bar?baz")
+    × Resolves (codes "http://example.com/foo/bar") (codes "?baz")
+    (codes "http://example.com/foo/bar?baz")
     × Resolves (codes "foo:bar") (codes "g:h/..") (codes "g:h/..")
     × Resolves (codes "foo:bar?q") [] (codes "foo:bar?q")
 unfolding Resolves Underflows remove_dot_segments underflows directory run
-others =
-    ((refl, refl), (refl, refl), (refl, refl), (refl, refl), (refl, refl), (refl, refl), (refl, refl), (refl, refl), (refl, refl), (refl, refl), (refl, refl), (refl, refl), (refl, refl))
+others = (
+  (refl, refl),
+  (refl, refl),
+  (refl, refl),
+  (refl, refl),
+  (refl, refl),
+  (refl, refl),
+  (refl, refl),
+  (refl, refl),
+  (refl, refl),
+  (refl, refl),
+  (refl, refl),
+  (refl, refl),
+  (refl, refl),
+)
 
 -- refusals: the base's fragment is asked for first
 refused :

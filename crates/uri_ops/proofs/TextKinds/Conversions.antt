@@ -17,7 +17,7 @@ use Rattle.uri_ops.specs.Conversions.{is_past_ascii, first_past_ascii, scheme_re
 use Rattle.uri_ops.specs.Conversions.{ascii_refusal, uri_refusal}
 use Rattle.uri_ops.specs.Encoded.{encoded_text, ascii_kind, MeanTheSame}
 use Rattle.uri_ops.specs.Meaning.{bare_meaning_of, meaning_of}
-use Rattle.uri_ops.specs.Ports.{PortFunction, no_defaults}
+use Rattle.uri_parts.specs.Ports.{PortFunction, no_defaults}
 use Rattle.uri_ops.proofs.AsciiForms.AsciiTexts.{text_ascii}
 use Rattle.uri_ops.proofs.AsciiForms.EncodedMeanings.{encoded_is_text, meaning_of-encoded}
 use Rattle.uri_ops.proofs.AsciiForms.EncodedPaths.{encoded-ascii}
@@ -42,7 +42,8 @@ with_scheme text e = ⊎_elim
 
 needed : (kind : Kind) (text : List ℕ) → is_some (components text).scheme ≡ true
     → IsOfKind kind text → IsOfKind (record kind { needs_scheme = true }) text
-needed kind text s h = let p = and_parts _ _ h in and_from _ _ p.0 (present (is_some (components text).scheme) s _)
+needed kind text s h = let p = and_parts _ _ h in
+    and_from _ _ p.0 (present (is_some (components text).scheme) s _)
   where
     present : (b : Bool) → b ≡ true → (c : Bool) → (b || c) ≡ true
     present true e c = refl
@@ -50,11 +51,19 @@ needed kind text s h = let p = and_parts _ _ h in and_from _ _ p.0 (present (is_
 
 pub uri_with_scheme : (text : List ℕ) → IsOfKind uri_ref text
     → (scheme_refusal text ≡ None ↔ IsOfKind uri text)
-uri_with_scheme text h = (λ e. needed uri_ref text (with_scheme text e) h, λ w. none_refused text (uri_has_scheme text w))
+uri_with_scheme text h = (
+  λ e. needed uri_ref text (with_scheme text e) h,
+  λ w. none_refused text
+      (uri_has_scheme text w),
+)
 
 pub iri_with_scheme : (text : List ℕ) → IsOfKind iri_ref text
     → (scheme_refusal text ≡ None ↔ IsOfKind iri text)
-iri_with_scheme text h = (λ e. needed iri_ref text (with_scheme text e) h, λ w. none_refused text (iri_has_scheme text w))
+iri_with_scheme text h = (
+  λ e. needed iri_ref text (with_scheme text e) h,
+  λ w. none_refused text
+      (iri_has_scheme text w),
+)
 
 -- characters past ASCII
 abbrev is_ascii : ℕ → Bool
@@ -65,7 +74,8 @@ ascii_ahead : (text : List ℕ) → list_all (λ c. ltb c 128) text ≡ true
 ascii_ahead [] e = refl
 ascii_ahead (c ∷ text) e =
     let p = and_parts (ltb c 128) (list_all (λ c. ltb c 128) text) e in
-    let n : prefix_len is_ascii (c ∷ text) ≡ 1 + prefix_len is_ascii text = cond-true _ _ _ (ap (λ b. not (not b)) p.0) in
+    let n : prefix_len is_ascii (c ∷ text) ≡ 1 + prefix_len is_ascii text =
+    cond-true _ _ _ (ap (λ b. not (not b)) p.0) in
     let m : prefix_len is_ascii text ≡ length text = ascii_ahead text p.1 in
     omega arith
 
@@ -73,9 +83,11 @@ all_ahead : (text : List ℕ) → length text ≤ prefix_len is_ascii text
     → list_all (λ c. ltb c 128) text ≡ true
 all_ahead [] h = refl
 all_ahead (c ∷ text) h = ⊎_elim
-    (λ e. let n : prefix_len is_ascii (c ∷ text) ≡ 1 + prefix_len is_ascii text = cond-true _ _ _ (ap (λ b. not (not b)) e) in
+    (λ e. let n : prefix_len is_ascii (c ∷ text) ≡ 1 + prefix_len is_ascii text =
+    cond-true _ _ _ (ap (λ b. not (not b)) e) in
     and_from _ _ e (all_ahead text (omega arith)))
-    (λ e. let n : prefix_len is_ascii (c ∷ text) ≡ 0 = cond-false _ _ _ (ap (λ b. not (not b)) e) in absurd (omega arith))
+    (λ e. let n : prefix_len is_ascii (c ∷ text) ≡ 0 = cond-false _ _ _ (ap (λ b. not (not b)) e) in
+    absurd (omega arith))
     (cases_Bool (ltb c 128))
 
 some_index : (index : ℕ) → Some index ≡ None → ⊥
@@ -90,7 +102,8 @@ unfolding ascii_refusal first_past_ascii
 all_ascii text e =
     let none = none_mapped (position is_past_ascii text) e in
     ⊎_elim
-    (λ h. absurd (some_index (prefix_len is_ascii text) (sym (cond-true _ _ _ (lt-ltb (prefix_len is_ascii text) (length text) h)) ∙ none)))
+    (λ h. absurd (some_index (prefix_len is_ascii text)
+    (sym (cond-true _ _ _ (lt-ltb (prefix_len is_ascii text) (length text) h)) ∙ none)))
     (λ h. all_ahead text h)
     (cases_lt (prefix_len is_ascii text) (length text))
 
@@ -98,7 +111,8 @@ none_past : (text : List ℕ) → list_all (λ c. ltb c 128) text ≡ true → a
 unfolding ascii_refusal first_past_ascii
 none_past text e =
     let n = ascii_ahead text e in
-    ap (option_map (λ index. NotAscii index)) (cond-false _ _ _ (le-ltb (prefix_len is_ascii text) (length text) (omega arith)))
+    ap (option_map (λ index. NotAscii index))
+    (cond-false _ _ _ (le-ltb (prefix_len is_ascii text) (length text) (omega arith)))
 
 module _ (kind : Kind) (sets : HasComponentSets kind) where
   ascii_text : (text : List ℕ) → IsUtf8 text → IsOfKind kind text
@@ -130,19 +144,23 @@ pub uri_of_ascii : (text : List ℕ) → IsUtf8 text → IsOfKind iri_ref text
     → (uri_refusal text ≡ None ↔ IsOfKind uri text)
 unfolding uri_refusal
 uri_of_ascii text u h = (
-  λ e. let p = both_none (scheme_refusal text) (ascii_refusal text) e in (uri_with_scheme text ((iri_ref_of_ascii text u h).0 p.1)).0 p.0,
+  λ e. let p = both_none (scheme_refusal text) (ascii_refusal text) e in
+      (uri_with_scheme text ((iri_ref_of_ascii text u h).0 p.1)).0 p.0,
   λ w.
       let reference = uri_is_uri_ref text w in
-      none_both (scheme_refusal text) (ascii_refusal text) ((uri_with_scheme text reference).1 w) ((iri_ref_of_ascii text u h).1 reference),
+      none_both (scheme_refusal text) (ascii_refusal text) ((uri_with_scheme text reference).1 w)
+      ((iri_ref_of_ascii text u h).1 reference),
 )
 
 -- a URI is an IRI
 pub uri_is_iri : (text : List ℕ) → IsUtf8 text → IsOfKind uri text → IsOfKind iri text
-uri_is_iri text u h = (text_wider uri iri iri_sets (ascii_within iri) text (record { utf8 = u; grammar = h })).grammar
+uri_is_iri text u h =
+    (text_wider uri iri iri_sets (ascii_within iri) text (record { utf8 = u; grammar = h })).grammar
 
 pub uri_ref_is_iri_ref : (text : List ℕ) → IsUtf8 text → IsOfKind uri_ref text
     → IsOfKind iri_ref text
-uri_ref_is_iri_ref text u h = (text_wider uri_ref iri_ref iri_ref_sets (ascii_within iri_ref) text (record { utf8 = u; grammar = h })).grammar
+uri_ref_is_iri_ref text u h = (text_wider uri_ref iri_ref iri_ref_sets (ascii_within iri_ref) text
+    (record { utf8 = u; grammar = h })).grammar
 
 -- an IRI with its characters past ASCII as octets is a URI of the same meaning
 module _ (kind : Kind) (sets : HasComponentSets kind) where
@@ -187,7 +205,8 @@ iri_means_under text encoded e u h ports = encoded_means_under iri iri_sets text
 pub iri_ref_means_under : (text encoded : List ℕ) → encoded ≡ encoded_text text → IsUtf8 text
     → IsOfKind iri_ref text → (ports : PortFunction)
     → meaning_of iri_ref ports encoded ≡ meaning_of iri_ref ports text
-iri_ref_means_under text encoded e u h ports = encoded_means_under iri_ref iri_ref_sets text encoded e u h ports
+iri_ref_means_under text encoded e u h ports =
+    encoded_means_under iri_ref iri_ref_sets text encoded e u h ports
 
 pub ruleset uri_widening = (uri_is_uri_ref, uri_ref_is_iri_ref)
 

@@ -25,7 +25,8 @@ in_query c e = or_left _ _ (in_pchar c e)
 
 -- the set of a component whose ASCII characters are these
 component : (test : ℕ → Bool) (past private : Bool) → TableSet
-component test past private = record { ascii = test; pct_encoded = true; ucschar = past; iprivate = private }
+component test past private =
+    record { ascii = test; pct_encoded = true; ucschar = past; iprivate = private }
 
 component_set : (marks : List ℕ) (test : ℕ → Bool) (past private : Bool)
     → ((c : ℕ) → is_unreserved c ≡ true → test c ≡ true) → test 37 ≡ false
@@ -33,7 +34,13 @@ component_set : (marks : List ℕ) (test : ℕ → Bool) (past private : Bool)
     → IsComponentSet marks (component test past private)
 unfolding component
 component_set marks test past private within percent ends = record {
-  unreserved = record { ascii = within; pct_encoded = λ e. refl; ucschar = λ e. absurd (false≢true e); iprivate = λ e. absurd (false≢true e) };
+  unreserved = record {
+    ascii = within;
+    pct_encoded = λ e. refl;
+    ucschar =
+        λ e. absurd (false≢true e);
+    iprivate = λ e. absurd (false≢true e);
+  };
   percent = percent;
   octets = refl;
   ends = ends;

@@ -41,7 +41,8 @@ colon_to false c h = ⊎_elim (λ e. absurd (false≢true e)) (λ e. ap not e) h
 rule_to : (s n a c : Bool) → (s ≡ true) ⊎ ((n ≡ false) × ((a ≡ true) ⊎ (c ≡ false)))
     → (s || (not n && (a || not c))) ≡ true
 rule_to true n a c h = refl
-rule_to false true a c h = ⊎_elim (λ e. absurd (false≢true e)) (λ p. absurd (false≢true (sym p.0))) h
+rule_to false true a c h = ⊎_elim (λ e. absurd (false≢true e)) (λ p. absurd (false≢true (sym p.0)))
+    h
 rule_to false false a c h = ⊎_elim (λ e. absurd (false≢true e)) (λ p. colon_to a c p.1) h
 
 module _ (kind : Kind) (sets : HasComponentSets kind) where
@@ -51,24 +52,37 @@ module _ (kind : Kind) (sets : HasComponentSets kind) where
       let parts = meet_parts kind p (components_utf8 text u) h in
       record {
         split = IsSplitOf-components text;
-        scheme = each_some p.scheme (λ s. IsUtf8 s × (is_scheme s ≡ true)) (λ s. is_scheme s ≡ true) (λ s w. w.1) parts.scheme;
-        authority = each_some p.authority (λ a. IsUtf8 a × (is_authority kind a ≡ true)) (HasAuthorityParts kind)
-            (λ a w. (authority_parts a, is_authority_for-sound kind.userinfo kind.reg_name a w.1)) parts.authority;
+        scheme = each_some p.scheme (λ s. IsUtf8 s × (is_scheme s ≡ true)) (λ s. is_scheme s ≡ true)
+            (λ s w. w.1) parts.scheme;
+        authority = each_some p.authority (λ a. IsUtf8 a × (is_authority kind a ≡ true))
+            (HasAuthorityParts kind)
+            (λ a w. (authority_parts a, is_authority_for-sound kind.userinfo kind.reg_name a w.1))
+            parts.authority;
         path = part_valid kind.path p.path parts.path;
-        query = each_some p.query (λ q. is_part kind.query q ≡ true) _ (λ q w. part_valid kind.query q w) parts.query;
-        fragment = each_some p.fragment (λ q. is_part kind.fragment q ≡ true) _ (λ q w. part_valid kind.fragment q w) parts.fragment;
-        reference = rule_from (is_some p.scheme) kind.needs_scheme (is_some p.authority) (has_colon_first p.path) parts.needs;
+        query = each_some p.query (λ q. is_part kind.query q ≡ true) _
+            (λ q w. part_valid kind.query q w) parts.query;
+        fragment = each_some p.fragment (λ q. is_part kind.fragment q ≡ true) _
+            (λ q w. part_valid kind.fragment q w) parts.fragment;
+        reference = rule_from (is_some p.scheme) kind.needs_scheme (is_some p.authority)
+            (has_colon_first p.path) parts.needs;
       }
 
   meets : (text : List ℕ) (p : Components) → AreUtf8 p → IsSpeltBy kind text p → AreParts kind p
   meets text p u g = record {
-    scheme = both_some p.scheme IsUtf8 (λ s. is_scheme s ≡ true) _ (λ s v w. (v, w)) u.scheme g.scheme;
+    scheme = both_some p.scheme IsUtf8 (λ s. is_scheme s ≡ true) _ (λ s v w. (v, w)) u.scheme
+        g.scheme;
     authority = both_some p.authority IsUtf8 (HasAuthorityParts kind) _
-        (λ a v w. (v, is_authority_for-complete kind.userinfo kind.reg_name (keeps_apart kind sets) a w.0 v w.1)) u.authority g.authority;
+        (λ a v w. (
+          v,
+          is_authority_for-complete kind.userinfo kind.reg_name (keeps_apart kind sets)
+              a w.0 v w.1,
+        )) u.authority g.authority;
     path = part_from kind.path p.path u.path g.path;
     query = both_some p.query IsUtf8 _ _ (λ q v w. part_from kind.query q v w) u.query g.query;
-    fragment = both_some p.fragment IsUtf8 _ _ (λ q v w. part_from kind.fragment q v w) u.fragment g.fragment;
-    needs = rule_to (is_some p.scheme) kind.needs_scheme (is_some p.authority) (has_colon_first p.path) g.reference;
+    fragment = both_some p.fragment IsUtf8 _ _ (λ q v w. part_from kind.fragment q v w) u.fragment
+        g.fragment;
+    needs = rule_to (is_some p.scheme) kind.needs_scheme (is_some p.authority)
+        (has_colon_first p.path) g.reference;
   }
 
   of_kind : (text : List ℕ) → IsUtf8 text → IsInGrammar kind text → IsOfKind kind text
@@ -111,7 +125,9 @@ iri_cut text p u h = authority_parts-only iri.userinfo iri.reg_name iri_apart te
 
 one_host : (users names : TableSet) → KeepsApart users names → (text : List ℕ) (host : HostKind)
     → IsUtf8 text → IsHost names text host → host_kind text ≡ host
-one_host users names apart text host u h = (is_host-complete names apart.names_percent (names_outside users names apart) text host u h).kind
+one_host users names apart text host u h =
+    (is_host-complete names apart.names_percent (names_outside users names apart) text host u
+    h).kind
 
 pub uri_host : (text : List ℕ) (host : HostKind) → IsUtf8 text → IsHost uri.reg_name text host
     → host_kind text ≡ host

@@ -18,7 +18,7 @@ use Rattle.uri_parts.proofs.Authorities.Authority.{is_authority_for-sound}
 use Rattle.uri_parts.proofs.Authorities.Authority.{is_authority_for-complete}
 use Rattle.uri_ops.specs.ComponentSets.{HasComponentSets, IsWithin}
 use Rattle.uri_ops.specs.Encoded.{ascii_set, ascii_kind}
-use Rattle.uri_ops.specs.Texts.{IsTextOf}
+use Rattle.uri_parts.specs.Grammar.{IsTextOf}
 use Rattle.uri_ops.proofs.Meanings.AllowedParts.{is_part, part_from, part_utf8, part_valid}
 use Rattle.uri_ops.proofs.Meanings.TextParts.{components_utf8, meet_parts, parts_meet}
 use Rattle.uri_ops.proofs.Meanings.AuthorityMeanings.{keeps_apart}
@@ -28,8 +28,10 @@ module _ (s t : TableSet) (w : IsSubset s t) where
   past_wider : (c : ℕ) → allows_past_ascii s c ≡ true → allows_past_ascii t c ≡ true
   unfolding allows_past_ascii
   past_wider c e = ⊎_elim
-      (λ h. let p = and_parts s.ucschar (is_ucschar c) h in or_left _ _ (and_from _ _ (w.ucschar p.0) p.1))
-      (λ h. let p = and_parts s.iprivate (is_iprivate c) h in or_right _ _ (and_from _ _ (w.iprivate p.0) p.1))
+      (λ h. let p = and_parts s.ucschar (is_ucschar c) h in
+      or_left _ _ (and_from _ _ (w.ucschar p.0) p.1))
+      (λ h. let p = and_parts s.iprivate (is_iprivate c) h in
+      or_right _ _ (and_from _ _ (w.iprivate p.0) p.1))
       (or_cases (s.ucschar && is_ucschar c) (s.iprivate && is_iprivate c) e)
 
   allows_wider : (c : ℕ) → allows s c ≡ true → allows t c ≡ true
@@ -41,8 +43,11 @@ module _ (s t : TableSet) (w : IsSubset s t) where
   tokens_wider : (ts : List Token) → list_all (allows_token s) ts ≡ true
       → list_all (allows_token t) ts ≡ true
   tokens_wider [] e = refl
-  tokens_wider (Char c ∷ ts) e = let p = and_parts (allows s c) (list_all (allows_token s) ts) e in and_from _ _ (allows_wider c p.0) (tokens_wider ts p.1)
-  tokens_wider (Octet value ∷ ts) e = let p = and_parts s.pct_encoded (list_all (allows_token s) ts) e in and_from _ _ (w.pct_encoded p.0) (tokens_wider ts p.1)
+  tokens_wider (Char c ∷ ts) e = let p = and_parts (allows s c) (list_all (allows_token s) ts) e in
+      and_from _ _ (allows_wider c p.0) (tokens_wider ts p.1)
+  tokens_wider (Octet value ∷ ts) e = let p =
+      and_parts s.pct_encoded (list_all (allows_token s) ts) e in
+      and_from _ _ (w.pct_encoded p.0) (tokens_wider ts p.1)
 
   valid_wider : (text : List ℕ) → IsValidFor s text → IsValidFor t text
   unfolding is_valid_for
@@ -63,17 +68,25 @@ module _ (kind wide : Kind) (sets : HasComponentSets wide) (w : IsWithin kind wi
       → is_authority wide a ≡ true
   authority_wider a u e =
       let h = is_authority_for-sound kind.userinfo kind.reg_name a e in
-      is_authority_for-complete wide.userinfo wide.reg_name (keeps_apart wide sets) a (authority_parts a) u (record {
+      is_authority_for-complete wide.userinfo wide.reg_name (keeps_apart wide sets) a
+      (authority_parts a) u (record {
         whole = h.whole;
-        userinfo = each_some (authority_parts a).userinfo (IsValidFor kind.userinfo) (IsValidFor wide.userinfo) (λ x v. valid_wider kind.userinfo wide.userinfo w.userinfo x v) h.userinfo;
-        host = (h.host.0, host_wider kind.reg_name wide.reg_name w.reg_name (authority_parts a).host h.host.0 h.host.1);
+        userinfo = each_some (authority_parts a).userinfo (IsValidFor kind.userinfo)
+            (IsValidFor wide.userinfo)
+            (λ x v. valid_wider kind.userinfo wide.userinfo w.userinfo x v) h.userinfo;
+        host = (
+          h.host.0,
+          host_wider kind.reg_name wide.reg_name w.reg_name (authority_parts a).host
+              h.host.0 h.host.1,
+        );
         port = h.port;
       })
 
   needs_wider : (x y : Bool) → (x || (not kind.needs_scheme && y)) ≡ true
       → (x || (not wide.needs_scheme && y)) ≡ true
   needs_wider true y e = refl
-  needs_wider false y e = let p = and_parts (not kind.needs_scheme) y e in and_from _ _ (fewer kind.needs_scheme wide.needs_scheme w.needs_scheme p.0) p.1
+  needs_wider false y e = let p = and_parts (not kind.needs_scheme) y e in
+      and_from _ _ (fewer kind.needs_scheme wide.needs_scheme w.needs_scheme p.0) p.1
     where
       fewer : (a b : Bool) → (b ≡ true → a ≡ true) → not a ≡ true → not b ≡ true
       fewer a false f h = refl
@@ -88,16 +101,29 @@ module _ (kind wide : Kind) (sets : HasComponentSets wide) (w : IsWithin kind wi
         utf8 = x.utf8;
         grammar = parts_meet wide p (record {
           scheme = parts.scheme;
-          authority = each_some p.authority (λ a. IsUtf8 a × (is_authority kind a ≡ true)) (λ a. IsUtf8 a × (is_authority wide a ≡ true)) (λ a h. (h.0, authority_wider a h.0 h.1)) parts.authority;
+          authority = each_some p.authority (λ a. IsUtf8 a × (is_authority kind a ≡ true))
+              (λ a. IsUtf8 a × (is_authority wide a ≡ true))
+              (λ a h. (h.0, authority_wider a h.0 h.1)) parts.authority;
           path = part_wider kind.path wide.path w.path p.path parts.path;
-          query = each_some p.query (λ x. is_part kind.query x ≡ true) (λ x. is_part wide.query x ≡ true) (λ x h. part_wider kind.query wide.query w.query x h) parts.query;
-          fragment = each_some p.fragment (λ x. is_part kind.fragment x ≡ true) (λ x. is_part wide.fragment x ≡ true) (λ x h. part_wider kind.fragment wide.fragment w.fragment x h) parts.fragment;
-          needs = needs_wider (is_some p.scheme) (is_some p.authority || not (has_colon_first p.path)) parts.needs;
+          query = each_some p.query (λ x. is_part kind.query x ≡ true)
+              (λ x. is_part wide.query x ≡ true)
+              (λ x h. part_wider kind.query wide.query w.query x h) parts.query;
+          fragment = each_some p.fragment (λ x. is_part kind.fragment x ≡ true)
+              (λ x. is_part wide.fragment x ≡ true)
+              (λ x h. part_wider kind.fragment wide.fragment w.fragment x h) parts.fragment;
+          needs = needs_wider (is_some p.scheme)
+              (is_some p.authority || not (has_colon_first p.path)) parts.needs;
         });
       }
 
 within_ascii : (set : TableSet) → IsSubset (ascii_set set) set
-within_ascii set = record { ascii = λ c e. e; pct_encoded = λ e. e; ucschar = λ e. absurd (false≢true e); iprivate = λ e. absurd (false≢true e) }
+within_ascii set = record {
+  ascii = λ c e. e;
+  pct_encoded = λ e. e;
+  ucschar =
+      λ e. absurd (false≢true e);
+  iprivate = λ e. absurd (false≢true e);
+}
 
 pub ascii_within : (kind : Kind) → IsWithin (ascii_kind kind) kind
 ascii_within kind = record {
@@ -110,7 +136,8 @@ ascii_within kind = record {
 }
 
 within_itself : (set : TableSet) → IsSubset set set
-within_itself set = record { ascii = λ c e. e; pct_encoded = λ e. e; ucschar = λ e. e; iprivate = λ e. e }
+within_itself set =
+    record { ascii = λ c e. e; pct_encoded = λ e. e; ucschar = λ e. e; iprivate = λ e. e }
 
 pub with_scheme_within : (kind : Kind) → IsWithin (record kind { needs_scheme = true }) kind
 with_scheme_within kind = record {

@@ -7,7 +7,7 @@ use Rattle.uri_parts.specs.Authority.{authority_parts}
 use Rattle.uri_parts.specs.Components.{Components, starts}
 use Rattle.uri_ops.specs.Meaning.{plain_path}
 use Rattle.uri_ops.specs.Normal.{normal_scheme}
-use Rattle.uri_ops.specs.NormalPaths.{path_underflows}
+use Rattle.uri_ops.specs.Normal.{path_underflows}
 
 -- the byte begins neither an octet nor a formatting character of bidirectional text
 abbrev pub is_plain_byte : ℕ → Bool

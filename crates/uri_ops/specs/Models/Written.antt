@@ -7,8 +7,8 @@ use Rattle.uri_parts.specs.Components.{Components}
 use Rattle.uri_parts.specs.Positions.{marked_length, positions_of}
 
 -- an authority of these parts that begins at a place
-abbrev pub parts_at : ℕ → AuthorityParts → AuthorityPositions
-parts_at place p =
+abbrev pub authority_parts_at : ℕ → AuthorityParts → AuthorityPositions
+authority_parts_at place p =
     let host = marked_length 1 p.userinfo in
     record {
       start = place;
@@ -21,4 +21,4 @@ parts_at place p =
 abbrev pub written_at : Components → Option AuthorityParts → Positions
 written_at p parts =
     let place = marked_length 1 p.scheme + 2 in
-    record (positions_of p) { authority = option_map (parts_at place) parts }
+    record (positions_of p) { authority = option_map (authority_parts_at place) parts }

@@ -1,7 +1,7 @@
 //! What the steps of a builder append to its text.
 ghost use Rattle.std.specs.Prelude.{◌≡◌, ◌+◌, ◌-◌, ◌≤◌, IfSome, false, option_map, true};
 ghost use Rattle.uri_pct.specs.Sets.{digit_set};
-ghost use Rattle.uri_parts.specs.Appending.{Pushes};
+ghost use Rattle.uri_pct.specs.Texts.{Pushes};
 ghost use Rattle.uri_ops.specs.BuilderParts.{is_text_for};
 ghost use Rattle.uri_ops.specs.HostParts.{IsHostText};
 

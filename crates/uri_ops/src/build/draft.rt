@@ -2,7 +2,7 @@
 ghost use Rattle.std.specs.Prelude.{◌≡◌, ◌+◌, ◌++◌, ◌≤◌, IfSome, [], false};
 ghost use Rattle.std.specs.Prelude.{is_none, length, unwrap_or, true, string_bytes};
 ghost use Rattle.uri_pct.specs.Sets.{digit_set};
-ghost use Rattle.uri_parts.specs.Appending.{Pushes};
+ghost use Rattle.uri_pct.specs.Texts.{Pushes};
 ghost use Rattle.uri_parts.specs.Grammar.{has_colon_first};
 ghost use Rattle.uri_parts.specs.Positions.{positions_of};
 ghost use Rattle.uri_ops.specs.BuilderParts.{Adds, as_components, is_text_for, no_parts};

@@ -1,6 +1,6 @@
 //! Hosts and ports as a builder takes them (RFC 3986, sections 3.2.2 and 3.2.3).
 ghost use Rattle.std.specs.Prelude.{◌≡◌, OnOk, codes, true};
-ghost use Rattle.uri_parts.specs.Appending.{Pushes};
+ghost use Rattle.uri_pct.specs.Texts.{Pushes};
 
 use std::alloc::AllocError;
 use std::fmt::Write;
@@ -88,7 +88,7 @@ impl<E: Encoder> WithEncoder<E> for IpAddr {
 
 /// Written as it stands.
 impl AsHost for EStr<'_, RegName> {
-    ghost use Rattle.uri_pct.specs.EStrs.{text_of};
+    ghost use Rattle.uri_pct.specs.EncodedTexts.{text_of};
 
     ghost host_text = { λ name. text_of name };
 }
@@ -101,7 +101,7 @@ impl WithEncoder<RegName> for EStr<'_, RegName> {
 
 /// Written as it stands.
 impl AsHost for EStr<'_, IRegName> {
-    ghost use Rattle.uri_pct.specs.EStrs.{text_of};
+    ghost use Rattle.uri_pct.specs.EncodedTexts.{text_of};
 
     ghost host_text = { λ name. text_of name };
 }
@@ -149,7 +149,7 @@ impl AsPort for u16 {
 /// Written as they stand.
 #[tactic(auto, using(crate::proofs::Builders::BuilderDrafts::text_from))]
 impl AsPort for EStr<'_, Port> {
-    ghost use Rattle.uri_pct.specs.EStrs.{text_of};
+    ghost use Rattle.uri_pct.specs.EncodedTexts.{text_of};
 
     ghost port_digits = { λ digits. text_of digits };
 

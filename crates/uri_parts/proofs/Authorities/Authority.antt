@@ -55,8 +55,11 @@ lacks_nil marks k d l = absurd (omega arith)
 pub cut-none : (marks text : List ℕ) → Lacks marks text
     → (before_any marks text ≡ text) × (from_any marks text ≡ [])
 cut-none marks text h =
-    let cut = cut-append marks text [] h tt in
-    (ap (before_any marks) (sym (append-nil text)) ∙ cut.0, ap (from_any marks) (sym (append-nil text)) ∙ cut.1)
+    let cut = cut-append marks text [] h tt in (
+      ap (before_any marks) (sym (append-nil text))
+          ∙ cut.0,
+      ap (from_any marks) (sym (append-nil text)) ∙ cut.1,
+    )
 
 -- the port that is read behind a host
 port_text : Option (List ℕ) → List ℕ
@@ -75,7 +78,8 @@ port_read (Some digits) = ap Some (append-nil digits)
 
 -- a host in brackets, or with no mark in it
 abbrev pub HasShape : List ℕ → Type 0
-HasShape host = ((address : List ℕ) × (host ≡ bracketed address) × Lacks (codes "]") address) ⊎ Lacks (codes "@:[") host
+HasShape host = ((address : List ℕ) × (host ≡ bracketed address) × Lacks (codes "]") address)
+    ⊎ Lacks (codes "@:[") host
 
 begins_other : (text : List ℕ) → Begins (codes ":") text → starts 91 text ≡ false
 begins_other [] b = refl
@@ -91,15 +95,21 @@ pub host_cut : (host tail : List ℕ) → HasShape host → Begins (codes ":") t
     → (host_before (host ++ tail) ≡ host) × (behind_host (host ++ tail) ≡ tail)
 host_cut host tail (inl (address, e, lacks)) begins =
     let text : List ℕ = bracketed address ++ tail in
-    let same : text ≡ (91 ∷ address) ++ (93 ∷ tail) = append_assoc (91 ∷ address) (codes "]") tail in
-    let cut = cut-append (codes "]") (91 ∷ address) (93 ∷ tail) (Lacks-cons (codes "]") 91 address refl lacks) refl in (
+    let same : text ≡ (91 ∷ address) ++ (93 ∷ tail) = append_assoc (91 ∷ address) (codes "]")
+    tail in
+    let cut = cut-append (codes "]") (91 ∷ address) (93 ∷ tail) (Lacks-cons (codes "]") 91 address
+    refl lacks) refl in (
       ap (λ h. host_before (h ++ tail)) e
           ∙ ap (λ t. t ++ codes "]") (ap (before_any (codes "]")) same ∙ cut.0) ∙ sym e,
       ap (λ h. behind_host (h ++ tail)) e ∙ ap (drop 1) (ap (from_any (codes "]")) same ∙ cut.1),
     )
 host_cut host tail (inr lacks) begins =
-    let s = bare_start host tail (lacks_fewer (codes "[") (codes "@:[") (λ c e. grind (arith, nat_tests)) host lacks) begins in
-    let cut = cut-append (codes ":") host tail (lacks_fewer (codes ":") (codes "@:[") (λ c e. grind (arith, nat_tests)) host lacks) begins in
+    let s =
+    bare_start host tail (lacks_fewer
+    (codes "[") (codes "@:[") (λ c e. grind (arith, nat_tests)) host lacks) begins in
+    let cut = cut-append (codes ":") host tail
+    (lacks_fewer (codes ":") (codes "@:[") (λ c e. grind (arith, nat_tests)) host lacks)
+    begins in
     (cond-false _ _ _ s ∙ cut.0, cond-false _ _ _ s ∙ cut.1)
 
 pub literal_outside : (excludes ipv_future_set (codes "]") ≡ true)
@@ -109,23 +119,30 @@ literal_outside = (refl, refl)
 pub lacks_at_bracketed : (address : List ℕ) → Lacks (codes "@") address
     → Lacks (codes "@") (bracketed address)
 lacks_at_bracketed address h =
-    Lacks-cons (codes "@") 91 (address ++ codes "]") refl (lacks_append (codes "@") address (codes "]") h (Lacks-cons (codes "@") 93 [] refl (lacks_nil (codes "@"))))
+    Lacks-cons (codes "@") 91 (address ++ codes "]") refl
+    (lacks_append (codes "@") address (codes "]") h
+    (Lacks-cons (codes "@") 93 [] refl (lacks_nil (codes "@"))))
 
 -- the userinfo that is read, and what is left behind it
 user_cut : (userinfo : Option (List ℕ)) (rest : List ℕ) → IfSome userinfo (Lacks (codes "@"))
     → Lacks (codes "@") rest →
-    (when (starts 64 (from_any (codes "@") (marked [] userinfo (codes "@") ++ rest))) (before_any (codes "@") (marked [] userinfo (codes "@") ++ rest)) ≡ userinfo)
+    (when (starts 64 (from_any (codes "@") (marked [] userinfo (codes "@") ++ rest)))
+    (before_any (codes "@") (marked [] userinfo (codes "@") ++ rest)) ≡ userinfo)
     × (behind_userinfo (marked [] userinfo (codes "@") ++ rest) ≡ rest)
 user_cut None rest h lacks =
-    let s : starts 64 (from_any (codes "@") rest) ≡ false = ap (starts 64) (cut-none (codes "@") rest lacks).1 in
+    let s : starts 64 (from_any (codes "@") rest) ≡ false =
+    ap (starts 64) (cut-none (codes "@") rest lacks).1 in
     (ap (λ t. when t (before_any (codes "@") rest)) s, cond-false _ _ _ s)
 user_cut (Some user) rest h lacks =
     let text : List ℕ = (user ++ codes "@") ++ rest in
     let same : text ≡ user ++ (64 ∷ rest) = append_assoc user (codes "@") rest in
     let cut = cut-append (codes "@") user (64 ∷ rest) h refl in
     let from : from_any (codes "@") text ≡ 64 ∷ rest = ap (from_any (codes "@")) same ∙ cut.1 in
-    let s : starts 64 (from_any (codes "@") text) ≡ true = ap (starts 64) from in
-    (ap (λ t. when t (before_any (codes "@") text)) s ∙ ap Some (ap (before_any (codes "@")) same ∙ cut.0), cond-true _ _ _ s ∙ ap (drop 1) from)
+    let s : starts 64 (from_any (codes "@") text) ≡ true = ap (starts 64) from in (
+      ap (λ t. when t (before_any (codes "@") text)) s
+          ∙ ap Some (ap (before_any (codes "@")) same ∙ cut.0),
+      cond-true _ _ _ s ∙ ap (drop 1) from,
+    )
 
 valid_from_some : (set : TableSet) (part : Option (List ℕ)) → IfSome part (IsValidFor set)
     → option_map_or (is_valid_for set) part true ≡ true
@@ -176,7 +193,8 @@ utf8_parts None port host u =
     record { userinfo = tt; host = behind.0; port = behind.1 }
 utf8_parts (Some user) port host u =
     let rest : List ℕ = host ++ port_text port in
-    let apart = utf8_apart user 64 rest (omega arith) (subst IsUtf8 (append_assoc user (codes "@") rest) u) in
+    let apart = utf8_apart user 64 rest (omega arith)
+    (subst IsUtf8 (append_assoc user (codes "@") rest) u) in
     let behind = utf8_behind host port apart.1 in
     record { userinfo = apart.0; host = behind.0; port = behind.1 }
 
@@ -185,7 +203,9 @@ port_lacks : (port : Option (List ℕ)) → IfSome port IsUtf8 → IfSome port (
 unfolding port_text
 port_lacks None u h = lacks_nil (codes "@")
 port_lacks (Some digits) u h =
-    Lacks-cons (codes "@") 58 (digits ++ []) refl (lacks_append (codes "@") digits [] (valid_lacks digit_set (codes "@") refl refl digits u h) (lacks_nil (codes "@")))
+    Lacks-cons (codes "@") 58 (digits ++ []) refl
+    (lacks_append (codes "@") digits [] (valid_lacks digit_set (codes "@") refl refl digits u h)
+    (lacks_nil (codes "@")))
 
 module _ (users names : TableSet) (apart : KeepsApart users names) where
   users_outside : excludes users (codes "@") ≡ true
@@ -197,24 +217,35 @@ module _ (users names : TableSet) (apart : KeepsApart users names) where
   user_lacks : (userinfo : Option (List ℕ)) → IfSome userinfo IsUtf8
       → IfSome userinfo (IsValidFor users) → IfSome userinfo (Lacks (codes "@"))
   user_lacks None u h = tt
-  user_lacks (Some user) u h = valid_lacks users (codes "@") apart.users_percent users_outside user u h
+  user_lacks (Some user) u h = valid_lacks users (codes "@") apart.users_percent users_outside user
+      u h
 
   bare : (host : List ℕ) → Lacks (codes "@:[") host → HasShape host × Lacks (codes "@") host
-  bare host lacks = (inr lacks, lacks_fewer (codes "@") (codes "@:[") (λ c e. grind (arith, nat_tests)) host lacks)
+  bare host lacks = (
+    inr lacks,
+    lacks_fewer (codes "@")
+        (codes "@:[") (λ c e. grind (arith, nat_tests)) host lacks,
+  )
 
   shape : (text : List ℕ) (host : HostKind) → IsUtf8 text → IsHost names text host
       → HasShape text × Lacks (codes "@") text
   shape text (Ipv6 segments) u (address, e, groups) = (
     inl (address, e, ipv6_lacks (codes "]") literal_outside.0 address segments groups),
-    subst (Lacks (codes "@")) (sym e) (lacks_at_bracketed address (ipv6_lacks (codes "@") literal_outside.1 address segments groups)),
+    subst (Lacks (codes "@")) (sym e)
+        (lacks_at_bracketed address
+        (ipv6_lacks (codes "@") literal_outside.1 address segments groups)),
   )
   shape text IpvFuture u (address, e, future) =
       let inner = utf8_bracketed address (subst IsUtf8 e u) in (
         inl (address, e, ipv_future_lacks (codes "]") literal_outside.0 address inner future),
-        subst (Lacks (codes "@")) (sym e) (lacks_at_bracketed address (ipv_future_lacks (codes "@") literal_outside.1 address inner future)),
+        subst (Lacks (codes "@")) (sym e)
+            (lacks_at_bracketed address
+            (ipv_future_lacks (codes "@") literal_outside.1 address inner future)),
       )
-  shape text (Ipv4 octets) u dotted = bare text (ipv4_lacks (codes "@:[") name_marks_outside text octets dotted)
-  shape text RegName u (valid, other) = bare text (valid_lacks names (codes "@:[") apart.names_percent names_outside text u valid)
+  shape text (Ipv4 octets) u dotted =
+      bare text (ipv4_lacks (codes "@:[") name_marks_outside text octets dotted)
+  shape text RegName u (valid, other) =
+      bare text (valid_lacks names (codes "@:[") apart.names_percent names_outside text u valid)
 
   -- an authority has one cut
   pub authority_parts-only : (text : List ℕ) (p : AuthorityParts) → IsUtf8 text
@@ -224,11 +255,13 @@ module _ (users names : TableSet) (apart : KeepsApart users names) where
       let utf8 = utf8_parts p.userinfo p.port p.host (subst IsUtf8 (sym h.whole) u) in
       let rest : List ℕ = p.host ++ port_text p.port in
       let formed = shape p.host h.host.0 utf8.host h.host.1 in
-      let lacks = lacks_append (codes "@") p.host (port_text p.port) formed.1 (port_lacks p.port utf8.port h.port) in
+      let lacks = lacks_append (codes "@") p.host (port_text p.port) formed.1
+      (port_lacks p.port utf8.port h.port) in
       let user = user_cut p.userinfo rest (user_lacks p.userinfo utf8.userinfo h.userinfo) lacks in
       let host = host_cut p.host (port_text p.port) formed.0 (port_begins p.port) in
       let behind : behind_userinfo text ≡ rest = ap behind_userinfo (sym h.whole) ∙ user.1 in
-      let a = ap (λ t. when (starts 64 (from_any (codes "@") t)) (before_any (codes "@") t)) (sym h.whole)
+      let a = ap (λ t. when (starts 64 (from_any (codes "@") t)) (before_any (codes "@") t))
+      (sym h.whole)
       ∙ user.0 in
       let b : host_before (behind_userinfo text) ≡ p.host = ap host_before behind ∙ host.0 in
       let c = ap (λ r. when (starts 58 (behind_host r)) (drop 1 (behind_host r))) behind
@@ -241,8 +274,11 @@ module _ (users names : TableSet) (apart : KeepsApart users names) where
   unfolding is_authority_for port_text
   is_authority_for-complete text p u h =
       let utf8 = utf8_parts p.userinfo p.port p.host (subst IsUtf8 (sym h.whole) u) in
-      let found = is_host-complete names apart.names_percent names_outside p.host h.host.0 utf8.host h.host.1 in
-      let passes = λ (q : AuthorityParts). bytes_eq (recompose_authority q) text && (option_map_or (is_valid_for users) q.userinfo true && (is_host names q.host && option_map_or (is_valid_for digit_set) q.port true)) in
+      let found = is_host-complete names apart.names_percent names_outside p.host h.host.0 utf8.host
+      h.host.1 in
+      let passes = λ (q : AuthorityParts). bytes_eq (recompose_authority q) text
+      && (option_map_or (is_valid_for users) q.userinfo true
+      && (is_host names q.host && option_map_or (is_valid_for digit_set) q.port true)) in
       subst (λ q. passes q ≡ true) (sym (authority_parts-only text p u h))
       (and_from _ _ ((bytes_eq-Decides (recompose_authority p) text).1 h.whole)
       (and_from _ _ (valid_from_some users p.userinfo h.userinfo)

@@ -39,13 +39,21 @@ holds users names text t =
     let a = and_parts (bytes_eq (recompose_authority p) text) _ t in
     let b = and_parts (option_map_or (is_valid_for users) p.userinfo true) _ a.1 in
     let c = and_parts (is_host names p.host) _ b.1 in
-    record { whole = (bytes_eq-Decides (recompose_authority p) text).0 a.0; userinfo = b.0; host = c.0; port = c.1 }
+    record {
+      whole = (bytes_eq-Decides (recompose_authority p) text).0 a.0;
+      userinfo = b.0;
+      host =
+          c.0;
+      port = c.1;
+    }
 
 before_ascii : (front rest : List ℕ) (c : ℕ) → c < 128
     → IsCharBoundary (front ++ (c ∷ rest)) (length front)
 before_ascii front rest c ascii =
-    let at : get_or (front ++ (c ∷ rest)) (length front) 0 < 128 = rw (get-seam front rest c) ascii in
-    IsCharBoundary-before_ascii (front ++ (c ∷ rest)) (length front) (omega (arith, length-append front (c ∷ rest))) at
+    let at : get_or (front ++ (c ∷ rest)) (length front) 0 < 128 =
+    rw (get-seam front rest c) ascii in
+    IsCharBoundary-before_ascii (front ++ (c ∷ rest)) (length front)
+    (omega (arith, length-append front (c ∷ rest))) at
 
 abbrev port_text : Option (List ℕ) → List ℕ
 port_text port = marked (codes ":") port []
@@ -71,12 +79,17 @@ host_starts None rest text whole u = IsCharBoundary-start text u
 host_starts (Some user) rest text whole u =
     let e : user ++ (64 ∷ rest) ≡ text = sym (append_assoc user (codes "@") rest) ∙ whole in
     let n : length user + 1 ≡ 1 + length user = omega arith in
-    subst (IsCharBoundary text) n (subst (λ t. IsCharBoundary t (length user + 1)) e (after_mark user rest 64 (lit< tt) (subst IsUtf8 (sym e) u)))
+    subst (IsCharBoundary text) n (subst (λ t. IsCharBoundary t (length user + 1)) e
+    (after_mark user rest 64 (lit< tt) (subst IsUtf8 (sym e) u)))
 
 host_ends : (front : List ℕ) (port : Option (List ℕ)) (text : List ℕ)
     → front ++ port_text port ≡ text → IsCharBoundary text (length front)
-host_ends front None text whole = subst (λ t. IsCharBoundary t (length front)) (sym (append-nil front) ∙ whole) (IsCharBoundary-end front)
-host_ends front (Some digits) text whole = subst (λ t. IsCharBoundary t (length front)) whole (before_ascii front (digits ++ []) 58 (lit< tt))
+host_ends front None text whole =
+    subst (λ t. IsCharBoundary t (length front)) (sym (append-nil front) ∙ whole)
+    (IsCharBoundary-end front)
+host_ends front (Some digits) text whole =
+    subst (λ t. IsCharBoundary t (length front)) whole
+    (before_ascii front (digits ++ []) 58 (lit< tt))
 
 host_lies : (userinfo port : Option (List ℕ)) (host text : List ℕ)
     → user_text userinfo ++ (host ++ port_text port) ≡ text → IsUtf8 text
@@ -84,15 +97,20 @@ host_lies : (userinfo port : Option (List ℕ)) (host text : List ℕ)
 host_lies userinfo port host text whole u =
     let n = length-user_text userinfo in
     let front : List ℕ = user_text userinfo ++ host in
-    let joined : front ++ port_text port ≡ text = append_assoc (user_text userinfo) host (port_text port)
+    let joined : front ++ port_text port ≡ text =
+    append_assoc (user_text userinfo) host (port_text port)
     ∙ whole in
-    let l : length front ≡ marked_length 1 userinfo + length host = omega (arith, length-append (user_text userinfo) host) in
+    let l : length front ≡ marked_length 1 userinfo + length host =
+    omega (arith, length-append (user_text userinfo) host) in
     record {
       ordered = omega arith;
       starts = host_starts userinfo (host ++ port_text port) text whole u;
       ends = subst (IsCharBoundary text) l (host_ends front port text joined);
-      holds = ap (λ t. slice_range t (marked_length 1 userinfo) (marked_length 1 userinfo + length host)) (sym whole)
-          ∙ ap (λ k. slice_range (user_text userinfo ++ (host ++ port_text port)) k (k + length host)) (sym n)
+      holds =
+          ap (λ t. slice_range t (marked_length 1 userinfo)
+          (marked_length 1 userinfo + length host)) (sym whole)
+          ∙ ap (λ k. slice_range (user_text userinfo ++ (host ++ port_text port)) k
+          (k + length host)) (sym n)
           ∙ range-between (user_text userinfo) host (port_text port);
     }
 
@@ -103,7 +121,8 @@ host_place users names text t u =
     host_lies p.userinfo p.port p.host text (holds users names text t).whole u
 
 -- the userinfo before the host
-pub record HasUser (users : TableSet) (text : List ℕ) (start : ℕ) (userinfo : Option (List ℕ)) : Type 0 where
+pub record HasUser (users : TableSet) (text : List ℕ) (start : ℕ)
+    (userinfo : Option (List ℕ)) : Type 0 where
   pub cut : IsCharBoundary text (start - 1)
   pub valid : IsValidFor users (take (start - 1) text)
   pub is : Some (take (start - 1) text) ≡ userinfo
@@ -118,7 +137,8 @@ user_lies users (Some user) rest text whole h l =
     let part : take ((1 + length user) - 1) text ≡ user = ap (λ k. take k text) (sym n)
     ∙ ap (take (length user)) (sym e) ∙ take-append_seam user (64 ∷ rest) in
     record {
-      cut = subst (IsCharBoundary text) n (subst (λ t. IsCharBoundary t (length user)) e (before_ascii user rest 64 (lit< tt)));
+      cut = subst (IsCharBoundary text) n
+          (subst (λ t. IsCharBoundary t (length user)) e (before_ascii user rest 64 (lit< tt)));
       valid = ap (is_valid_for users) part ∙ h;
       is = ap Some part;
     }
@@ -161,7 +181,8 @@ port_lies front (Some digits) text whole u h =
     ∙ ap (drop 1) (drop-append_seam front (58 ∷ digits)) in
     inr (record {
       inside = omega (arith, n, length-append front (58 ∷ digits));
-      cut = subst (λ t. IsCharBoundary t (length front + 1)) e (after_mark front digits 58 (lit< tt) (subst IsUtf8 (sym e) u));
+      cut = subst (λ t. IsCharBoundary t (length front + 1)) e
+          (after_mark front digits 58 (lit< tt) (subst IsUtf8 (sym e) u));
       valid = ap (is_valid_for digit_set) part ∙ h;
       is = ap Some part;
     })
@@ -174,14 +195,17 @@ port_place users names text t u =
     let p = authority_parts text in
     let w = holds users names text t in
     let front : List ℕ = user_text p.userinfo ++ p.host in
-    let l : length front ≡ host_end_of text = omega (arith, length-append (user_text p.userinfo) p.host, length-user_text p.userinfo) in
-    let cases = port_lies front p.port text (append_assoc (user_text p.userinfo) p.host (port_text p.port) ∙ w.whole) u w.port in
+    let l : length front ≡ host_end_of text =
+    omega (arith, length-append (user_text p.userinfo) p.host, length-user_text p.userinfo) in
+    let cases = port_lies front p.port text
+    (append_assoc (user_text p.userinfo) p.host (port_text p.port) ∙ w.whole) u w.port in
     subst (λ n. ((n ≡ length text) × (None ≡ p.port)) ⊎ HasPort text n p.port) l cases
 
 -- the empty text is an authority for all sets
 pub empty_is : (users names : TableSet) → is_authority_for users names [] ≡ true
 unfolding is_authority_for is_host is_valid_for tokens_of chars ipv4_value
-empty_is users names = and_from (is_some (ipv4_value []) || true) true (or_right (is_some (ipv4_value [])) true refl) refl
+empty_is users names = and_from (is_some (ipv4_value []) || true) true
+    (or_right (is_some (ipv4_value [])) true refl) refl
 
 -- a name that is no address is spelt by what names allow
 pub name_valid : (names : TableSet) (host : List ℕ) → is_host names host ≡ true

@@ -36,26 +36,41 @@ address_behind_userinfo = refl
 
 -- the kinds of some hosts: the first that fits
 kinds : map host_kind (
-    codes "127.0.0.1" ∷ codes "127.0.0.001" ∷ codes "127.1" ∷ codes "256.0.0.1" ∷ codes "" ∷ codes "1.2.3.4.5"
-    ∷ codes "[v1F.a:b]" ∷ codes "[V1.x]" ∷ codes "[::]" ∷ codes "[::ffff:192.0.2.1]" ∷ codes "[64:ff9b::192.0.2.33]" ∷ codes "[::2:3:4:5:6:7:8]" ∷ []
+    codes "127.0.0.1" ∷ codes "127.0.0.001" ∷ codes "127.1" ∷ codes "256.0.0.1" ∷ codes ""
+    ∷ codes "1.2.3.4.5"
+    ∷ codes "[v1F.a:b]" ∷ codes "[V1.x]" ∷ codes "[::]" ∷ codes "[::ffff:192.0.2.1]"
+    ∷ codes "[64:ff9b::192.0.2.33]" ∷ codes "[::2:3:4:5:6:7:8]" ∷ []
     ) ≡ (
     Ipv4 (127 ∷ 0 ∷ 0 ∷ 1 ∷ []) ∷ RegName ∷ RegName ∷ RegName ∷ RegName ∷ RegName
-    ∷ IpvFuture ∷ IpvFuture ∷ Ipv6 (replicate 8 0) ∷ Ipv6 (0 ∷ 0 ∷ 0 ∷ 0 ∷ 0 ∷ 0xffff ∷ 0xc000 ∷ 0x201 ∷ [])
-    ∷ Ipv6 (0x64 ∷ 0xff9b ∷ 0 ∷ 0 ∷ 0 ∷ 0 ∷ 49152 ∷ 545 ∷ []) ∷ Ipv6 (0 ∷ 2 ∷ 3 ∷ 4 ∷ 5 ∷ 6 ∷ 7 ∷ 8 ∷ []) ∷ []
+    ∷ IpvFuture ∷ IpvFuture ∷ Ipv6 (replicate 8 0)
+    ∷ Ipv6 (0 ∷ 0 ∷ 0 ∷ 0 ∷ 0 ∷ 0xffff ∷ 0xc000 ∷ 0x201 ∷ [])
+    ∷ Ipv6 (0x64 ∷ 0xff9b ∷ 0 ∷ 0 ∷ 0 ∷ 0 ∷ 49152 ∷ 545 ∷ [])
+    ∷ Ipv6 (0 ∷ 2 ∷ 3 ∷ 4 ∷ 5 ∷ 6 ∷ 7 ∷ 8 ∷ []) ∷ []
     )
-unfolding host_kind ipv4_value read_ipv4 read_octet read_number ipv6_value read_ipv6 read_segments read_segment
+unfolding host_kind ipv4_value read_ipv4 read_octet read_number ipv6_value read_ipv6 read_segments
+    read_segment
 kinds = refl
 
 accepted : list_all (is_authority_for userinfo_set reg_name_set) (
-    codes "" ∷ codes "@:" ∷ codes "u@h:80" ∷ codes "u:p@h" ∷ codes "h:" ∷ codes "a%20b" ∷ codes "127.0.0.001" ∷ codes "user%40x@[v1F.a:b]:8080"
-    ∷ codes "[V1.x]" ∷ codes "[::ffff:192.0.2.1]:" ∷ codes "[1:2:3:4:5:6:7::]" ∷ codes "[1:2:3:4:5:6:7:8]" ∷ codes "[1:2:3:4:5:6:1.2.3.4]" ∷ []
+    codes "" ∷ codes "@:" ∷ codes "u@h:80" ∷ codes "u:p@h" ∷ codes "h:" ∷ codes "a%20b"
+    ∷ codes "127.0.0.001" ∷ codes "user%40x@[v1F.a:b]:8080"
+    ∷ codes "[V1.x]" ∷ codes "[::ffff:192.0.2.1]:" ∷ codes "[1:2:3:4:5:6:7::]"
+    ∷ codes "[1:2:3:4:5:6:7:8]" ∷ codes "[1:2:3:4:5:6:1.2.3.4]" ∷ []
     ) ≡ true
-unfolding is_authority_for Tokens.is_valid_for tokens_of chars Tokens.is_pct_encoded is_host is_ipv_future ipv4_value read_ipv4 read_octet read_number ipv6_value read_ipv6 read_segments read_segment
+unfolding is_authority_for Tokens.is_valid_for tokens_of chars Tokens.is_pct_encoded is_host
+    is_ipv_future ipv4_value read_ipv4 read_octet read_number ipv6_value read_ipv6 read_segments
+    read_segment
 accepted = refl
 
 refused : list_any (is_authority_for userinfo_set reg_name_set) (
-    codes "[1:2:3:4::5:6:7:8]" ∷ codes "[1:2:3:4:5:6:7:8:9]" ∷ codes "[44:55::66::77]" ∷ codes "[1.2.3.4]" ∷ codes "[::01.1.1.1]" ∷ codes "[::12345]" ∷ codes "[::1" ∷ codes "[::1]x"
-    ∷ codes "[]" ∷ codes "[vG.addr]" ∷ codes "[v.addr]" ∷ codes "[vF.]" ∷ codes "[vF.%20]" ∷ codes "[fe80::abcd%eth0]" ∷ codes "a@b@c" ∷ codes "h:80a" ∷ codes "a:b:c" ∷ codes "u[@h" ∷ codes "a%2" ∷ []
+    codes "[1:2:3:4::5:6:7:8]" ∷ codes "[1:2:3:4:5:6:7:8:9]" ∷ codes "[44:55::66::77]"
+    ∷ codes "[1.2.3.4]" ∷ codes "[::01.1.1.1]" ∷ codes "[::12345]"
+    ∷ codes "[::1" ∷ codes "[::1]x"
+    ∷ codes "[]" ∷ codes "[vG.addr]" ∷ codes "[v.addr]" ∷ codes "[vF.]" ∷ codes "[vF.%20]"
+    ∷ codes "[fe80::abcd%eth0]" ∷ codes "a@b@c" ∷ codes "h:80a" ∷ codes "a:b:c"
+    ∷ codes "u[@h" ∷ codes "a%2" ∷ []
     ) ≡ false
-unfolding is_authority_for Tokens.is_valid_for tokens_of chars Tokens.is_pct_encoded is_host is_ipv_future ipv4_value read_ipv4 read_octet read_number ipv6_value read_ipv6 read_segments read_segment
+unfolding is_authority_for Tokens.is_valid_for tokens_of chars Tokens.is_pct_encoded is_host
+    is_ipv_future ipv4_value read_ipv4 read_octet read_number ipv6_value read_ipv6 read_segments
+    read_segment
 refused = refl

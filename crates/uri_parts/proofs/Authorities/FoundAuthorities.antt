@@ -1,8 +1,9 @@
--- An authority is read exactly where the one that is cut out is taken apart, and lies where it is cut.
-use Rattle.std.proofs.Common.{◌≡◌, ℕ, ◌+◌, Bool, true, false, cond, eqb, List, [], ◌∷◌, ◌++◌}
+-- An authority is read exactly where the one that is cut out is taken apart, and lies where it is
+-- cut.
+use Rattle.std.proofs.Common.{◌≡◌, ℕ, ◌+◌, Bool, true, false, eqb, List, [], ◌∷◌, ◌++◌}
 use Rattle.std.proofs.Common.{length, drop, refl, sym, ap, ◌∙◌, arith, ◌||◌, ◌&&◌, ⊎_elim}
 use Rattle.std.proofs.Common.{append_assoc, length-append, subst, zero-add, lit<}
-use Rattle.std.specs.Prelude.{codes, Some, None}
+use Rattle.std.specs.Prelude.{codes}
 use Rattle.std.specs.Str.{IsUtf8}
 use Rattle.std.proofs.lemmas.Bool.{cases_Bool, cond-true, cond-false, and_left, and_parts, eq-eqb}
 use Rattle.std.proofs.lemmas.Bool.{ne_eqb, eqb-true, both_ways, false_from_ne_true}
@@ -12,10 +13,8 @@ use Rattle.uri_pct.specs.Tokens.{is_valid_for}
 use Rattle.uri_pct.specs.Models.Fronts.{front, after}
 use Rattle.uri_pct.proofs.ValidTexts.Cuts.{to_mark, ascii_marks, cut, front_zero_mark}
 use Rattle.uri_pct.proofs.ValidTexts.Fronts.{front-char, front-within}
-use Rattle.uri_parts.specs.declared.positions.AuthorityPositions.{AuthorityPositions}
 use Rattle.uri_parts.specs.Components.{before_any, from_any, starts, Lacks}
-use Rattle.uri_parts.specs.Positions.{authority_at, host_start_of, host_end_of, marked_length}
-use Rattle.uri_parts.specs.Authority.{authority_parts, host_before}
+use Rattle.uri_parts.specs.Positions.{authority_at}
 use Rattle.uri_parts.specs.Models.AuthorityReading.{port_length, name_length, finds_name, host_end}
 use Rattle.uri_parts.specs.Models.AuthorityReading.{host_length, finds_host, more_user, user_length}
 use Rattle.uri_parts.specs.Models.AuthorityReading.{passes_user, host_place, from_host, finds_other}
@@ -38,52 +37,8 @@ use Rattle.uri_parts.proofs.Parsing.ReadingStops.{stop_cases, utf8_from, utf8_pa
 use Rattle.uri_parts.proofs.Authorities.WholeAuthorities.{reads_host_and_port}
 use Rattle.uri_parts.proofs.Authorities.WholeAuthorities.{reads_whole_authority}
 use Rattle.uri_parts.proofs.Splitting.Recompose.{starts-cons}
-
--- where an authority lies that begins at a place, with a host at another
-abbrev places : ℕ → ℕ → List ℕ → List ℕ → AuthorityPositions
-places start host name behind = record { start = start; host_start = host; host_end = host + length name; end = host + length (name ++ behind) }
-
--- a host with what is behind it, and userinfo before them
-module _ (host behind : List ℕ) (at : Lacks (codes "@") (host ++ behind))
-    (is_host : host_before (host ++ behind) ≡ host) where
-  abbrev bare : List ℕ
-  bare = host ++ behind
-
-  no_mark : starts 64 (from_any (codes "@") bare) ≡ false
-  no_mark = ap (starts 64) (cut-none (codes "@") (host ++ behind) at).1
-
-  bare_at : (place : ℕ) → authority_at place bare ≡ places place place host behind
-  bare_at place =
-      let first : host_start_of bare ≡ 0 = ap (λ t. marked_length 1 (cond t (Some (before_any (codes "@") bare)) None)) no_mark in
-      let host_is : (authority_parts bare).host ≡ host = ap host_before (cond-false _ _ _ no_mark)
-      ∙ is_host in
-      let s : place + host_start_of bare ≡ place = omega (arith, first) in
-      let e : place + host_end_of bare ≡ place + length host = omega (arith, first, ap length host_is) in
-      λ i. record { start = place; host_start = s i; host_end = e i; end = place + length (host ++ behind) }
-
-  module _ (user : List ℕ) (outside : Lacks (codes "@") user) where
-    abbrev text : List ℕ
-    text = user ++ (64 ∷ (host ++ behind))
-
-    user_cut : (before_any (codes "@") text ≡ user)
-        × (from_any (codes "@") text ≡ 64 ∷ (host ++ behind))
-    user_cut = cut-append (codes "@") user (64 ∷ (host ++ behind)) outside refl
-
-    has_mark : starts 64 (from_any (codes "@") text) ≡ true
-    has_mark = ap (starts 64) user_cut.1
-
-    user_at : (place : ℕ)
-        → authority_at place text ≡ places place (place + (length user + 1)) host behind
-    user_at place =
-        let first : host_start_of text ≡ 1 + length user = ap (λ t. marked_length 1 (cond t (Some (before_any (codes "@") text)) None)) has_mark
-        ∙ ap (λ t. 1 + length t) user_cut.0 in
-        let host_is : (authority_parts text).host ≡ host = ap host_before (cond-true _ _ _ has_mark ∙ ap (drop 1) user_cut.1)
-        ∙ is_host in
-        let l = length-append user (64 ∷ (host ++ behind)) in
-        let s : place + host_start_of text ≡ place + (length user + 1) = omega (arith, first) in
-        let e : place + host_end_of text ≡ place + (length user + 1) + length host = omega (arith, first, ap length host_is) in
-        let t : place + length text ≡ place + (length user + 1) + length (host ++ behind) = omega (arith, l) in
-        λ i. record { start = place; host_start = s i; host_end = e i; end = t i }
+use Rattle.uri_pct.proofs.Tests.{or_false}
+use Rattle.uri_parts.proofs.Authorities.PlacedHosts.{places, bare, bare_at, user_at}
 
 -- what is found agrees with what is cut
 pub record IsFound (kind : Kind) (rest : List ℕ) : Type 0 where
@@ -104,10 +59,14 @@ module _ (segment : TableSet) (kind : Kind) (w : Separates segment kind) where
       (λ e.
       let c = eqb-true b 58 e in
       let l : port_length (b ∷ bs) ≡ 1 + front digit_set bs = cond-true _ _ _ e in
-      let one : front kind.userinfo (b ∷ bs) ≡ front kind.userinfo bs + 1 = front-char kind.userinfo w.userinfo_lacks (b ∷ bs) 0 (omega arith) (omega arith) (ap kind.userinfo.ascii c ∙ w.colon_within) in
+      let one : front kind.userinfo (b ∷ bs) ≡ front kind.userinfo bs + 1 =
+      front-char kind.userinfo w.userinfo_lacks (b ∷ bs) 0 (omega arith) (omega arith)
+      (ap kind.userinfo.ascii c ∙ w.colon_within) in
       let digits = front-within digit_set kind.userinfo w.digits_within refl bs in
       let d = ap (front kind.userinfo) (behind_mark (front digit_set bs) (b ∷ bs)) in
-      let sum : front kind.userinfo (b ∷ bs) ≡ 1 + front digit_set bs + front kind.userinfo (drop (1 + front digit_set bs) (b ∷ bs)) = omega (arith, one, digits, d) in
+      let sum : front kind.userinfo (b ∷ bs)
+      ≡ 1 + front digit_set bs + front kind.userinfo (drop (1 + front digit_set bs) (b ∷ bs)) =
+      omega (arith, one, digits, d) in
       sum ∙ sym (ap (λ n. n + front kind.userinfo (drop n (b ∷ bs))) l))
       (λ e.
       let none : port_length (b ∷ bs) ≡ 0 = cond-false _ _ _ e in
@@ -117,7 +76,9 @@ module _ (segment : TableSet) (kind : Kind) (w : Separates segment kind) where
   more_is : (bs : List ℕ) → more_user kind bs ≡ front kind.userinfo bs
   unfolding more_user
   more_is bs = ⊎_elim
-      (λ e. cond-true _ _ _ e ∙ sym (ap (front kind.userinfo) (starts-cons 64 bs e) ∙ front_zero_mark (codes "@/?#") kind.userinfo w.userinfo_lacks w.userinfo_marks 64 (drop 1 bs) refl))
+      (λ e. cond-true _ _ _ e ∙ sym (ap (front kind.userinfo) (starts-cons 64 bs e)
+      ∙ front_zero_mark (codes "@/?#") kind.userinfo w.userinfo_lacks w.userinfo_marks 64
+      (drop 1 bs) refl))
       (λ e. cond-false _ _ _ e)
       (cases_Bool (starts 64 bs))
 
@@ -128,8 +89,11 @@ module _ (segment : TableSet) (kind : Kind) (w : Separates segment kind) where
       let a = front-within kind.reg_name kind.userinfo w.name_within w.reg_name_lacks rest in
       let b = port_front behind_name in
       let c = more_is (drop (front kind.reg_name rest + port_length behind_name) rest)
-      ∙ ap (front kind.userinfo) (sym (behind (front kind.reg_name rest) (port_length behind_name) rest)) in
-      let sum : front kind.reg_name rest + port_length behind_name + more_user kind (drop (front kind.reg_name rest + port_length behind_name) rest) ≡ front kind.userinfo rest = omega (arith, a, b, c) in
+      ∙ ap (front kind.userinfo)
+      (sym (behind (front kind.reg_name rest) (port_length behind_name) rest)) in
+      let sum : front kind.reg_name rest + port_length behind_name
+      + more_user kind (drop (front kind.reg_name rest + port_length behind_name) rest)
+      ≡ front kind.userinfo rest = omega (arith, a, b, c) in
       sum
 
   -- what begins with `[` is no userinfo
@@ -141,7 +105,9 @@ module _ (segment : TableSet) (kind : Kind) (w : Separates segment kind) where
       → finds_authority kind rest ≡ finds_host kind rest
   unfolding finds_authority finds_other
   literal_other rest e =
-      ap (λ t. t || ((starts 91 rest || passes_user kind rest) && finds_host kind (from_host kind rest))) (name_bare segment kind w rest e)
+      ap
+      (λ t. t || ((starts 91 rest || passes_user kind rest)
+      && finds_host kind (from_host kind rest))) (name_bare segment kind w rest e)
       ∙ ap (λ t. (t || passes_user kind rest) && finds_host kind (from_host kind rest)) e
       ∙ ap (finds_host kind) (literal_first rest e)
 
@@ -149,7 +115,8 @@ module _ (segment : TableSet) (kind : Kind) (w : Separates segment kind) where
       → finds_authority kind rest
       ≡ (finds_name kind rest || (passes_user kind rest && finds_host kind (from_host kind rest)))
   unfolding finds_authority finds_other
-  name_or_user rest e = ap (λ t. finds_name kind rest || ((t || passes_user kind rest) && finds_host kind (from_host kind rest))) e
+  name_or_user rest e = ap (λ t. finds_name kind rest
+      || ((t || passes_user kind rest) && finds_host kind (from_host kind rest))) e
 
   user_place : (rest : List ℕ) → starts 91 rest ≡ false
       → host_place kind rest ≡ front kind.userinfo rest + 1
@@ -176,7 +143,8 @@ module _ (segment : TableSet) (kind : Kind) (w : Separates segment kind) where
   name_is_host : (rest : List ℕ) → finds_name kind rest ≡ true
       → (starts 91 rest ≡ false) × (finds_host kind rest ≡ true)
   name_is_host rest h =
-      let e : starts 91 rest ≡ false = false_from_ne_true _ (λ t. both_ways _ (name_bare segment kind w rest t) h) in
+      let e : starts 91 rest ≡ false =
+      false_from_ne_true _ (λ t. both_ways _ (name_bare segment kind w rest t) h) in
       (e, bare_host segment kind w rest e ∙ h)
 
   module _ (rest : List ℕ) (u : IsUtf8 rest) where
@@ -191,7 +159,8 @@ module _ (segment : TableSet) (kind : Kind) (w : Separates segment kind) where
         ∙ starts_before 64 (codes "/?#") refl tail
 
     utf8_mark : starts 64 tail ≡ true → IsUtf8 (drop 1 tail)
-    utf8_mark e = utf8_past 64 (lit< tt) tail e (utf8_from (codes "@/?#") rest (ascii_marks (codes "@/?#") refl) u)
+    utf8_mark e = utf8_past 64 (lit< tt) tail e
+        (utf8_from (codes "@/?#") rest (ascii_marks (codes "@/?#") refl) u)
 
     valid_user : is_valid_for kind.userinfo (before_any (codes "@/?#") rest)
         ≡ eqb (front kind.userinfo rest) (to_mark (codes "@/?#") rest)
@@ -200,16 +169,21 @@ module _ (segment : TableSet) (kind : Kind) (w : Separates segment kind) where
     -- with an `@` it is userinfo, and then a host
     with_mark : starts 64 tail ≡ true
         → reads_whole_authority kind.userinfo kind.reg_name cut_text
-        ≡ (is_valid_for kind.userinfo (before_any (codes "@/?#") rest) && finds_host kind (drop 1 tail))
+        ≡ (is_valid_for kind.userinfo (before_any (codes "@/?#") rest)
+        && finds_host kind (drop 1 tail))
     unfolding reads_whole_authority
     with_mark e =
         let c = cut_again 64 (codes "/?#") rest in
-        let t : before_any (codes "/?#") tail ≡ 64 ∷ before_any (codes "/?#") (drop 1 tail) = ap (before_any (codes "/?#")) (starts-cons 64 tail e)
+        let t : before_any (codes "/?#") tail ≡ 64 ∷ before_any (codes "/?#") (drop 1 tail) =
+        ap (before_any (codes "/?#")) (starts-cons 64 tail e)
         ∙ before_past_other (codes "/?#") 64 (drop 1 tail) refl in
         cond-true _ _ _ (mark_is ∙ e)
-        ∙ ap (λ x. is_valid_for kind.userinfo x && reads_host_and_port kind.reg_name (drop 1 (from_any (codes "@") cut_text))) c.0
-        ∙ ap (λ x. is_valid_for kind.userinfo (before_any (codes "@/?#") rest) && reads_host_and_port kind.reg_name (drop 1 x)) (c.1 ∙ t)
-        ∙ ap (λ x. is_valid_for kind.userinfo (before_any (codes "@/?#") rest) && x) (sym (host_read segment kind w (drop 1 tail) (utf8_mark e)))
+        ∙ ap (λ x. is_valid_for kind.userinfo x
+        && reads_host_and_port kind.reg_name (drop 1 (from_any (codes "@") cut_text))) c.0
+        ∙ ap (λ x. is_valid_for kind.userinfo (before_any (codes "@/?#") rest)
+        && reads_host_and_port kind.reg_name (drop 1 x)) (c.1 ∙ t)
+        ∙ ap (λ x. is_valid_for kind.userinfo (before_any (codes "@/?#") rest) && x)
+        (sym (host_read segment kind w (drop 1 tail) (utf8_mark e)))
 
     without_mark : starts 64 tail ≡ false
         → reads_whole_authority kind.userinfo kind.reg_name cut_text ≡ finds_host kind rest
@@ -221,44 +195,50 @@ module _ (segment : TableSet) (kind : Kind) (w : Separates segment kind) where
 
     user_to_mark : starts 64 (after kind.userinfo rest) ≡ true
         → front kind.userinfo rest ≡ to_mark (codes "@/?#") rest
-    user_to_mark e = stops_at (codes "@/?#") 64 refl kind.userinfo w.userinfo_lacks w.userinfo_marks rest u e
+    user_to_mark e = stops_at (codes "@/?#") 64 refl kind.userinfo w.userinfo_lacks w.userinfo_marks
+        rest u e
 
     literal_user : starts 91 rest ≡ true
         → is_valid_for kind.userinfo (before_any (codes "@/?#") rest) ≡ false
     literal_user e = false_from_ne_true _ (λ v.
         both_ways _
-        (lacks_starts (codes "[") (before_any (codes "@/?#") rest) 91 refl (valid_lacks kind.userinfo (codes "[") w.userinfo_lacks w.userinfo_starts (before_any (codes "@/?#") rest) (utf8_before (codes "@/?#") rest (ascii_marks (codes "@/?#") refl) u) v))
+        (lacks_starts (codes "[") (before_any (codes "@/?#") rest) 91 refl
+        (valid_lacks kind.userinfo (codes "[") w.userinfo_lacks w.userinfo_starts
+        (before_any (codes "@/?#") rest)
+        (utf8_before (codes "@/?#") rest (ascii_marks (codes "@/?#") refl) u) v))
         (starts_before 91 (codes "@/?#") refl rest ∙ e))
 
     user_read : starts 91 rest ≡ false → starts 64 tail ≡ true
         → (passes_user kind rest && finds_host kind (from_host kind rest))
-        ≡ (is_valid_for kind.userinfo (before_any (codes "@/?#") rest) && finds_host kind (drop 1 tail))
+        ≡ (is_valid_for kind.userinfo (before_any (codes "@/?#") rest)
+        && finds_host kind (drop 1 tail))
     user_read bare e = ⊎_elim
         (λ m.
-        ap (λ t. t && finds_host kind (from_host kind rest)) (user_passed rest ∙ ap (λ n. starts 64 (drop n rest)) m ∙ e)
+        ap (λ t. t && finds_host kind (from_host kind rest))
+        (user_passed rest ∙ ap (λ n. starts 64 (drop n rest)) m ∙ e)
         ∙ ap (finds_host kind) (user_behind rest bare ∙ ap (λ n. drop 1 (drop n rest)) m)
         ∙ sym (ap (λ t. t && finds_host kind (drop 1 tail)) (valid_user ∙ eq-eqb _ _ m)))
         (λ s.
-        let none : starts 64 (after kind.userinfo rest) ≡ false = false_from_ne_true _ (λ t. s.apart (user_to_mark t)) in
+        let none : starts 64 (after kind.userinfo rest) ≡ false =
+        false_from_ne_true _ (λ t. s.apart (user_to_mark t)) in
         ap (λ t. t && finds_host kind (from_host kind rest)) (user_passed rest ∙ none)
         ∙ sym (ap (λ t. t && finds_host kind (drop 1 tail)) (valid_user ∙ ne_eqb _ _ s.apart)))
         (stop_cases (codes "@/?#") kind.userinfo w.userinfo_lacks w.userinfo_marks rest u)
 
     no_user : starts 64 tail ≡ false → passes_user kind rest ≡ false
     no_user e = user_passed rest
-        ∙ false_from_ne_true _ (λ t. both_ways _ e (sym (ap (λ n. starts 64 (drop n rest)) (user_to_mark t)) ∙ t))
-
-    or_nothing : (x : Bool) → (x || false) ≡ x
-    or_nothing true = refl
-    or_nothing false = refl
+        ∙ false_from_ne_true _
+        (λ t. both_ways _ e (sym (ap (λ n. starts 64 (drop n rest)) (user_to_mark t)) ∙ t))
 
     finds_user : starts 64 tail ≡ true
         → finds_authority kind rest
-        ≡ (is_valid_for kind.userinfo (before_any (codes "@/?#") rest) && finds_host kind (drop 1 tail))
+        ≡ (is_valid_for kind.userinfo (before_any (codes "@/?#") rest)
+        && finds_host kind (drop 1 tail))
     finds_user e = ⊎_elim
         (λ b. literal_other rest b ∙ no_host e ∙ sym (and_left _ _ (literal_user b)))
         (λ b.
-        let none : finds_name kind rest ≡ false = false_from_ne_true _ (λ h. both_ways _ (no_host e) (name_is_host rest h).1) in
+        let none : finds_name kind rest ≡ false =
+        false_from_ne_true _ (λ h. both_ways _ (no_host e) (name_is_host rest h).1) in
         name_or_user rest b
         ∙ ap (λ t. t || (passes_user kind rest && finds_host kind (from_host kind rest))) none
         ∙ user_read b e)
@@ -273,7 +253,7 @@ module _ (segment : TableSet) (kind : Kind) (w : Separates segment kind) where
         (λ b.
         name_or_user rest b
         ∙ ap (λ t. finds_name kind rest || (t && finds_host kind (from_host kind rest))) (no_user e)
-        ∙ or_nothing (finds_name kind rest) ∙ sym (bare_host segment kind w rest b))
+        ∙ or_false (finds_name kind rest) ∙ sym (bare_host segment kind w rest b))
         (cases_Bool (starts 91 rest))
         ∙ sym (without_mark e))
         (cases_Bool (starts 64 tail))
@@ -286,13 +266,27 @@ module _ (segment : TableSet) (kind : Kind) (w : Separates segment kind) where
         let f = found_host segment kind w rest u p.1 in
         let n : front kind.reg_name rest ≡ length f.host = sym (bare_end segment kind w rest p.0)
         ∙ f.end in
-        let l : name_length kind rest ≡ length (f.host ++ f.behind) = sym (bare_length segment kind w rest p.0)
+        let l : name_length kind rest ≡ length (f.host ++ f.behind) =
+        sym (bare_length segment kind w rest p.0)
         ∙ f.whole in
         record {
           len = cond-true _ _ _ h ∙ l ∙ sym (ap length f.text);
           found = λ place.
-              let same : record { start = place; host_start = place; host_end = place + front kind.reg_name rest; end = place + name_length kind rest } ≡ places place place f.host f.behind =
-              λ i. record { start = place; host_start = place; host_end = place + n i; end = place + l i } in
+              let same : record {
+                start = place;
+                host_start = place;
+                host_end =
+                    place + front kind.reg_name rest;
+                end = place + name_length kind rest;
+              }
+              ≡ places place place f.host f.behind =
+              λ i. record {
+                start = place;
+                host_start = place;
+                host_end = place + n i;
+                end =
+                    place + l i;
+              } in
               cond-true _ _ _ h ∙ same
               ∙ sym (ap (authority_at place) f.text ∙ bare_at f.host f.behind f.at f.cut place);
         }
@@ -301,7 +295,11 @@ module _ (segment : TableSet) (kind : Kind) (w : Separates segment kind) where
         → ((place : ℕ) → other_authority kind place rest ≡ authority_at place cut_text)
         → IsFound kind rest
     unfolding found_length found_authority
-    other_case none len found = record { len = cond-false _ _ _ none ∙ len; found = λ place. cond-false _ _ _ none ∙ found place }
+    other_case none len found = record {
+      len = cond-false _ _ _ none
+          ∙ len;
+      found = λ place. cond-false _ _ _ none ∙ found place;
+    }
 
     literal_case : finds_name kind rest ≡ false → starts 91 rest ≡ true
         → finds_host kind rest ≡ true → IsFound kind rest
@@ -309,15 +307,25 @@ module _ (segment : TableSet) (kind : Kind) (w : Separates segment kind) where
     literal_case none e h =
         let f = found_host segment kind w rest u h in
         let z : host_place kind rest ≡ 0 = cond-true _ _ _ e in
-        let l : host_place kind rest + host_length kind (from_host kind rest) ≡ length (f.host ++ f.behind) = ap (λ n. n + host_length kind (drop n rest)) z
+        let l : host_place kind rest + host_length kind (from_host kind rest)
+        ≡ length (f.host ++ f.behind) = ap (λ n. n + host_length kind (drop n rest)) z
         ∙ zero-add _ ∙ f.whole in
         other_case none (l ∙ sym (ap length f.text)) (λ place.
         let s : place + host_place kind rest ≡ place = omega (arith, z) in
-        let n : host_end kind (from_host kind rest) ≡ length f.host = ap (host_end kind) (literal_first rest e)
+        let n : host_end kind (from_host kind rest) ≡ length f.host =
+        ap (host_end kind) (literal_first rest e)
         ∙ f.end in
-        let m : host_length kind (from_host kind rest) ≡ length (f.host ++ f.behind) = ap (host_length kind) (literal_first rest e)
+        let m : host_length kind (from_host kind rest) ≡ length (f.host ++ f.behind) =
+        ap (host_length kind) (literal_first rest e)
         ∙ f.whole in
-        let same : other_authority kind place rest ≡ places place place f.host f.behind = λ i. record { start = place; host_start = s i; host_end = s i + n i; end = s i + m i } in
+        let same : other_authority kind place rest ≡ places place place f.host f.behind =
+        λ i. record {
+          start = place;
+          host_start = s i;
+          host_end = s i + n i;
+          end =
+              s i + m i;
+        } in
         same ∙ sym (ap (authority_at place) f.text ∙ bare_at f.host f.behind f.at f.cut place))
 
     user_case : finds_name kind rest ≡ false → starts 91 rest ≡ false → passes_user kind rest ≡ true
@@ -333,7 +341,9 @@ module _ (segment : TableSet) (kind : Kind) (w : Separates segment kind) where
         let f = found_host segment kind w s (utf8_mark mark) (sym (ap (finds_host kind) b) ∙ h) in
         let cut_user = IsCut-any (codes "@/?#") rest in
         let cut_host = IsCut-any (codes "/?#") s in
-        let outside : Lacks (codes "@") user = lacks_fewer (codes "@") (codes "@/?#") (λ c e. grind (arith, nat_tests)) user cut_user.lacks in
+        let outside : Lacks (codes "@") user =
+        lacks_fewer (codes "@") (codes "@/?#") (λ c e. grind (arith, nat_tests)) user
+        cut_user.lacks in
         let whole_text : List ℕ = user ++ (64 ∷ (f.host ++ f.behind)) in
         let end : List ℕ = from_any (codes "/?#") s in
         let whole : whole_text ++ end ≡ rest =
@@ -342,20 +352,34 @@ module _ (segment : TableSet) (kind : Kind) (w : Separates segment kind) where
         ∙ ap (λ t. user ++ (64 ∷ t)) cut_host.whole
         ∙ ap (λ t. user ++ t) (sym (starts-cons 64 tail mark)) ∙ cut_user.whole in
         let ends_lack : Lacks (codes "/?#") whole_text =
-        lacks_append (codes "/?#") user (64 ∷ (f.host ++ f.behind)) (lacks_fewer (codes "/?#") (codes "@/?#") (λ c e. grind (arith, nat_tests)) user cut_user.lacks)
-        (Lacks-cons (codes "/?#") 64 (f.host ++ f.behind) refl (subst (Lacks (codes "/?#")) f.text cut_host.lacks)) in
+        lacks_append (codes "/?#") user (64 ∷ (f.host ++ f.behind))
+        (lacks_fewer (codes "/?#") (codes "@/?#") (λ c e. grind (arith, nat_tests)) user
+        cut_user.lacks)
+        (Lacks-cons (codes "/?#") 64 (f.host ++ f.behind) refl
+        (subst (Lacks (codes "/?#")) f.text cut_host.lacks)) in
         let text_is : cut_text ≡ whole_text = ap (before_any (codes "/?#")) (sym whole)
         ∙ (cut-append (codes "/?#") whole_text end ends_lack cut_host.begins).0 in
         let n : host_place kind rest ≡ length user + 1 = user_place rest e
         ∙ ap (λ n. n + 1) (m ∙ sym (length-before (codes "@/?#") rest)) in
         let host : host_end kind (from_host kind rest) ≡ length f.host = ap (host_end kind) b
         ∙ f.end in
-        let past : host_length kind (from_host kind rest) ≡ length (f.host ++ f.behind) = ap (host_length kind) b
+        let past : host_length kind (from_host kind rest) ≡ length (f.host ++ f.behind) =
+        ap (host_length kind) b
         ∙ f.whole in
-        let l : host_place kind rest + host_length kind (from_host kind rest) ≡ length whole_text = omega (arith, n, past, length-append user (64 ∷ (f.host ++ f.behind))) in
+        let l : host_place kind rest + host_length kind (from_host kind rest) ≡ length whole_text =
+        omega (arith, n, past, length-append user (64 ∷ (f.host ++ f.behind))) in
         other_case none (l ∙ sym (ap length text_is)) (λ place.
-        let same : other_authority kind place rest ≡ places place (place + (length user + 1)) f.host f.behind = λ i. record { start = place; host_start = place + n i; host_end = place + n i + host i; end = place + n i + past i } in
-        same ∙ sym (ap (authority_at place) text_is ∙ user_at f.host f.behind f.at f.cut user outside place))
+        let same : other_authority kind place rest
+        ≡ places place (place + (length user + 1)) f.host f.behind =
+        λ i. record {
+          start = place;
+          host_start = place + n i;
+          host_end =
+              place + n i + host i;
+          end = place + n i + past i;
+        } in
+        same ∙ sym (ap (authority_at place) text_is
+        ∙ user_at f.host f.behind f.at f.cut user outside place))
 
     split_or : (x y : Bool) → (x || y) ≡ true → x ≡ false → y ≡ true
     split_or true y h e = absurd (both_ways true e refl)
@@ -366,7 +390,8 @@ module _ (segment : TableSet) (kind : Kind) (w : Separates segment kind) where
         (λ none. ⊎_elim
         (λ e. literal_case none e (sym (literal_other rest e) ∙ h))
         (λ e.
-        let p = and_parts (passes_user kind rest) _ (split_or (finds_name kind rest) _ (sym (name_or_user rest e) ∙ h) none) in
+        let p = and_parts (passes_user kind rest) _
+        (split_or (finds_name kind rest) _ (sym (name_or_user rest e) ∙ h) none) in
         user_case none e p.0 p.1)
         (cases_Bool (starts 91 rest)))
         (cases_Bool (finds_name kind rest))

@@ -19,7 +19,7 @@ use Rattle.uri_parts.specs.Components.{before_any, from_any, starts, Lacks}
 use Rattle.uri_parts.specs.Hosts.{ipv4_value}
 use Rattle.uri_parts.specs.Models.AuthorityReading.{begins_any, port_length}
 use Rattle.uri_parts.proofs.HostForms.Addresses.{ipv4_value-sound}
-use Rattle.uri_parts.proofs.Authorities.Authority.{lacks_nil, lacks_fewer}
+use Rattle.uri_parts.proofs.Authorities.Authority.{lacks_nil}
 use Rattle.uri_parts.proofs.Authorities.AuthorityCuts.{length-before, behind_mark}
 use Rattle.uri_parts.proofs.Splitting.Cuts.{Begins, IsCut-any, before_at_mark, from_at_mark}
 use Rattle.uri_parts.proofs.Splitting.Cuts.{before_past_other, from_past_other, Lacks-cons}
@@ -76,7 +76,10 @@ pub starts_before : (mark : ℕ) (marks : List ℕ) → is_one_of marks mark ≡
     → starts mark (before_any marks bs) ≡ starts mark bs
 starts_before mark marks none [] = refl
 starts_before mark marks none (b ∷ bs) = ⊎_elim
-    (λ o. ap (starts mark) (before_at_mark marks b bs o) ∙ sym (false_from_ne_true _ (λ e. both_ways _ none (sym (ap (is_one_of marks) (eqb-true b mark e)) ∙ o))))
+    (λ o. ap (starts mark) (before_at_mark marks b bs o)
+    ∙ sym
+    (false_from_ne_true _
+    (λ e. both_ways _ none (sym (ap (is_one_of marks) (eqb-true b mark e)) ∙ o))))
     (λ o. ap (starts mark) (before_past_other marks b bs o))
     (cases_Bool (is_one_of marks b))
 
@@ -94,8 +97,11 @@ pub reads_to : (marks : List ℕ) (set : TableSet) → LacksPercent set → excl
     → begins_any marks (after set bs) ≡ is_valid_for set (before_any marks bs)
 unfolding begins_any
 reads_to marks set lacks outside bs u = ⊎_elim
-    (λ m. ap (λ n. begins_any marks (drop n bs)) m ∙ begins_is marks (from_any marks bs) (IsCut-any marks bs).begins ∙ sym (cut marks set lacks outside bs u ∙ eq-eqb _ _ m))
-    (λ w. ap (begins_any marks) w.left ∙ w.other ∙ sym (cut marks set lacks outside bs u ∙ ne_eqb _ _ w.apart))
+    (λ m. ap (λ n. begins_any marks (drop n bs)) m
+    ∙ begins_is marks (from_any marks bs) (IsCut-any marks bs).begins
+    ∙ sym (cut marks set lacks outside bs u ∙ eq-eqb _ _ m))
+    (λ w. ap (begins_any marks) w.left ∙ w.other
+    ∙ sym (cut marks set lacks outside bs u ∙ ne_eqb _ _ w.apart))
     (stop_cases marks set lacks outside bs u)
 
 -- a port, or nothing
@@ -115,7 +121,8 @@ port_read (b ∷ bs) u = ⊎_elim
     ap (λ n. begins_any (codes "/?#") (drop n (b ∷ bs))) (cond-true _ _ _ e)
     ∙ ap (begins_any (codes "/?#")) (sym (behind_mark (front digit_set bs) (b ∷ bs)))
     ∙ reads_to (codes "/?#") digit_set refl refl bs (utf8_tail b bs (colon_ascii b e) u)
-    ∙ sym (ap ends_in_port (before_past_other (codes "/?#") b bs (colon_plain b e)) ∙ ap (λ t. t && is_valid_for digit_set (before_any (codes "/?#") bs)) e))
+    ∙ sym (ap ends_in_port (before_past_other (codes "/?#") b bs (colon_plain b e))
+    ∙ ap (λ t. t && is_valid_for digit_set (before_any (codes "/?#") bs)) e))
     (λ e.
     ap (λ n. begins_any (codes "/?#") (drop n (b ∷ bs))) (cond-false _ _ _ e)
     ∙ ⊎_elim
@@ -132,17 +139,23 @@ port_whole [] u h = refl
 port_whole (b ∷ bs) u h = ⊎_elim
     (λ e.
     let past = cond-true (eqb b 58) (1 + front digit_set bs) 0 e in
-    let left : begins_any (codes "/?#") (after digit_set bs) ≡ true = ap (begins_any (codes "/?#")) (behind_mark (front digit_set bs) (b ∷ bs))
+    let left : begins_any (codes "/?#") (after digit_set bs) ≡ true =
+    ap (begins_any (codes "/?#")) (behind_mark (front digit_set bs) (b ∷ bs))
     ∙ sym (ap (λ n. begins_any (codes "/?#") (drop n (b ∷ bs))) past) ∙ h in
-    let valid = sym (reads_to (codes "/?#") digit_set refl refl bs (utf8_tail b bs (colon_ascii b e) u))
+    let valid =
+    sym (reads_to (codes "/?#") digit_set refl refl bs (utf8_tail b bs (colon_ascii b e) u))
     ∙ left in
-    let m : front digit_set bs ≡ to_mark (codes "/?#") bs = eqb-true _ _ (sym (cut (codes "/?#") digit_set refl refl bs (utf8_tail b bs (colon_ascii b e) u)) ∙ valid) in
+    let m : front digit_set bs ≡ to_mark (codes "/?#") bs =
+    eqb-true _ _
+    (sym (cut (codes "/?#") digit_set refl refl bs (utf8_tail b bs (colon_ascii b e) u))
+    ∙ valid) in
     let l = length-before (codes "/?#") bs in
     let n = ap length (before_past_other (codes "/?#") b bs (colon_plain b e)) in
     past ∙ omega (arith, m, l, n))
     (λ e.
     let none = cond-false (eqb b 58) (1 + front digit_set bs) 0 e in
-    let o : is_one_of (codes "/?#") b ≡ true = sym (ap (λ n. begins_any (codes "/?#") (drop n (b ∷ bs))) none)
+    let o : is_one_of (codes "/?#") b ≡ true =
+    sym (ap (λ n. begins_any (codes "/?#") (drop n (b ∷ bs))) none)
     ∙ h in
     none ∙ sym (ap length (before_at_mark (codes "/?#") b bs o)))
     (cases_Bool (eqb b 58))
@@ -151,7 +164,8 @@ pub port_stuck : (b : ℕ) (bs : List ℕ) → is_one_of (codes ":/?#") b ≡ fa
     → begins_any (codes "/?#") (drop (port_length (b ∷ bs)) (b ∷ bs)) ≡ false
 unfolding begins_any port_length
 port_stuck b bs o =
-    let p : (eqb b 58 ≡ false) × (is_one_of (codes "/?#") b ≡ false) = (grind (arith, nat_tests), grind (arith, nat_tests)) in
+    let p : (eqb b 58 ≡ false) × (is_one_of (codes "/?#") b ≡ false) =
+    (grind (arith, nat_tests), grind (arith, nat_tests)) in
     ap (λ n. begins_any (codes "/?#") (drop n (b ∷ bs))) (cond-false _ _ _ p.0) ∙ p.1
 
 pub port_begins : (bs : List ℕ) → ends_in_port bs ≡ true → Begins (codes ":") bs
@@ -164,7 +178,8 @@ unfolding ends_in_port
 port_lacks [] u h = lacks_nil (codes "@")
 port_lacks (b ∷ bs) u h =
     let p = and_parts (eqb b 58) _ h in
-    Lacks-cons (codes "@") b bs (ap (is_one_of (codes "@")) (eqb-true b 58 p.0)) (valid_lacks digit_set (codes "@") refl refl bs (utf8_tail b bs (colon_ascii b p.0) u) p.1)
+    Lacks-cons (codes "@") b bs (ap (is_one_of (codes "@")) (eqb-true b 58 p.0))
+    (valid_lacks digit_set (codes "@") refl refl bs (utf8_tail b bs (colon_ascii b p.0) u) p.1)
 
 pub front_nil : (set : TableSet) → front set [] ≡ 0
 unfolding front_from
@@ -180,7 +195,9 @@ module _ (names : TableSet) (lacks : LacksPercent names) (wide : IsSubset reg_na
   digits_read [] h = front_nil names
   digits_read (c ∷ text) h =
       let d = h 0 0 (omega arith) in
-      let one : front names (c ∷ text) ≡ front names text + 1 = front-char names lacks (c ∷ text) 0 (omega arith) (digit_ascii c d) (wide.ascii c (digit_reg_name c d)) in
+      let one : front names (c ∷ text) ≡ front names text + 1 =
+      front-char names lacks (c ∷ text) 0 (omega arith) (digit_ascii c d)
+      (wide.ascii c (digit_reg_name c d)) in
       one ∙ omega (arith, digits_read text (λ k d l. h (suc k) d (omega arith)))
 
   pub name_valid : (text : List ℕ) → IsUtf8 text → is_name names text ≡ is_valid_for names text
@@ -189,5 +206,7 @@ module _ (names : TableSet) (lacks : LacksPercent names) (wide : IsSubset reg_na
       (λ n. ap (λ o. is_some o || is_valid_for names text) n)
       (λ (octets, s).
       ap (λ o. is_some o || is_valid_for names text) s
-      ∙ sym (valid_where_read names text lacks u ∙ eq-eqb _ _ (digits_read text (ipv4_digits text octets (ipv4_value-sound text octets s)))))
+      ∙ sym (valid_where_read names text lacks u
+      ∙ eq-eqb _ _
+      (digits_read text (ipv4_digits text octets (ipv4_value-sound text octets s)))))
       (value_cases (ipv4_value text))

@@ -1,7 +1,7 @@
 -- Rows of the table of default ports, and ports as numbers.
 use Rattle.std.proofs.Common.{◌≡◌, [], map, length, refl, Some, None, codes}
 use Rattle.std.specs.Str.{str_to_ascii_lowercase}
-use Rattle.uri_parts.specs.PortNumbers.{port_number}
+use Rattle.uri_parts.specs.Ports.{port_number}
 use Rattle.uri_parts.specs.SchemePorts.{scheme_ports, default_port}
 
 rows : length scheme_ports ≡ 44

@@ -16,7 +16,7 @@ use Rattle.std.proofs.lemmas.Str.Parse.{IsNumeralModel, parse_digits, digit_from
 use Rattle.std.proofs.lemmas.Str.Parse.{without_leading_plus_none}
 use Rattle.uri_pct.specs.Sets.{digit_set}
 use Rattle.uri_pct.specs.Tokens.{IsValidFor}
-use Rattle.uri_parts.specs.PortNumbers.{port_number, port_value, FitsPort}
+use Rattle.uri_parts.specs.Ports.{port_number, port_value, FitsPort}
 use Rattle.uri_parts.proofs.TextKinds.PlainSets.{is_plain_char, valid_plain}
 
 is_digit : (d : ℕ) → is_plain_char is_ascii_digit d ≡ true → digit_value d < 10
@@ -31,7 +31,8 @@ all_digits : (digits : List ℕ) → list_all (is_plain_char is_ascii_digit) dig
     → AllDigits 10 digits
 all_digits [] e = tt
 all_digits (d ∷ digits) e =
-    let p = and_parts (is_plain_char is_ascii_digit d) (list_all (is_plain_char is_ascii_digit) digits) e in
+    let p = and_parts (is_plain_char is_ascii_digit d)
+    (list_all (is_plain_char is_ascii_digit) digits) e in
     (is_digit d p.0, all_digits digits p.1)
 
 pub valid_digits : (digits : List ℕ) → IsUtf8 digits → IsValidFor digit_set digits
@@ -48,7 +49,8 @@ not_empty (d ∷ digits) e = (omega arith, refl)
 
 no_plus : (digits : List ℕ) → AllDigits 10 digits → without_leading_plus digits ≡ digits
 no_plus [] d = refl
-no_plus (c ∷ digits) d = without_leading_plus_none (c ∷ digits) (λ e. omega (arith, digit_from_value c d.0))
+no_plus (c ∷ digits) d = without_leading_plus_none (c ∷ digits)
+    (λ e. omega (arith, digit_from_value c d.0))
 
 numeral : (digits : List ℕ) → AllDigits 10 digits → 0 < length digits
     → IsNumeral 10 (without_leading_plus digits)
@@ -71,10 +73,13 @@ read_as : (digits : List ℕ) (r : Result ℕ ParseIntError) → AllDigits 10 di
     → port_number (Some digits) ≡ Some (port_value digits) → IsParsed digits r
     → ExplainsUnsignedError 10 digits r → IsPortRead (Some digits) r
 read_as digits r d some is h explains = record {
-  ok = λ n e. let k = subst (IsParsed digits) e h in fits (Some digits) n (port_value digits) is k.1 k.0.1;
+  ok = λ n e. let k = subst (IsParsed digits) e h in
+      fits (Some digits) n (port_value digits) is k.1 k.0.1;
   err = λ e refused. (
     λ fits. subst (IsParsed digits) refused h (some, subst FitsPort is fits),
-    ⊎_elim (λ w. absurd (omega (arith, w.1))) (λ w. ⊎_elim (λ x. absurd (x.1 (numeral digits d some))) (λ x. x) w.1) (subst (ExplainsUnsignedError 10 digits) refused explains),
+    ⊎_elim (λ w. absurd (omega (arith, w.1)))
+        (λ w. ⊎_elim (λ x. absurd (x.1 (numeral digits d some))) (λ x. x) w.1)
+        (subst (ExplainsUnsignedError 10 digits) refused explains),
   );
 }
 
@@ -85,4 +90,5 @@ pub port_parsed : (port : Option (List ℕ)) (digits : List ℕ) (r : Result ℕ
 port_parsed port digits r is u v long parses explains =
     let d = valid_digits digits u v in
     let some = not_empty digits long in
-    subst (λ port. IsPortRead port r) is (read_as digits r d some.0 some.1 (parse_digits plain_words 16 digits r parses d) explains)
+    subst (λ port. IsPortRead port r) is
+    (read_as digits r d some.0 some.1 (parse_digits plain_words 16 digits r parses d) explains)

@@ -30,8 +30,10 @@ port_of_rows : (name : List ℕ) (rows : List Row)
 unfolding port_ignoring_case
 port_of_rows name [] = refl
 port_of_rows name (row ∷ rows) =
-    either (is_named name row) row (find (is_named name) rows) (port_ignoring_case name (map row_of rows)) (port_of_rows name rows)
-    ∙ sym (outside (is_named name row) (row_of row) (find (λ r. str_eq_ignore_ascii_case r.0 name) (map row_of rows)))
+    either (is_named name row) row (find (is_named name) rows)
+    (port_ignoring_case name (map row_of rows)) (port_of_rows name rows)
+    ∙ sym (outside (is_named name row) (row_of row)
+    (find (λ r. str_eq_ignore_ascii_case r.0 name) (map row_of rows)))
 
 port_behind : (r : Option (Bor Row))
     → option_map (λ x. x.now.1) r ≡ option_map (λ (row : Row). row.1) (option_map (λ x. x.now) r)

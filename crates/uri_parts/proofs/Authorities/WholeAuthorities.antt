@@ -28,12 +28,15 @@ ends_in_port (b ∷ rest) = starts 58 (b ∷ rest) && is_valid_for digit_set res
 
 unfoldable pub reads_host_and_port : TableSet → List ℕ → Bool
 reads_host_and_port names rest = cond (starts 91 rest)
-    (starts 93 (from_any (codes "]") (drop 1 rest)) && (is_literal (before_any (codes "]") (drop 1 rest)) && ends_in_port (drop 1 (from_any (codes "]") (drop 1 rest)))))
+    (starts 93 (from_any (codes "]") (drop 1 rest))
+    && (is_literal (before_any (codes "]") (drop 1 rest))
+    && ends_in_port (drop 1 (from_any (codes "]") (drop 1 rest)))))
     (is_name names (before_any (codes ":") rest) && ends_in_port (from_any (codes ":") rest))
 
 unfoldable pub reads_whole_authority : TableSet → TableSet → List ℕ → Bool
 reads_whole_authority users names text = cond (starts 64 (from_any (codes "@") text))
-    (is_valid_for users (before_any (codes "@") text) && reads_host_and_port names (drop 1 (from_any (codes "@") text)))
+    (is_valid_for users (before_any (codes "@") text)
+    && reads_host_and_port names (drop 1 (from_any (codes "@") text)))
     (reads_host_and_port names text)
 
 same : (xs ys : List ℕ) → xs ≡ ys → bytes_eq xs ys ≡ true
@@ -53,7 +56,8 @@ port_of behind = when (starts 58 behind) (drop 1 behind)
 
 -- nothing else stands behind a host than a port
 port_ends : (behind : List ℕ)
-    → (bytes_eq (marked (codes ":") (port_of behind) []) behind && option_map_or (is_valid_for digit_set) (port_of behind) true)
+    → (bytes_eq (marked (codes ":") (port_of behind) []) behind
+    && option_map_or (is_valid_for digit_set) (port_of behind) true)
     ≡ ends_in_port behind
 unfolding port_of ends_in_port
 port_ends [] = refl
@@ -62,10 +66,12 @@ port_ends (b ∷ rest) = ⊎_elim
     let p : when (starts 58 (b ∷ rest)) rest ≡ Some rest = cond-true _ _ _ e in
     let t : (codes ":" ++ rest) ++ [] ≡ b ∷ rest = append-nil (58 ∷ rest)
     ∙ ap (λ c. c ∷ rest) (sym (eqb-true b 58 e)) in
-    ap (λ o. bytes_eq (marked (codes ":") o []) (b ∷ rest) && option_map_or (is_valid_for digit_set) o true) p
+    ap (λ o. bytes_eq (marked (codes ":") o []) (b ∷ rest)
+    && option_map_or (is_valid_for digit_set) o true) p
     ∙ ap (λ x. x && is_valid_for digit_set rest) (same _ _ t)
     ∙ sym (ap (λ x. x && is_valid_for digit_set rest) e))
-    (λ e. ap (λ x. bytes_eq (marked (codes ":") (when x rest) []) (b ∷ rest) && option_map_or (is_valid_for digit_set) (when x rest) true) e
+    (λ e. ap (λ x. bytes_eq (marked (codes ":") (when x rest) []) (b ∷ rest)
+    && option_map_or (is_valid_for digit_set) (when x rest) true) e
     ∙ sym (and_left _ _ e))
     (cases_Bool (eqb b 58))
 
@@ -73,7 +79,8 @@ port_ends (b ∷ rest) = ⊎_elim
 host_test : TableSet → List ℕ → Bool
 host_test names rest =
     bytes_eq (host_before rest ++ marked (codes ":") (port_of (behind_host rest)) []) rest
-    && (is_host names (host_before rest) && option_map_or (is_valid_for digit_set) (port_of (behind_host rest)) true)
+    && (is_host names (host_before rest)
+    && option_map_or (is_valid_for digit_set) (port_of (behind_host rest)) true)
 
 three : (a b c : Bool) → (a && (b && c)) ≡ (b && (a && c))
 three true true c = refl
@@ -87,11 +94,20 @@ by_cut : (names : TableSet) (host behind rest : List ℕ) → host ++ behind ≡
     host_test names rest ≡ (is_host names host && ends_in_port behind)
 unfolding host_test
 by_cut names host behind rest whole h b =
-    ap (λ x. bytes_eq (x ++ marked (codes ":") (port_of (behind_host rest)) []) rest && (is_host names x && option_map_or (is_valid_for digit_set) (port_of (behind_host rest)) true)) h
-    ∙ ap (λ x. bytes_eq (host ++ marked (codes ":") (port_of x) []) rest && (is_host names host && option_map_or (is_valid_for digit_set) (port_of x) true)) b
-    ∙ ap (λ x. bytes_eq (host ++ marked (codes ":") (port_of behind) []) x && (is_host names host && option_map_or (is_valid_for digit_set) (port_of behind) true)) (sym whole)
-    ∙ ap (λ x. x && (is_host names host && option_map_or (is_valid_for digit_set) (port_of behind) true)) (bytes_eq-front host (marked (codes ":") (port_of behind) []) behind)
-    ∙ three (bytes_eq (marked (codes ":") (port_of behind) []) behind) (is_host names host) (option_map_or (is_valid_for digit_set) (port_of behind) true)
+    ap (λ x. bytes_eq (x ++ marked (codes ":") (port_of (behind_host rest)) []) rest
+    && (is_host names x && option_map_or (is_valid_for digit_set) (port_of (behind_host rest))
+    true)) h
+    ∙ ap (λ x. bytes_eq (host ++ marked (codes ":") (port_of x) []) rest
+    && (is_host names host && option_map_or (is_valid_for digit_set) (port_of x) true)) b
+    ∙ ap (λ x. bytes_eq (host ++ marked (codes ":") (port_of behind) []) x
+    && (is_host names host && option_map_or (is_valid_for digit_set) (port_of behind) true))
+    (sym whole)
+    ∙ ap
+    (λ x. x && (is_host names host
+    && option_map_or (is_valid_for digit_set) (port_of behind) true))
+    (bytes_eq-front host (marked (codes ":") (port_of behind) []) behind)
+    ∙ three (bytes_eq (marked (codes ":") (port_of behind) []) behind) (is_host names host)
+    (option_map_or (is_valid_for digit_set) (port_of behind) true)
     ∙ ap (λ x. is_host names host && x) (port_ends behind)
 
 -- a host in no brackets
@@ -113,7 +129,8 @@ name_lemma names rest e =
     let host : List ℕ = before_any (codes ":") rest in
     let behind : List ℕ = from_any (codes ":") rest in
     by_cut names host behind rest cut.whole (cond-false _ _ _ e) (cond-false _ _ _ e)
-    ∙ ap (λ x. x && ends_in_port behind) (name_host names host (starts_front 91 host behind (ap (starts 91) cut.whole ∙ e)))
+    ∙ ap (λ x. x && ends_in_port behind)
+    (name_host names host (starts_front 91 host behind (ap (starts 91) cut.whole ∙ e)))
     ∙ sym (cond-false _ _ _ e)
 
 -- a host in brackets
@@ -122,8 +139,10 @@ bracket_host : (names : TableSet) (address : List ℕ) → Lacks (codes "]") add
 unfolding is_host is_literal
 bracket_host names address lacks =
     let l = literal_at address lacks in
-    ap (λ t. bytes_eq (bracketed t) (bracketed address) && (is_some (ipv6_value t) || is_ipv_future t)) l
-    ∙ ap (λ t. t && (is_some (ipv6_value address) || is_ipv_future address)) (same (bracketed address) (bracketed address) refl)
+    ap (λ t. bytes_eq (bracketed t) (bracketed address)
+    && (is_some (ipv6_value t) || is_ipv_future t)) l
+    ∙ ap (λ t. t && (is_some (ipv6_value address) || is_ipv_future address))
+    (same (bracketed address) (bracketed address) refl)
 
 mark_is : (c : ℕ) → is_one_of (codes "]") c ≡ true → eqb c 93 ≡ true
 mark_is c m = grind (arith, nat_tests)
@@ -152,40 +171,51 @@ closed_lemma names rest e =
     let cut = IsCut-any (codes "]") rest in
     let address : List ℕ = before_any (codes "]") rest in
     let behind : List ℕ = drop 1 (from_any (codes "]") rest) in
-    let f : from_any (codes "]") rest ≡ 93 ∷ behind = begins_bracket (from_any (codes "]") rest) cut.begins e in
+    let f : from_any (codes "]") rest ≡ 93 ∷ behind = begins_bracket (from_any (codes "]") rest)
+    cut.begins e in
     let whole : bracketed address ++ behind ≡ 91 ∷ rest =
     append_assoc (91 ∷ address) (codes "]") behind ∙ ap (λ t. 91 ∷ (address ++ t)) (sym f)
     ∙ ap (λ t. 91 ∷ t) cut.whole in
-    let h : host_before (91 ∷ rest) ≡ bracketed address = ap (λ t. t ++ codes "]") (before_bracket rest) in
+    let h : host_before (91 ∷ rest) ≡ bracketed address = ap (λ t. t ++ codes "]")
+    (before_bracket rest) in
     let b : behind_host (91 ∷ rest) ≡ behind = ap (drop 1) (from_bracket rest) in
     by_cut names (bracketed address) behind (91 ∷ rest) whole h b
     ∙ ap (λ t. t && ends_in_port behind) (bracket_host names address cut.lacks)
     ∙ sym (ap (λ t. t && (is_literal address && ends_in_port behind)) e)
 
 too_long : (rest : List ℕ) → (bracketed rest ++ []) ≡ 91 ∷ rest → ⊥
-too_long rest e = let n = ap length e in omega (arith, n, length-append rest (codes "]"), length-append (bracketed rest) [])
+too_long rest e = let n = ap length e in
+    omega (arith, n, length-append rest (codes "]"), length-append (bracketed rest) [])
 
 open_lemma : (names : TableSet) (rest : List ℕ) → starts 93 (from_any (codes "]") rest) ≡ false
     → host_test names (91 ∷ rest) ≡ reads_host_and_port names (91 ∷ rest)
 unfolding host_test reads_host_and_port port_of
 open_lemma names rest e =
     let cut = IsCut-any (codes "]") rest in
-    let none : from_any (codes "]") rest ≡ [] = no_bracket (from_any (codes "]") rest) cut.begins e in
+    let none : from_any (codes "]") rest ≡ [] = no_bracket (from_any (codes "]") rest) cut.begins
+    e in
     let all : before_any (codes "]") rest ≡ rest = sym (append-nil (before_any (codes "]") rest))
     ∙ ap (λ t. before_any (codes "]") rest ++ t) (sym none) ∙ cut.whole in
-    let h : host_before (91 ∷ rest) ≡ bracketed rest = ap (λ t. t ++ codes "]") (before_bracket rest ∙ ap (λ t. 91 ∷ t) all) in
+    let h : host_before (91 ∷ rest) ≡ bracketed rest = ap (λ t. t ++ codes "]")
+    (before_bracket rest ∙ ap (λ t. 91 ∷ t) all) in
     let b : behind_host (91 ∷ rest) ≡ [] = ap (drop 1) (from_bracket rest ∙ none) in
-    let text : host_before (91 ∷ rest) ++ marked (codes ":") (port_of (behind_host (91 ∷ rest))) [] ≡ bracketed rest ++ [] =
+    let text : host_before (91 ∷ rest) ++ marked (codes ":") (port_of (behind_host (91 ∷ rest))) []
+    ≡ bracketed rest ++ [] =
     ap (λ t. t ++ marked (codes ":") (port_of (behind_host (91 ∷ rest))) []) h
     ∙ ap (λ t. bracketed rest ++ marked (codes ":") (port_of t) []) b in
-    and_left _ _ (other (host_before (91 ∷ rest) ++ marked (codes ":") (port_of (behind_host (91 ∷ rest))) []) (91 ∷ rest) (λ d. too_long rest (sym text ∙ d)))
+    and_left _ _
+    (other (host_before (91 ∷ rest) ++ marked (codes ":") (port_of (behind_host (91 ∷ rest)))
+    []) (91 ∷ rest) (λ d. too_long rest (sym text ∙ d)))
     ∙ sym (and_left _ _ e)
 
 host_lemma : (names : TableSet) (rest : List ℕ)
     → host_test names rest ≡ reads_host_and_port names rest
 host_lemma names [] = name_lemma names [] refl
 host_lemma names (b ∷ rest) = ⊎_elim
-    (λ e. ap (λ c. host_test names (c ∷ rest)) (eqb-true b 91 e) ∙ ⊎_elim (λ c. closed_lemma names rest c) (λ c. open_lemma names rest c) (cases_Bool (starts 93 (from_any (codes "]") rest))) ∙ sym (ap (λ c. reads_host_and_port names (c ∷ rest)) (eqb-true b 91 e)))
+    (λ e. ap (λ c. host_test names (c ∷ rest)) (eqb-true b 91 e)
+    ∙ ⊎_elim (λ c. closed_lemma names rest c) (λ c. open_lemma names rest c)
+    (cases_Bool (starts 93 (from_any (codes "]") rest)))
+    ∙ sym (ap (λ c. reads_host_and_port names (c ∷ rest)) (eqb-true b 91 e)))
     (λ e. name_lemma names (b ∷ rest) e)
     (cases_Bool (eqb b 91))
 
@@ -208,8 +238,12 @@ authority_reads users names text =
     let user : List ℕ = before_any (codes "@") text in
     let from : List ℕ = from_any (codes "@") text in
     let tail = λ (r : List ℕ). host_before r ++ marked (codes ":") (port_of (behind_host r)) [] in
-    let tests = λ (r : List ℕ). is_host names (host_before r) && option_map_or (is_valid_for digit_set) (port_of (behind_host r)) true in
-    let form = λ (t : Bool). bytes_eq (marked [] (when t user) (codes "@") ++ tail (cond t (drop 1 from) text)) text && (option_map_or (is_valid_for users) (when t user) true && tests (cond t (drop 1 from) text)) in
+    let tests = λ (r : List ℕ). is_host names (host_before r)
+    && option_map_or (is_valid_for digit_set) (port_of (behind_host r)) true in
+    let form = λ (t : Bool). bytes_eq
+    (marked [] (when t user) (codes "@") ++ tail (cond t (drop 1 from) text)) text
+    && (option_map_or (is_valid_for users) (when t user) true
+    && tests (cond t (drop 1 from) text)) in
     ⊎_elim
     (λ e.
     let rest : List ℕ = drop 1 from in
@@ -221,7 +255,8 @@ authority_reads users names text =
     ∙ bytes_eq-front user (64 ∷ tail rest) (64 ∷ rest) in
     ap form e
     ∙ ap (λ t. t && (is_valid_for users user && tests rest)) text_is
-    ∙ four (bytes_eq (tail rest) rest) (is_valid_for users user) (is_host names (host_before rest)) (option_map_or (is_valid_for digit_set) (port_of (behind_host rest)) true)
+    ∙ four (bytes_eq (tail rest) rest) (is_valid_for users user) (is_host names (host_before rest))
+    (option_map_or (is_valid_for digit_set) (port_of (behind_host rest)) true)
     ∙ ap (λ t. is_valid_for users user && t) (host_lemma names rest)
     ∙ sym (cond-true _ _ _ e))
     (λ e. ap form e ∙ host_lemma names text ∙ sym (cond-false _ _ _ e))

@@ -32,7 +32,8 @@ module _ (text : List ℕ) (count : ℕ) (h : AreHexDigits text count) where
   -- a byte that is no hexadecimal digit comes behind them
   no_digit_within : (i : ℕ) → i < count → ¬ (16 ≤ digit_value (get_or text i 0))
   no_digit_within i l big =
-      let inside : i < length (take count text) = omega (arith, length-take-le count text h.within) in
+      let inside : i < length (take count text) =
+      omega (arith, length-take-le count text h.within) in
       let small = digit_at (take count text) i h.digits inside in
       let same : get_or (take count text) i 0 ≡ get_or text i 0 = get_or-take count text i 0 l in
       omega (arith, ap digit_value same)
@@ -48,7 +49,8 @@ module _ (text : List ℕ) (count : ℕ) (h : AreHexDigits text count) where
       let size = length-take-le count text h.within in
       let short : length (take count text) ≤ 4 = omega arith in
       let most : 16 ^ length (take count text) ≤ 16 ^ 4 = pow-le-pow_right (lit≤ tt) short in
-      let read = read_number_some_at 16 0xffff text count some h.within h.digits (omega arith) (h.stop few) in
+      let read = read_number_some_at 16 0xffff text count some h.within h.digits (omega arith)
+      (h.stop few) in
       rw (read, le-ltb 4 count (omega arith))
 
   pub nothing_read : count ≡ 0 → read_segment text ≡ None
@@ -62,7 +64,8 @@ module _ (text : List ℕ) (count : ℕ) (h : AreHexDigits text count) where
   long five (Some n) e =
       let (number, fits, len, stop) = read_number_sound 16 0xffff text n.0 n.1 (lit≤ tt) e in
       elim (cases_lt n.1 5) [
-        | inl short ↦ absurd (no_digit_within n.1 (omega arith) (rw (get_or-drop n.1 text 0 0, add-zero) at stop))
+        | inl short ↦ absurd
+            (no_digit_within n.1 (omega arith) (rw (get_or-drop n.1 text 0 0, add-zero) at stop))
         | inr more ↦ rw (e, lt-ltb 4 n.1 (omega arith))
       ]
 
@@ -71,17 +74,22 @@ module _ (text : List ℕ) (count : ℕ) (h : AreHexDigits text count) where
 
   pub undotted : count < 5 → get_or text count 0 ≢ 46 → read_ipv4 text ≡ None
   undotted few other =
-      let next : get_or (drop count text) 0 0 ≡ get_or text count 0 = rw (get_or-drop count text 0 0, add-zero) refl in
-      rw (take-append-drop count text) at (read_ipv4_none (take count text) (drop count text) h.digits (stops few) (λ e. other (sym next ∙ e)))
+      let next : get_or (drop count text) 0 0 ≡ get_or text count 0 =
+      rw (get_or-drop count text 0 0, add-zero) refl in
+      rw (take-append-drop count text) at
+      (read_ipv4_none (take count text) (drop count text) h.digits (stops few)
+      (λ e. other (sym next ∙ e)))
 
   dotted_late : count ≡ 5 → (o : Option (List ℕ × List ℕ)) → read_ipv4 text ≡ o
       → read_ipv4 text ≡ None
   dotted_late five None e = e
   dotted_late five (Some p) e =
       let (front, split, w) = read_ipv4_sound text p.0 p.1 e in
-      let size : length (decimal w.a) ≤ 3 = length-decimal-le 3 w.a (lit≤ tt) (omega (arith, w.fit.0)) (omega (arith, w.fit.0)) in
+      let size : length (decimal w.a) ≤ 3 =
+      length-decimal-le 3 w.a (lit≤ tt) (omega (arith, w.fit.0)) (omega (arith, w.fit.0)) in
       let dot : get_or text (length (decimal w.a)) 0 ≡ 46 =
-      ap (λ t. get_or t (length (decimal w.a)) 0) (split ∙ ap (λ t. t ++ p.1) w.spelled ∙ dotted w.a w.b w.c w.d p.1)
+      ap (λ t. get_or t (length (decimal w.a)) 0)
+      (split ∙ ap (λ t. t ++ p.1) w.spelled ∙ dotted w.a w.b w.c w.d p.1)
       ∙ get_or-append_seam (decimal w.a) 46 _ 0 in
       absurd (no_digit_within (length (decimal w.a)) (omega arith) (rw dot (lit≤ tt)))
 

@@ -40,7 +40,8 @@ digits_ok : (radix : ℕ) (text : List ℕ) → radix ≤ 16 → AllDigits radix
     → is_address_text text ≡ true
 unfolding is_address_text
 digits_ok radix [] le h = refl
-digits_ok radix (c ∷ text) le h = and_from _ _ (digit_char_ok c (omega arith)) (digits_ok radix text le h.1)
+digits_ok radix (c ∷ text) le h =
+    and_from _ _ (digit_char_ok c (omega arith)) (digits_ok radix text le h.1)
 
 decimal_ok : (n : ℕ) → n < 256 → is_address_text (decimal n) ≡ true
 decimal_ok n h = digits_ok 10 (decimal n) (lit≤ tt) (decimal_is_IsNumeral n (omega arith)).0.1
@@ -66,7 +67,8 @@ groups_ok : (ipv4 : Bool) (lead text segments : List ℕ) → is_address_text le
 groups_ok ipv4 lead text [] k h = ap is_address_text h ∙ nil_ok
 groups_ok ipv4 lead text (s ∷ segments) k (inl (group, rest, e, is_group, more)) =
     ap is_address_text e
-    ∙ both _ _ (both lead group k (digits_ok 16 group (lit≤ tt) is_group.0.0.1)) (groups_ok ipv4 (codes ":") rest segments mark_ok.1 more)
+    ∙ both _ _ (both lead group k (digits_ok 16 group (lit≤ tt) is_group.0.0.1))
+    (groups_ok ipv4 (codes ":") rest segments mark_ok.1 more)
 groups_ok ipv4 lead text (s ∷ segments) k (inr (last, octets, allowed, e, dotted, same)) =
     ap is_address_text e ∙ both lead last k (address_text-ipv4 last octets dotted)
 
@@ -75,7 +77,8 @@ pub address_text-ipv6 : (text segments : List ℕ) → IsColonHex text segments
 address_text-ipv6 text segments (inl h) = groups_ok true [] text segments nil_ok h.0
 address_text-ipv6 text segments (inr h) =
     ap is_address_text h.spelled
-    ∙ both _ _ (both _ _ (groups_ok false [] h.head_text h.head nil_ok h.head_groups) mark_ok.2) (groups_ok true [] h.tail_text h.tail nil_ok h.tail_groups)
+    ∙ both _ _ (both _ _ (groups_ok false [] h.head_text h.head nil_ok h.head_groups) mark_ok.2)
+    (groups_ok true [] h.tail_text h.tail nil_ok h.tail_groups)
 
 -- such a text lacks what is none of its characters
 pub address_text-lacks : (marks : List ℕ)
@@ -115,7 +118,8 @@ ipv4_value-complete text octets h =
 pub ipv4_value-sound : (text octets : List ℕ) → ipv4_value text ≡ Some octets → IsDotted text octets
 unfolding ipv4_value
 ipv4_value-sound text octets e =
-    let (front, split, dotted) = read_ipv4_sound text octets [] (whole_read (read_ipv4 text) octets e) in
+    let (front, split, dotted) = read_ipv4_sound text octets []
+    (whole_read (read_ipv4 text) octets e) in
     subst (λ t. IsDotted t octets) (sym (split ∙ append-nil front)) dotted
 
 pub ipv6_value-complete : (text segments : List ℕ) → IsColonHex text segments
@@ -129,5 +133,6 @@ pub ipv6_value-sound : (text segments : List ℕ) → ipv6_value text ≡ Some s
     → IsColonHex text segments
 unfolding ipv6_value
 ipv6_value-sound text segments e =
-    let (front, split, groups) = read_ipv6_sound text segments [] (whole_read (read_ipv6 text) segments e) in
+    let (front, split, groups) = read_ipv6_sound text segments []
+    (whole_read (read_ipv6 text) segments e) in
     subst (λ t. IsColonHex t segments) (sym (split ∙ append-nil front)) groups

@@ -15,7 +15,7 @@ use Rattle.uri_pct.proofs.ValidTexts.Cuts.{to_mark, excludes, cut}
 use Rattle.uri_parts.specs.Components.{starts, before_any, from_any, Lacks}
 use Rattle.uri_parts.specs.Hosts.{IsIpvFuture, ipv6_value, is_ipv_future}
 use Rattle.uri_parts.specs.Models.Literals.{is_literal, reads_literal, literal_length, reads_marked}
-use Rattle.uri_parts.specs.Models.Literals.{marked_length, behind_version, reads_future}
+use Rattle.uri_parts.specs.Models.Literals.{length_to_mark, behind_version, reads_future}
 use Rattle.uri_parts.specs.Models.Literals.{future_length}
 use Rattle.uri_parts.proofs.Authorities.AuthorityCuts.{length-before, behind}
 use Rattle.uri_parts.proofs.HostForms.Addresses.{is_address_char, address_text-ipv6}
@@ -36,8 +36,8 @@ record IsMarked (set : TableSet) (mark : ℕ) (rest : List ℕ) : Type 0 where
   whole : rest ≡ spelt ++ (mark ∷ behind)
   some : 0 < length spelt
   valid : is_valid_for set spelt ≡ true
-  long : marked_length set rest ≡ length spelt + 1
-  left : drop (marked_length set rest) rest ≡ behind
+  long : length_to_mark set rest ≡ length spelt + 1
+  left : drop (length_to_mark set rest) rest ≡ behind
 
 module _ (set : TableSet) (lacks : LacksPercent set) (mark : ℕ) (ascii : mark < 128)
     (outside : excludes set (mark ∷ []) ≡ true) where
@@ -59,22 +59,31 @@ module _ (set : TableSet) (lacks : LacksPercent set) (mark : ℕ) (ascii : mark 
       → is_valid_for set spelt ≡ true → front set (spelt ++ (mark ∷ behind)) ≡ length spelt
   front_marked spelt behind u valid =
       let rest : List ℕ = spelt ++ (mark ∷ behind) in
-      let spelt_lacks = valid_lacks set (mark ∷ []) lacks outside spelt (utf8_apart spelt mark behind ascii u).0 valid in
+      let spelt_lacks = valid_lacks set (mark ∷ []) lacks outside spelt
+      (utf8_apart spelt mark behind ascii u).0 valid in
       let c = cut-append (mark ∷ []) spelt (mark ∷ behind) spelt_lacks itself in
-      let m : front set rest ≡ to_mark (mark ∷ []) rest = eqb-true _ _ (sym (cut (mark ∷ []) set lacks outside rest u) ∙ ap (is_valid_for set) c.0 ∙ valid) in
+      let m : front set rest ≡ to_mark (mark ∷ []) rest =
+      eqb-true _ _ (sym (cut (mark ∷ []) set lacks outside rest u) ∙ ap (is_valid_for set) c.0
+      ∙ valid) in
       m ∙ sym (length-before (mark ∷ []) rest) ∙ ap length c.0
 
   marked : (spelt behind : List ℕ) → IsUtf8 (spelt ++ (mark ∷ behind)) → 0 < length spelt
       → is_valid_for set spelt ≡ true →
-      (reads_marked set mark (spelt ++ (mark ∷ behind)) ≡ true) × (drop (marked_length set (spelt ++ (mark ∷ behind))) (spelt ++ (mark ∷ behind)) ≡ behind)
-  unfolding reads_marked marked_length
+      (reads_marked set mark (spelt ++ (mark ∷ behind)) ≡ true)
+      × (drop (length_to_mark set (spelt ++ (mark ∷ behind))) (spelt ++ (mark ∷ behind))
+      ≡ behind)
+  unfolding reads_marked length_to_mark
   marked spelt behind u some valid =
       let n = front_marked spelt behind u valid in
-      rw n (and_from _ _ (lt-ltb 0 _ some) (ap (starts mark) (drop-append_seam spelt (mark ∷ behind)) ∙ eq-eqb mark mark refl), left_behind spelt behind)
+      rw n (
+        and_from _ _ (lt-ltb 0 _ some)
+            (ap (starts mark) (drop-append_seam spelt (mark ∷ behind)) ∙ eq-eqb mark mark refl),
+        left_behind spelt behind,
+      )
 
   read_marked : (rest : List ℕ) → IsUtf8 rest → reads_marked set mark rest ≡ true
       → IsMarked set mark rest
-  unfolding reads_marked marked_length
+  unfolding reads_marked length_to_mark
   read_marked rest u e =
       let p = and_parts _ _ e in
       ⊎_elim
@@ -121,7 +130,10 @@ module _ (letter : ℕ) (v : (eqb letter 118 || eqb letter 86) ≡ true) where
   unfolding is_literal
   is_future text e = ⊎_elim
       (λ n. subst (λ o. (is_some o || is_ipv_future (letter ∷ text)) ≡ true) n e)
-      (λ (segments, s). absurd (letter_other (address_text-first letter text (address_text-ipv6 (letter ∷ text) segments (ipv6_value-sound (letter ∷ text) segments s)))))
+      (λ (segments, s). absurd (letter_other
+      (address_text-first letter text
+      (address_text-ipv6 (letter ∷ text) segments
+      (ipv6_value-sound (letter ∷ text) segments s)))))
       (value_cases (ipv6_value (letter ∷ text)))
 
   module _ (rest : List ℕ) (u : IsUtf8 (letter ∷ rest)) where
@@ -136,12 +148,16 @@ module _ (letter : ℕ) (v : (eqb letter 118 || eqb letter 86) ≡ true) where
     accepted e =
         let p = and_parts _ _ e in
         let version = read_marked hexdig_set refl 46 (lit< tt) refl rest utf8_rest p.0 in
-        let behind_u = (utf8_apart version.spelt 46 version.behind (lit< tt) (subst IsUtf8 version.whole utf8_rest)).1 in
+        let behind_u =
+        (utf8_apart version.spelt 46 version.behind (lit< tt)
+        (subst IsUtf8 version.whole utf8_rest)).1 in
         let left_u = subst IsUtf8 (sym version.left) behind_u in
-        let address = read_marked ipv_future_set refl 93 (lit< tt) refl (behind_version rest) left_u p.1 in
+        let address = read_marked ipv_future_set refl 93 (lit< tt) refl (behind_version rest) left_u
+        p.1 in
         let text : List ℕ = letter ∷ version.spelt ++ (46 ∷ address.spelt) in
         let whole : letter ∷ rest ≡ text ++ (93 ∷ address.behind) =
-        ap (λ t. letter ∷ t) (version.whole ∙ ap (λ t. version.spelt ++ (46 ∷ t)) (sym version.left ∙ address.whole)
+        ap (λ t. letter ∷ t) (version.whole
+        ∙ ap (λ t. version.spelt ++ (46 ∷ t)) (sym version.left ∙ address.whole)
         ∙ sym (append_assoc version.spelt (46 ∷ address.spelt) (93 ∷ address.behind))) in
         let text_u = (utf8_apart text 93 address.behind (lit< tt) (subst IsUtf8 whole u)).0 in
         let future : IsIpvFuture text = record {
@@ -153,8 +169,10 @@ module _ (letter : ℕ) (v : (eqb letter 118 || eqb letter 86) ≡ true) where
           version_digits = (version.some, version.valid);
           address_chars = (address.some, address.valid);
         } in
-        let c = closed text address.behind (ipv_future_lacks (codes "]") refl text text_u future) (is_ipv_future-complete text text_u future) in
-        let size : length text ≡ 1 + length version.spelt + 1 + length address.spelt = omega (arith, length-append version.spelt (46 ∷ address.spelt)) in (
+        let c = closed text address.behind (ipv_future_lacks (codes "]") refl text text_u future)
+        (is_ipv_future-complete text text_u future) in
+        let size : length text ≡ 1 + length version.spelt + 1 + length address.spelt =
+        omega (arith, length-append version.spelt (46 ∷ address.spelt)) in (
           ap reads_literal whole ∙ c.0,
           ap literal_length whole ∙ c.1 ∙ omega (arith, size, version.long, address.long),
         )
@@ -173,16 +191,23 @@ module _ (letter : ℕ) (v : (eqb letter 118 || eqb letter 86) ≡ true) where
         let address : List ℕ = future.address in
         let tail : List ℕ = drop 1 from in
         let whole : rest ≡ version ++ (46 ∷ address ++ (93 ∷ tail)) =
-        ap (drop 1) (sym (IsCut-any (codes "]") (letter ∷ rest)).whole ∙ ap (λ t. t ++ from) (apart ∙ future.whole) ∙ ap (λ t. (future.letter ∷ version ++ (46 ∷ address)) ++ t) (starts-cons 93 from p.0))
+        ap (drop 1) (sym (IsCut-any (codes "]") (letter ∷ rest)).whole
+        ∙ ap (λ t. t ++ from) (apart ∙ future.whole)
+        ∙ ap (λ t. (future.letter ∷ version ++ (46 ∷ address)) ++ t)
+        (starts-cons 93 from p.0))
         ∙ append_assoc version (46 ∷ address) (93 ∷ tail) in
         let rest_u = subst IsUtf8 whole utf8_rest in
         let behind_u = (utf8_apart version 46 (address ++ (93 ∷ tail)) (lit< tt) rest_u).1 in
-        let first = marked hexdig_set refl 46 (lit< tt) refl version (address ++ (93 ∷ tail)) rest_u future.version_digits.0 future.version_digits.1 in
-        let second = marked ipv_future_set refl 93 (lit< tt) refl address tail behind_u future.address_chars.0 future.address_chars.1 in
+        let first = marked hexdig_set refl 46 (lit< tt) refl version (address ++ (93 ∷ tail)) rest_u
+        future.version_digits.0 future.version_digits.1 in
+        let second = marked ipv_future_set refl 93 (lit< tt) refl address tail behind_u
+        future.address_chars.0 future.address_chars.1 in
         rw (whole, first.1) (and_from _ _ first.0 second.0)
 
 lettered : (text : List ℕ) → IsUtf8 text → (starts 118 text || starts 86 text) ≡ true →
-    (reads_literal text ≡ reads_future (drop 1 text)) × (reads_future (drop 1 text) ≡ true → literal_length text ≡ 1 + future_length (drop 1 text))
+    (reads_literal text ≡ reads_future (drop 1 text))
+    × (reads_future (drop 1 text) ≡ true
+    → literal_length text ≡ 1 + future_length (drop 1 text))
 lettered [] u v = absurd (false≢true v)
 lettered (letter ∷ rest) u v = (
   ⊎_elim

@@ -32,11 +32,14 @@ pub is_ipv_future-complete : (text : List ℕ) → IsUtf8 text → IsIpvFuture t
 unfolding is_ipv_future
 is_ipv_future-complete text u h =
     let tail : List ℕ = h.version ++ 46 ∷ h.address in
-    let apart = utf8_apart h.version 46 h.address (omega arith) (utf8_tail h.letter tail (letter_ascii h.letter h.is_v) (subst IsUtf8 h.whole u)) in
-    let cut = cut-append (codes ".") h.version (46 ∷ h.address) (valid_lacks hexdig_set (codes ".") refl refl h.version apart.0 h.version_digits.1) refl in
+    let apart = utf8_apart h.version 46 h.address (omega arith)
+    (utf8_tail h.letter tail (letter_ascii h.letter h.is_v) (subst IsUtf8 h.whole u)) in
+    let cut = cut-append (codes ".") h.version (46 ∷ h.address)
+    (valid_lacks hexdig_set (codes ".") refl refl h.version apart.0 h.version_digits.1) refl in
     ap is_ipv_future h.whole
     ∙ and_from _ _ h.is_v (and_from _ _
-    (ap (λ t. ltb 0 (length t) && is_valid_for hexdig_set t) cut.0 ∙ and_from _ _ (lt-ltb 0 _ h.version_digits.0) h.version_digits.1)
+    (ap (λ t. ltb 0 (length t) && is_valid_for hexdig_set t) cut.0
+    ∙ and_from _ _ (lt-ltb 0 _ h.version_digits.0) h.version_digits.1)
     (ap is_future_address cut.1 ∙ and_from _ _ (lt-ltb 0 _ h.address_chars.0) h.address_chars.1))
 
 pub is_ipv_future-sound : (text : List ℕ) → is_ipv_future text ≡ true → IsIpvFuture text
@@ -54,7 +57,8 @@ is_ipv_future-sound (letter ∷ rest) e =
       letter = letter;
       version = before;
       address = drop 1 from;
-      whole = ap (λ t. letter ∷ t) (sym (IsCut-any (codes ".") rest).whole ∙ ap (λ t. before ++ t) (starts-cons 46 from address.0));
+      whole = ap (λ t. letter ∷ t) (sym (IsCut-any (codes ".") rest).whole
+          ∙ ap (λ t. before ++ t) (starts-cons 46 from address.0));
       is_v = p.0;
       version_digits = (ltb-true 0 _ version.0, version.1);
       address_chars = (ltb-true 0 _ chars.0, chars.1);
@@ -76,7 +80,8 @@ digit_reg_name c (inl range) = grind (arith, nat_tests)
 digit_reg_name c (inr dot) = grind (arith, nat_tests)
 
 lacks_one : (marks : List ℕ) (c : ℕ) → is_one_of marks c ≡ false → Lacks marks (c ∷ [])
-lacks_one marks c e = All-cons (λ c. is_one_of marks c ≡ false) c [] e (All-nil (λ c. is_one_of marks c ≡ false))
+lacks_one marks c e = All-cons (λ c. is_one_of marks c ≡ false) c [] e
+    (All-nil (λ c. is_one_of marks c ≡ false))
 
 pub lacks_append : (marks xs ys : List ℕ) → Lacks marks xs → Lacks marks ys → Lacks marks (xs ++ ys)
 lacks_append marks xs ys h k = All-append (λ c. is_one_of marks c ≡ false) xs ys h k
@@ -109,7 +114,9 @@ ipv4_digits text octets h =
 
 pub ipv4_lacks : (marks : List ℕ) → excludes reg_name_set marks ≡ true → (text octets : List ℕ)
     → IsDotted text octets → Lacks marks text
-ipv4_lacks marks outside text octets h = lacks_from marks IsDigitOrDot (λ c d. plain reg_name_set marks outside c (digit_reg_name c d)) text (ipv4_digits text octets h)
+ipv4_lacks marks outside text octets h =
+    lacks_from marks IsDigitOrDot (λ c d. plain reg_name_set marks outside c (digit_reg_name c d))
+    text (ipv4_digits text octets h)
 
 future_percent : LacksPercent ipv_future_set
 future_percent = refl
@@ -126,29 +133,35 @@ excludes_hex : (marks : List ℕ) → excludes ipv_future_set marks ≡ true
 excludes_hex [] e = refl
 excludes_hex (mark ∷ marks) e =
     let p = and_parts _ _ e in
-    and_from _ _ (without (ltb mark 128) (not (is_userinfo_char mark)) (not (is_ascii_hexdigit mark)) (not (eqb mark 37)) p.0) (excludes_hex marks p.1)
+    and_from _ _ (without (ltb mark 128) (not (is_userinfo_char mark))
+    (not (is_ascii_hexdigit mark)) (not (eqb mark 37)) p.0) (excludes_hex marks p.1)
 
 module _ (marks : List ℕ) (outside : excludes ipv_future_set marks ≡ true) where
   userinfo_plain : (c : ℕ) → is_userinfo_char c ≡ true → is_one_of marks c ≡ false
   userinfo_plain c e = plain ipv_future_set marks outside c e
 
   pub ipv6_lacks : (text segments : List ℕ) → IsColonHex text segments → Lacks marks text
-  ipv6_lacks text segments h = address_text-lacks marks (λ c e. userinfo_plain c (address_userinfo c e)) text (address_text-ipv6 text segments h)
+  ipv6_lacks text segments h = address_text-lacks marks
+      (λ c e. userinfo_plain c (address_userinfo c e)) text (address_text-ipv6 text segments h)
 
   dot_userinfo : is_userinfo_char 46 ≡ true
   dot_userinfo = refl
 
   hex_lacks : (text : List ℕ) → IsUtf8 text → is_valid_for hexdig_set text ≡ true → Lacks marks text
-  hex_lacks text u valid = valid_lacks hexdig_set marks refl (excludes_hex marks outside) text u valid
+  hex_lacks text u valid = valid_lacks hexdig_set marks refl (excludes_hex marks outside) text u
+      valid
 
   pub ipv_future_lacks : (text : List ℕ) → IsUtf8 text → IsIpvFuture text → Lacks marks text
   ipv_future_lacks text u h =
       let tail : List ℕ = h.version ++ 46 ∷ h.address in
-      let apart = utf8_apart h.version 46 h.address (omega arith) (utf8_tail h.letter tail (letter_ascii h.letter h.is_v) (subst IsUtf8 h.whole u)) in
-      let letter = lacks_one marks h.letter (userinfo_plain h.letter (letter_userinfo h.letter h.is_v)) in
+      let apart = utf8_apart h.version 46 h.address (omega arith)
+      (utf8_tail h.letter tail (letter_ascii h.letter h.is_v) (subst IsUtf8 h.whole u)) in
+      let letter = lacks_one marks h.letter
+      (userinfo_plain h.letter (letter_userinfo h.letter h.is_v)) in
       let dot = lacks_one marks 46 (userinfo_plain 46 dot_userinfo) in
       let version = hex_lacks h.version apart.0 h.version_digits.1 in
-      let address = valid_lacks ipv_future_set marks future_percent outside h.address apart.1 h.address_chars.1 in
+      let address = valid_lacks ipv_future_set marks future_percent outside h.address apart.1
+      h.address_chars.1 in
       subst (Lacks marks) (sym h.whole)
       (lacks_append marks (h.letter ∷ h.version) (46 ∷ h.address)
       (lacks_append marks (h.letter ∷ []) h.version letter version)

@@ -61,13 +61,15 @@ module _ (text : List ℕ) (count : ℕ) (has_ipv4 : Bool) (rest : List ℕ)
     pub no_second : (one : List ℕ) → read_byte 58 rest ≡ Some one → read_byte 58 one ≡ None
         → option_map (λ p. p.1) (read_ipv6 text) ≡ None
     unfolding read_ipv6
-    no_second one e second = rw (head.many, ne_eqb count 8 fewer, head.ipv4, plain, head.left, e, second)
+    no_second one e second =
+        rw (head.many, ne_eqb count 8 fewer, head.ipv4, plain, head.left, e, second)
 
     pub elided : (one two behind : List ℕ) → read_byte 58 rest ≡ Some one
         → read_byte 58 one ≡ Some two → (read_segments (7 - count) true two).2 ≡ behind
         → option_map (λ p. p.1) (read_ipv6 text) ≡ Some behind
     unfolding read_ipv6
-    elided one two behind e second tail = rw (head.many, ne_eqb count 8 fewer, head.ipv4, plain, head.left, e, second, tail)
+    elided one two behind e second tail =
+        rw (head.many, ne_eqb count 8 fewer, head.ipv4, plain, head.left, e, second, tail)
 
 module _ (n i : ℕ) (text : List ℕ) (within : i < n) where
   room : n - i ≡ suc (n - (i + 1))
@@ -95,7 +97,13 @@ module _ (n i : ℕ) (text : List ℕ) (within : i < n) where
         map_some (λ p. p.1) (read_ipv4_if (nat_lt (i + 1) n) group) rest (sym e) λ p read same.
         let left = found_ipv4 p read in
         record {
-          many = omega (arith, w.count, ap (λ l. length l.0) left, two_segments (nat_lt (i + 1) n) group p read);
+          many = omega (
+            arith,
+            w.count,
+            ap (λ l. length l.0) left,
+            two_segments (nat_lt (i + 1) n)
+                group p read,
+          );
           ipv4 = w.has_ipv4 ∙ ap (λ l. l.1) left;
           left = w.rest ∙ ap (λ l. l.2) left ∙ same;
         }
@@ -107,11 +115,13 @@ module _ (n i : ℕ) (text : List ℕ) (within : i < n) where
       no_group e = rw (room, ← led, fits, map_none _ _ (sym no_ipv4), map_none _ _ (sym e))
 
       one_more : (p : ℕ × List ℕ) → read_segment group ≡ Some p
-          → GoesOn (read_segments (n - i) (i == 0) text) 1 (read_segments (n - (i + 1)) (i + 1 == 0) p.1)
+          → GoesOn (read_segments (n - i) (i == 0) text) 1
+          (read_segments (n - (i + 1)) (i + 1 == 0) p.1)
       unfolding read_segments
       one_more p e =
           let later : (i + 1 == 0) ≡ false = ne_eqb _ _ (omega arith) in
-          rw (room, ← led, fits, map_none _ _ (sym no_ipv4), e, later) (record { count = omega arith; has_ipv4 = refl; rest = refl })
+          rw (room, ← led, fits, map_none _ _ (sym no_ipv4), e, later)
+          (record { count = omega arith; has_ipv4 = refl; rest = refl })
 
       pub goes_on : (all : Segments) (rest : List ℕ)
           → GoesOn all i (read_segments (n - i) (i == 0) text)

@@ -40,7 +40,8 @@ future_no_ipv6 text h = ⊎_elim
     (λ n. n)
     (λ (segments, e).
     let ok = address_text-ipv6 _ segments (ipv6_value-sound text segments e) in
-    absurd (letter_other h.letter h.is_v (address_text-first h.letter _ (subst (λ t. is_address_text t ≡ true) h.whole ok))))
+    absurd (letter_other h.letter h.is_v
+    (address_text-first h.letter _ (subst (λ t. is_address_text t ≡ true) h.whole ok))))
     (value_cases (ipv6_value text))
 
 pub no_ipv4 : (text : List ℕ) → ((octets : List ℕ) → ¬ (IsIpv4Text text octets))
@@ -62,8 +63,10 @@ unfolding host_kind is_host
 at_literal names address h =
     let e = literal_at address h in (
       ap (λ t. literal_kind (ipv6_value t)) e,
-      ap (λ t. bytes_eq (bracketed t) (bracketed address) && (is_some (ipv6_value t) || is_ipv_future t)) e
-          ∙ ap (λ t. t && (is_some (ipv6_value address) || is_ipv_future address)) ((bytes_eq-Decides (bracketed address) (bracketed address)).1 refl),
+      ap (λ t. bytes_eq (bracketed t) (bracketed address)
+          && (is_some (ipv6_value t) || is_ipv_future t)) e
+          ∙ ap (λ t. t && (is_some (ipv6_value address) || is_ipv_future address))
+          ((bytes_eq-Decides (bracketed address) (bracketed address)).1 refl),
     )
 
 at_name : (names : TableSet) (text : List ℕ) → starts 91 text ≡ false →
@@ -76,7 +79,8 @@ pub lacks_starts : (marks text : List ℕ) (c : ℕ) → is_one_of marks c ≡ t
     → starts c text ≡ false
 lacks_starts marks [] c m h = refl
 lacks_starts marks (d ∷ text) c m h = ⊎_elim
-    (λ e. absurd (both_ways _ (h 0 0 (omega arith)) (subst (λ x. is_one_of marks x ≡ true) (sym (eqb-true d c e)) m)))
+    (λ e. absurd (both_ways _ (h 0 0 (omega arith))
+    (subst (λ x. is_one_of marks x ≡ true) (sym (eqb-true d c e)) m)))
     (λ e. e)
     (cases_Bool (eqb d c))
 
@@ -84,17 +88,27 @@ pub literal_sound : (names : TableSet) (text address : List ℕ) → text ≡ br
     → (is_some (ipv6_value address) || is_ipv_future address) ≡ true
     → IsHost names text (literal_kind (ipv6_value address))
 literal_sound names text address e t = ⊎_elim
-    (λ n. subst (λ o. IsHost names text (literal_kind o)) (sym n) (address, e, is_ipv_future-sound address (subst (λ o. (is_some o || is_ipv_future address) ≡ true) n t)))
-    (λ (segments, s). subst (λ o. IsHost names text (literal_kind o)) (sym s) (address, e, ipv6_value-sound address segments s))
+    (λ n. subst (λ o. IsHost names text (literal_kind o)) (sym n) (
+      address,
+      e,
+      is_ipv_future-sound address
+          (subst (λ o. (is_some o || is_ipv_future address) ≡ true) n t),
+    ))
+    (λ (segments, s). subst (λ o. IsHost names text (literal_kind o)) (sym s)
+    (address, e, ipv6_value-sound address segments s))
     (value_cases (ipv6_value address))
 
 name_sound : (names : TableSet) (text : List ℕ)
     → (is_some (ipv4_value text) || is_valid_for names text) ≡ true
     → IsHost names text (name_kind (ipv4_value text))
 name_sound names text t = ⊎_elim
-    (λ n. subst (λ o. IsHost names text (name_kind o)) (sym n)
-    (subst (λ o. (is_some o || is_valid_for names text) ≡ true) n t, λ octets dotted. none-some octets (sym n ∙ ipv4_value-complete text octets dotted)))
-    (λ (octets, s). subst (λ o. IsHost names text (name_kind o)) (sym s) (ipv4_value-sound text octets s))
+    (λ n. subst (λ o. IsHost names text (name_kind o)) (sym n) (
+      subst (λ o. (is_some o || is_valid_for names text) ≡ true) n t,
+      λ octets dotted.
+          none-some octets (sym n ∙ ipv4_value-complete text octets dotted),
+    ))
+    (λ (octets, s). subst (λ o. IsHost names text (name_kind o)) (sym s)
+    (ipv4_value-sound text octets s))
     (value_cases (ipv4_value text))
 
 -- what passes the test is a host of its kind
@@ -104,8 +118,10 @@ unfolding is_host host_kind
 is_host-sound names text t = ⊎_elim
     (λ s.
     let p = and_parts _ _ (sym (cond-true _ _ _ s) ∙ t) in
-    subst (IsHost names text) (sym (cond-true _ _ _ s)) (literal_sound names text (literal_of text) (sym ((bytes_eq-Decides _ _).0 p.0)) p.1))
-    (λ s. subst (IsHost names text) (sym (cond-false _ _ _ s)) (name_sound names text (sym (cond-false _ _ _ s) ∙ t)))
+    subst (IsHost names text) (sym (cond-true _ _ _ s))
+    (literal_sound names text (literal_of text) (sym ((bytes_eq-Decides _ _).0 p.0)) p.1))
+    (λ s. subst (IsHost names text) (sym (cond-false _ _ _ s))
+    (name_sound names text (sym (cond-false _ _ _ s) ∙ t)))
     (cases_Bool (starts 91 text))
 
 bracket_outside : excludes ipv_future_set (codes "]") ≡ true
@@ -115,7 +131,8 @@ pub name_marks_outside : excludes reg_name_set (codes "@:[") ≡ true
 name_marks_outside = refl
 
 pub utf8_bracketed : (address : List ℕ) → IsUtf8 (bracketed address) → IsUtf8 address
-utf8_bracketed address u = (utf8_apart address 93 [] (omega arith) (utf8_tail 91 (address ++ codes "]") (omega arith) u)).0
+utf8_bracketed address u =
+    (utf8_apart address 93 [] (omega arith) (utf8_tail 91 (address ++ codes "]") (omega arith) u)).0
 
 module _ (names : TableSet) (percent : LacksPercent names)
     (outside : excludes names (codes "@:[") ≡ true) where
@@ -127,7 +144,8 @@ module _ (names : TableSet) (percent : LacksPercent names)
   pub is_host-complete : (text : List ℕ) (host : HostKind) → IsUtf8 text → IsHost names text host
       → IsFound text host
   is_host-complete text (Ipv6 segments) u (address, e, groups) =
-      let at = at_literal names address (ipv6_lacks (codes "]") bracket_outside address segments groups) in
+      let at = at_literal names address (ipv6_lacks (codes "]") bracket_outside address segments
+      groups) in
       let v = ipv6_value-complete address segments groups in
       record {
         kind = ap host_kind e ∙ at.0 ∙ ap literal_kind v;
@@ -135,21 +153,28 @@ module _ (names : TableSet) (percent : LacksPercent names)
       }
   is_host-complete text IpvFuture u (address, e, future) =
       let inner = utf8_bracketed address (subst IsUtf8 e u) in
-      let at = at_literal names address (ipv_future_lacks (codes "]") bracket_outside address inner future) in
+      let at = at_literal names address (ipv_future_lacks (codes "]") bracket_outside address inner
+      future) in
       record {
         kind = ap host_kind e ∙ at.0 ∙ ap literal_kind (future_no_ipv6 address future);
         test = ap (is_host names) e ∙ at.1
             ∙ or_right _ _ (is_ipv_future-complete address inner future);
       }
   is_host-complete text (Ipv4 octets) u dotted =
-      let at = at_name names text (lacks_starts (codes "@:[") text 91 refl (ipv4_lacks (codes "@:[") name_marks_outside text octets dotted)) in
+      let at =
+      at_name names text (lacks_starts
+      (codes "@:[") text 91 refl
+      (ipv4_lacks (codes "@:[") name_marks_outside text octets dotted)) in
       let v = ipv4_value-complete text octets dotted in
       record {
         kind = at.0 ∙ ap name_kind v;
         test = at.1 ∙ ap (λ o. is_some o || is_valid_for names text) v;
       }
   is_host-complete text RegName u (valid, other) =
-      let at = at_name names text (lacks_starts (codes "@:[") text 91 refl (valid_lacks names (codes "@:[") percent outside text u valid)) in
+      let at =
+      at_name names text (lacks_starts
+      (codes "@:[") text 91 refl
+      (valid_lacks names (codes "@:[") percent outside text u valid)) in
       record {
         kind = at.0 ∙ ap name_kind (no_ipv4 text other);
         test = at.1 ∙ or_right _ _ valid;

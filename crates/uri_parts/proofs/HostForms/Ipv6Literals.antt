@@ -36,8 +36,11 @@ follows rest behind e =
     let (front, split, groups) = read_ipv6_sound rest p.0 p.1 read in
     let whole : rest ≡ front ++ behind = split ∙ ap (λ t. front ++ t) same in
     let size : length rest ≡ length front + length behind = ap length whole
-    ∙ length-append front behind in
-    (omega arith, rw whole (sym (drop_at front behind _ (omega (arith, length-append front behind)))))
+    ∙ length-append front behind in (
+      omega arith,
+      rw whole
+          (sym (drop_at front behind _ (omega (arith, length-append front behind)))),
+    )
 
 pub place_behind : (text behind : List ℕ) (start : ℕ) → start ≤ length text
     → Some behind ≡ left (drop start text) → behind ≡ drop (length text - length behind) text
@@ -53,8 +56,10 @@ accepted rest behind e closed =
     map_some (λ p. p.1) (read_ipv6 rest) behind (sym e) λ p read same.
     let (front, split, groups) = read_ipv6_sound rest p.0 p.1 read in
     let whole : rest ≡ front ++ behind = split ∙ ap (λ t. front ++ t) same in
-    let cut = cut-append (codes "]") front behind (ipv6_lacks (codes "]") refl front p.0 groups) (begins behind closed) in
-    rw (whole, cut.0, cut.1, closed, ipv6_value-complete front p.0 groups) (refl, omega (arith, length-append front behind))
+    let cut = cut-append (codes "]") front behind (ipv6_lacks (codes "]") refl front p.0 groups)
+    (begins behind closed) in
+    rw (whole, cut.0, cut.1, closed, ipv6_value-complete front p.0 groups)
+    (refl, omega (arith, length-append front behind))
 
 unlettered : (before from : List ℕ)
     → (starts 118 (before ++ from) || starts 86 (before ++ from)) ≡ false
@@ -80,7 +85,8 @@ closed_read rest plain e =
     let p = and_parts _ _ e in
     let no_future = unlettered before from (rw cut.whole plain) in
     let (segments, value) = value_of (ipv6_value before) _ p.1 no_future in
-    let read = read_ipv6_complete before segments from (ipv6_value-sound before segments value) (ends from p.0) in
+    let read = read_ipv6_complete before segments from (ipv6_value-sound before segments value)
+    (ends from p.0) in
     (ap (option_map (λ p. p.1)) (ap read_ipv6 (sym cut.whole) ∙ read), p.0)
 
 not_true : (b : Bool) → (b ≡ true → ⊥) → b ≡ false

@@ -34,4 +34,5 @@ fault_is text place InvalidIpv6Addr index e h =
 
 pub literal_error : (text : List ℕ) (place : ℕ) (e : ParseError)
     → starts 91 (drop place text) ≡ true → IsLiteralRefusal text (place + 1) e → IsErrorIn text e
-literal_error text place e s w = record { boundary = w.boundary; fault = fault_is text place e.kind e.index s w.fault }
+literal_error text place e s w =
+    record { boundary = w.boundary; fault = fault_is text place e.kind e.index s w.fault }

@@ -28,5 +28,6 @@ pub ipv6_refused : (text : List ℕ) → ((a : Ipv6Addr) → ¬ (IsIpv6Text text
     → None ≡ ipv6_value text
 ipv6_refused text h = ⊎_elim
     (λ n. sym n)
-    (λ (segments, e). absurd (h (record { segments = segments }) (ipv6_value-sound text segments e)))
+    (λ (segments, e).
+    absurd (h (record { segments = segments }) (ipv6_value-sound text segments e)))
     (value_cases (ipv6_value text))

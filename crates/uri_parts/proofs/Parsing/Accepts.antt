@@ -1,6 +1,6 @@
 -- What the parser reads is the grammar of its kind.
-use Rattle.std.proofs.Common.{◌≡◌, ℕ, ◌+◌, Bool, true, false, eqb, List, [], ◌∷◌, take, drop, refl}
-use Rattle.std.proofs.Common.{sym, ap, ◌∙◌, arith, ◌||◌, ◌&&◌, ⊎_elim}
+use Rattle.std.proofs.Common.{◌≡◌, ℕ, Bool, true, false, eqb, List, [], ◌∷◌, take, drop, refl}
+use Rattle.std.proofs.Common.{sym, ap, ◌∙◌, arith, ◌&&◌, ⊎_elim}
 use Rattle.std.specs.Prelude.{codes}
 use Rattle.std.specs.Str.{IsUtf8}
 use Rattle.std.proofs.lemmas.Bool.{cases_Bool, cond-false, eq-eqb, eqb-true, ne_eqb, both_ways}
@@ -14,7 +14,6 @@ use Rattle.uri_parts.specs.Models.Reading.{reads_after, is_end, reads_fragment, 
 use Rattle.uri_parts.specs.Models.Reading.{reads_path}
 use Rattle.uri_parts.proofs.Parsing.ReadingStops.{piece, utf8_from, utf8_tail}
 use Rattle.uri_parts.proofs.TextKinds.Separations.{Separates}
-use Rattle.uri_pct.proofs.ValidTexts.Fronts.{none_read}
 use Rattle.uri_pct.proofs.Tests.{and_true, or_false}
 
 flip : (a b : ℕ) → eqb b a ≡ true → eqb a b ≡ true
@@ -50,7 +49,8 @@ module _ (segment : TableSet) (kind : Kind) (w : Separates segment kind) where
   fragment_ok rest = if_some (when (starts 35 rest) (drop 1 rest)) (is_valid_for kind.fragment)
 
   unfoldable pub end_ok : List ℕ → Bool
-  end_ok rest = if_some (when (starts 63 rest) (before_any (codes "#") (drop 1 rest))) (is_valid_for kind.query) && fragment_ok (after_query rest)
+  end_ok rest = if_some (when (starts 63 rest) (before_any (codes "#") (drop 1 rest)))
+      (is_valid_for kind.query) && fragment_ok (after_query rest)
 
   none_cut : (bs : List ℕ) → (before_any [] bs ≡ bs) × (from_any [] bs ≡ [])
   none_cut [] = (refl, refl)
@@ -76,7 +76,8 @@ module _ (segment : TableSet) (kind : Kind) (w : Separates segment kind) where
   fragment_at : (b : ℕ) (rest : List ℕ) → eqb b 35 ≡ true → IsUtf8 (b ∷ rest)
       → reads_fragment kind (b ∷ rest) ≡ fragment_ok (b ∷ rest)
   unfolding reads_fragment fragment_ok
-  fragment_at b rest e u = rw e (fragment_piece rest (utf8_tail b rest (let d = eqb-true b 35 e in omega arith) u))
+  fragment_at b rest e u =
+      rw e (fragment_piece rest (utf8_tail b rest (let d = eqb-true b 35 e in omega arith) u))
 
   fragment_back : (bs : List ℕ) → IsUtf8 bs
       → reads_fragment kind (from_any (codes "#") bs) ≡ fragment_ok (from_any (codes "#") bs)
@@ -88,9 +89,11 @@ module _ (segment : TableSet) (kind : Kind) (w : Separates segment kind) where
 
   query_piece : (rest : List ℕ) → IsUtf8 rest
       → reads_after kind.query (reads_fragment kind) rest
-      ≡ (is_valid_for kind.query (before_any (codes "#") rest) && fragment_ok (from_any (codes "#") rest))
+      ≡ (is_valid_for kind.query (before_any (codes "#") rest)
+      && fragment_ok (from_any (codes "#") rest))
   query_piece rest u =
-      piece (codes "#") kind.query w.query_lacks w.query_marks (reads_fragment kind) (λ b r e _. fragment_stuck b r (flip_false b 35 (sym (hash b) ∙ e))) rest u
+      piece (codes "#") kind.query w.query_lacks w.query_marks (reads_fragment kind)
+      (λ b r e _. fragment_stuck b r (flip_false b 35 (sym (hash b) ∙ e))) rest u
       ∙ ap (λ t. is_valid_for kind.query (before_any (codes "#") rest) && t) (fragment_back rest u)
 
   end_at : (b : ℕ) (rest : List ℕ) → is_one_of (codes "?#") b ≡ true → IsUtf8 (b ∷ rest)
@@ -105,7 +108,8 @@ module _ (segment : TableSet) (kind : Kind) (w : Separates segment kind) where
       → reads_end kind (from_any (codes "?#") bs) ≡ end_ok (from_any (codes "?#") bs)
   unfolding reads_end end_ok reads_fragment fragment_ok is_end
   end_back bs u =
-      from_mark (codes "?#") (λ r. IsUtf8 r → reads_end kind r ≡ end_ok r) (λ _. refl) (λ b rest e. end_at b rest e)
+      from_mark (codes "?#") (λ r. IsUtf8 r → reads_end kind r ≡ end_ok r) (λ _. refl)
+      (λ b rest e. end_at b rest e)
       bs (utf8_from (codes "?#") bs (ascii_marks (codes "?#") refl) u)
 
   pub end_stuck : (b : ℕ) (rest : List ℕ) → is_one_of (codes "?#") b ≡ false
@@ -120,5 +124,6 @@ module _ (segment : TableSet) (kind : Kind) (w : Separates segment kind) where
       ≡ (is_valid_for kind.path (before_any (codes "?#") bs) && end_ok (from_any (codes "?#") bs))
   unfolding reads_path
   path_lemma bs u =
-      piece (codes "?#") kind.path w.path_lacks w.path_marks (reads_end kind) (λ b r e _. end_stuck b r e) bs u
+      piece (codes "?#") kind.path w.path_lacks w.path_marks (reads_end kind)
+      (λ b r e _. end_stuck b r e) bs u
       ∙ ap (λ t. is_valid_for kind.path (before_any (codes "?#") bs) && t) (end_back bs u)

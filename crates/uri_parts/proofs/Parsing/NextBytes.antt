@@ -7,7 +7,7 @@ use Rattle.std.specs.Prelude.{codes}
 use Rattle.std.proofs.lemmas.Bool.Decides.{nat_tests}
 use Rattle.uri_pct.specs.Sets.{TableSet, is_one_of}
 use Rattle.uri_pct.specs.Models.Fronts.{front, after}
-use Rattle.uri_pct.specs.PercentSigns.{IsStrayPercent}
+use Rattle.uri_pct.specs.Texts.{IsStrayPercent}
 use Rattle.uri_pct.proofs.ValidTexts.Fronts.{front-after, stray-digits}
 use Rattle.uri_parts.specs.Components.{starts}
 use Rattle.uri_parts.specs.Models.AuthorityReading.{begins_any}
@@ -16,7 +16,8 @@ use Rattle.uri_parts.specs.Models.Reading.{is_end}
 pub starts_at : (mark i : ℕ) (text : List ℕ)
     → starts mark (drop i text) ≡ (ltb i (length text) && eqb (get_or text i 0) mark)
 starts_at mark i text = ⊎_elim
-    (λ h. ap (starts mark) (drop_more text i 0 h) ∙ sym (ap (λ t. t && eqb (get_or text i 0) mark) (lt-ltb i (length text) h)))
+    (λ h. ap (starts mark) (drop_more text i 0 h)
+    ∙ sym (ap (λ t. t && eqb (get_or text i 0) mark) (lt-ltb i (length text) h)))
     (λ h. ap (starts mark) (drop_all i text h) ∙ sym (and_left _ _ (le-ltb i (length text) h)))
     (cases_lt i (length text))
 
@@ -26,7 +27,12 @@ pub stray_fault : (set : TableSet) (text : List ℕ) (i n : ℕ) → set.pct_enc
 stray_fault set text i n o e h p =
     let d : drop n text ≡ after set (drop i text) = ap (λ k. drop k text) e
     ∙ sym (drop-drop (front set (drop i text)) i text) in
-    record { inside = h; percent = p; stray = stray-digits set text n h o p (ap (front set) d ∙ front-after set (drop i text)) }
+    record {
+      inside = h;
+      percent = p;
+      stray =
+          stray-digits set text n h o p (ap (front set) d ∙ front-after set (drop i text));
+    }
 
 -- nothing is left where the place is the length
 pub is_end_at : (i : ℕ) (text : List ℕ) → i ≤ length text

@@ -20,7 +20,8 @@ pub utf8_from : (marks bs : List ℕ) → AreAscii marks → IsUtf8 bs → IsUtf
 utf8_from marks bs ascii u = IsUtf8-drop bs _ u (mark_boundary marks ascii bs)
 
 pub utf8_tail : (b : ℕ) (rest : List ℕ) → b < 128 → IsUtf8 (b ∷ rest) → IsUtf8 rest
-utf8_tail b rest h u = IsUtf8-drop (b ∷ rest) 1 u (IsCharBoundary-after_ascii (b ∷ rest) 0 u (omega arith) h)
+utf8_tail b rest h u = IsUtf8-drop (b ∷ rest) 1 u
+    (IsCharBoundary-after_ascii (b ∷ rest) 0 u (omega arith) h)
 
 pub utf8_past : (mark : ℕ) → mark < 128 → (bs : List ℕ) → starts mark bs ≡ true → IsUtf8 bs
     → IsUtf8 (drop 1 bs)
@@ -55,12 +56,14 @@ module _ (marks : List ℕ) (set : TableSet) (lacks : LacksPercent set)
       let le = front_le_mark marks set lacks outside bs u in
       ⊎_elim (λ e. inl e)
       (λ d.
-      let lt : n < length bs = omega (arith, le, prefix_len-le-length (λ c. not (is_one_of marks c)) bs) in
+      let lt : n < length bs =
+      omega (arith, le, prefix_len-le-length (λ c. not (is_one_of marks c)) bs) in
       let more = drop_more bs n 0 lt in
       inr (record {
         byte = get_or bs n 0;
         rest = _;
-        other = not-true _ (prefix_len_passes (λ c. not (is_one_of marks c)) bs n 0 (omega (arith, le)));
+        other = not-true _
+            (prefix_len_passes (λ c. not (is_one_of marks c)) bs n 0 (omega (arith, le)));
         left = more;
         stuck = ap (front set) (sym more) ∙ front-after set bs;
         apart = d;
@@ -68,11 +71,13 @@ module _ (marks : List ℕ) (set : TableSet) (lacks : LacksPercent set)
       (cases_eq n m)
 
   pub no_stray : (bs : List ℕ) → is_stray set (from_any marks bs) ≡ false
-  no_stray bs = from_mark marks (λ r. is_stray set r ≡ false) (and_right _ _ refl) (λ b rest m. and_right _ _ (mark_percent set marks outside b m)) bs
+  no_stray bs = from_mark marks (λ r. is_stray set r ≡ false) (and_right _ _ refl)
+      (λ b rest m. and_right _ _ (mark_percent set marks outside b m)) bs
 
   -- what a test reads behind the longest front, where it takes nothing but the end and marks
   pub piece : (test : List ℕ → Bool)
-      → ((b : ℕ) (rest : List ℕ) → is_one_of marks b ≡ false → front set (b ∷ rest) ≡ 0 → test (b ∷ rest) ≡ false)
+      → ((b : ℕ) (rest : List ℕ) → is_one_of marks b ≡ false → front set (b ∷ rest) ≡ 0
+      → test (b ∷ rest) ≡ false)
       → (bs : List ℕ) → IsUtf8 bs
       → reads_after set test bs
       ≡ (is_valid_for set (before_any marks bs) && test (from_any marks bs))
@@ -80,7 +85,8 @@ module _ (marks : List ℕ) (set : TableSet) (lacks : LacksPercent set)
       (λ e.
       ap (λ n. not (is_stray set (drop n bs)) && test (drop n bs)) e
       ∙ ap (λ t. not t && test (from_any marks bs)) (no_stray bs)
-      ∙ sym (ap (λ t. t && test (from_any marks bs)) (cut marks set lacks outside bs u ∙ eq-eqb _ _ e)))
+      ∙ sym (ap (λ t. t && test (from_any marks bs))
+      (cut marks set lacks outside bs u ∙ eq-eqb _ _ e)))
       (λ w.
       and_right _ _ (ap test w.left ∙ stuck w.byte w.rest w.other w.stuck)
       ∙ sym (and_left _ _ (cut marks set lacks outside bs u ∙ ne_eqb _ _ w.apart)))

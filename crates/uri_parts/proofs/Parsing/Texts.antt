@@ -49,7 +49,8 @@ and_assoc false b c = refl
 -- an authority is not behind a scheme's characters
 pub slashes_first : (bs : List ℕ) → has_authority bs ≡ true → from_any (codes ":/?#") bs ≡ bs
 slashes_first [] e = refl
-slashes_first (b ∷ rest) e = from_at_mark (codes ":/?#") b rest (ap (is_one_of (codes ":/?#")) (eqb-true b 47 (and_parts _ _ e).0))
+slashes_first (b ∷ rest) e = from_at_mark (codes ":/?#") b rest
+    (ap (is_one_of (codes ":/?#")) (eqb-true b 47 (and_parts _ _ e).0))
 
 pub slashes_colon : (bs : List ℕ) → has_authority bs ≡ true → starts 58 bs ≡ false
 slashes_colon [] e = refl
@@ -57,13 +58,15 @@ slashes_colon (b ∷ rest) e = ap (λ c. eqb c 58) (eqb-true b 47 (and_parts _ _
 
 pub slashes_front : (bs : List ℕ) → has_authority bs ≡ true → front scheme_set bs ≡ 0
 slashes_front [] e = absurd (false≢true e)
-slashes_front (b ∷ rest) e = front_zero_mark (codes ":/?#") scheme_set scheme_lacks scheme_marks b rest (ap (is_one_of (codes ":/?#")) (eqb-true b 47 (and_parts _ _ e).0))
+slashes_front (b ∷ rest) e = front_zero_mark (codes ":/?#") scheme_set scheme_lacks scheme_marks b
+    rest (ap (is_one_of (codes ":/?#")) (eqb-true b 47 (and_parts _ _ e).0))
 
 -- slashes are next behind no character of a scheme exactly where the text begins with them
 pub slashes_read : (text : List ℕ)
     → (eqb (front scheme_set text) 0 && has_authority (after scheme_set text)) ≡ has_authority text
 slashes_read text = ⊎_elim
-    (λ a. let z = slashes_front text a in and_from _ _ (eq-eqb _ 0 z) (ap (λ n. has_authority (drop n text)) z ∙ a) ∙ sym a)
+    (λ a. let z = slashes_front text a in
+    and_from _ _ (eq-eqb _ 0 z) (ap (λ n. has_authority (drop n text)) z ∙ a) ∙ sym a)
     (λ a. ⊎_elim
     (λ z. and_right _ _ (ap (λ n. has_authority (drop n text)) (eqb-true _ 0 z) ∙ a) ∙ sym a)
     (λ z. and_left _ _ z ∙ sym a)
@@ -99,8 +102,10 @@ scheme_head : (text : List ℕ) → has_scheme text ≡ true
     ≡ is_ascii_alphabetic (get_or text 0 0)
 scheme_head [] e = refl
 scheme_head (b ∷ rest) e = ⊎_elim
-    (λ o. absurd (both_ways _ (not-true _ (and_parts _ _ e).1) (sym (ap (starts 58) (from_at_mark (codes ":/?#") b rest o)) ∙ (and_parts _ _ e).0)))
-    (λ o. ap (λ xs. is_ascii_alphabetic (get_or xs 0 0)) (before_past_other (codes ":/?#") b rest o))
+    (λ o. absurd (both_ways _ (not-true _ (and_parts _ _ e).1)
+    (sym (ap (starts 58) (from_at_mark (codes ":/?#") b rest o)) ∙ (and_parts _ _ e).0)))
+    (λ o. ap (λ xs. is_ascii_alphabetic (get_or xs 0 0))
+    (before_past_other (codes ":/?#") b rest o))
     (cases_Bool (is_one_of (codes ":/?#") b))
 
 cut_scheme : (text : List ℕ) → IsUtf8 text
@@ -110,12 +115,14 @@ cut_scheme text u = cut (codes ":/?#") scheme_set scheme_lacks scheme_marks text
 
 pub utf8_scheme : (text : List ℕ) → IsUtf8 text → IsUtf8 (after_scheme text)
 utf8_scheme text u = ⊎_elim
-    (λ e. rw e (utf8_past 58 (lit< tt) (from_any (codes ":/?#") text) (and_parts _ _ e).0 (utf8_from (codes ":/?#") text (ascii_marks (codes ":/?#") refl) u)))
+    (λ e. rw e (utf8_past 58 (lit< tt) (from_any (codes ":/?#") text) (and_parts _ _ e).0
+    (utf8_from (codes ":/?#") text (ascii_marks (codes ":/?#") refl) u)))
     (λ e. rw e u) (cases_Bool (has_scheme text))
 
 pub utf8_authority : (rest : List ℕ) → IsUtf8 rest → IsUtf8 (after_authority rest)
 utf8_authority rest u = ⊎_elim
-    (λ e. rw e (utf8_from (codes "/?#") (drop 2 rest) (ascii_marks (codes "/?#") refl) (utf8_slashes rest e u)))
+    (λ e. rw e (utf8_from (codes "/?#") (drop 2 rest) (ascii_marks (codes "/?#") refl)
+    (utf8_slashes rest e u)))
     (λ e. rw e u) (cases_Bool (has_authority rest))
 
 module _ (segment : TableSet) (kind : Kind) (w : Separates segment kind) where
@@ -123,7 +130,12 @@ module _ (segment : TableSet) (kind : Kind) (w : Separates segment kind) where
   unmixed : List ℕ → Bool
   unmixed text =
       is_some (when (has_scheme text) (before_any (codes ":/?#") text))
-      || (not kind.needs_scheme && (is_some (when (has_authority (after_scheme text)) (before_any (codes "/?#") (drop 2 (after_scheme text)))) || not (has_colon_first (before_any (codes "?#") (after_authority (after_scheme text))))))
+      || (not kind.needs_scheme
+      && (is_some (when (has_authority (after_scheme text))
+      (before_any (codes "/?#") (drop 2 (after_scheme text))))
+      || not
+      (has_colon_first
+      (before_any (codes "?#") (after_authority (after_scheme text))))))
 
   tail_ok : List ℕ → Bool
   tail_ok text = rest_ok segment kind w (after_scheme text)
@@ -132,23 +144,37 @@ module _ (segment : TableSet) (kind : Kind) (w : Separates segment kind) where
       → is_of_kind kind text ≡ (scheme_ok text && (unmixed text && tail_ok text))
   unfolding scheme_ok unmixed tail_ok rest_ok end_ok fragment_ok
   by_parts text u =
-      regroup (scheme_ok text) (if_some (components text).authority (is_authority kind)) (is_valid_for kind.path (components text).path) (if_some (components text).query (is_valid_for kind.query)) (if_some (components text).fragment (is_valid_for kind.fragment)) (unmixed text)
-      ∙ ap (λ t. scheme_ok text && (unmixed text && (if_some (when (has_authority (after_scheme text)) (before_any (codes "/?#") (drop 2 (after_scheme text)))) (is_authority kind) && t)))
-      (sym (path_lemma segment kind w (after_authority (after_scheme text)) (utf8_authority _ (utf8_scheme text u))))
+      regroup (scheme_ok text) (if_some (components text).authority (is_authority kind))
+      (is_valid_for kind.path (components text).path)
+      (if_some (components text).query (is_valid_for kind.query))
+      (if_some (components text).fragment (is_valid_for kind.fragment)) (unmixed text)
+      ∙ ap
+      (λ t. scheme_ok text && (unmixed text
+      && (if_some (when (has_authority (after_scheme text))
+      (before_any (codes "/?#") (drop 2 (after_scheme text)))) (is_authority kind)
+      && t)))
+      (sym (path_lemma segment kind w (after_authority (after_scheme text))
+      (utf8_authority _ (utf8_scheme text u))))
 
   unmixed_scheme : (text : List ℕ) → has_scheme text ≡ true → unmixed text ≡ true
   unfolding unmixed
-  unmixed_scheme text e = or_left _ _ (ap (λ t. is_some (when t (before_any (codes ":/?#") text))) e)
+  unmixed_scheme text e =
+      or_left _ _ (ap (λ t. is_some (when t (before_any (codes ":/?#") text))) e)
 
   unmixed_authority : (text : List ℕ) → has_scheme text ≡ false → has_authority text ≡ true
       → unmixed text ≡ not kind.needs_scheme
   unfolding unmixed
   unmixed_authority text e f =
-      let X = not (has_colon_first (before_any (codes "?#") (after_authority (after_scheme text)))) in
+      let X =
+      not (has_colon_first (before_any (codes "?#") (after_authority (after_scheme text)))) in
       let a : has_authority (after_scheme text) ≡ true = ap has_authority (behind_none text e)
       ∙ f in
-      ap (λ t. is_some (when t (before_any (codes ":/?#") text)) || (not kind.needs_scheme && (is_some (when (has_authority (after_scheme text)) (before_any (codes "/?#") (drop 2 (after_scheme text)))) || X))) e
-      ∙ ap (λ t. not kind.needs_scheme && (is_some (when t (before_any (codes "/?#") (drop 2 (after_scheme text)))) || X)) a
+      ap (λ t. is_some (when t (before_any (codes ":/?#") text))
+      || (not kind.needs_scheme
+      && (is_some (when (has_authority (after_scheme text))
+      (before_any (codes "/?#") (drop 2 (after_scheme text)))) || X))) e
+      ∙ ap (λ t. not kind.needs_scheme
+      && (is_some (when t (before_any (codes "/?#") (drop 2 (after_scheme text)))) || X)) a
       ∙ and_true (not kind.needs_scheme)
 
   unmixed_none : (text : List ℕ) → has_scheme text ≡ false → has_authority text ≡ false
@@ -157,9 +183,20 @@ module _ (segment : TableSet) (kind : Kind) (w : Separates segment kind) where
   unmixed_none text e f =
       let a : has_authority (after_scheme text) ≡ false = ap has_authority (behind_none text e)
       ∙ f in
-      ap (λ t. is_some (when t (before_any (codes ":/?#") text)) || (not kind.needs_scheme && (is_some (when (has_authority (after_scheme text)) (before_any (codes "/?#") (drop 2 (after_scheme text)))) || not (has_colon_first (before_any (codes "?#") (after_authority (after_scheme text))))))) e
-      ∙ ap (λ t. not kind.needs_scheme && (is_some (when t (before_any (codes "/?#") (drop 2 (after_scheme text)))) || not (has_colon_first (before_any (codes "?#") (after_authority (after_scheme text)))))) a
-      ∙ ap (λ t. not kind.needs_scheme && not (has_colon_first (before_any (codes "?#") t))) (cond-false _ _ _ a ∙ behind_none text e)
+      ap (λ t. is_some (when t (before_any (codes ":/?#") text))
+      || (not kind.needs_scheme
+      && (is_some (when (has_authority (after_scheme text))
+      (before_any (codes "/?#") (drop 2 (after_scheme text))))
+      || not
+      (has_colon_first
+      (before_any (codes "?#") (after_authority (after_scheme text))))))) e
+      ∙ ap (λ t. not kind.needs_scheme
+      && (is_some (when t (before_any (codes "/?#") (drop 2 (after_scheme text))))
+      || not
+      (has_colon_first
+      (before_any (codes "?#") (after_authority (after_scheme text)))))) a
+      ∙ ap (λ t. not kind.needs_scheme && not (has_colon_first (before_any (codes "?#") t)))
+      (cond-false _ _ _ a ∙ behind_none text e)
       ∙ ap (λ t. not kind.needs_scheme && not t) (colon_first text e)
 
   tail_path : (text : List ℕ) → has_scheme text ≡ false → has_authority text ≡ false
@@ -167,7 +204,8 @@ module _ (segment : TableSet) (kind : Kind) (w : Separates segment kind) where
   unfolding tail_ok rest_ok
   tail_path text e f =
       ap (rest_ok segment kind w) (behind_none text e)
-      ∙ ap (λ t. if_some (when t (before_any (codes "/?#") (drop 2 text))) (is_authority kind) && reads_path kind (cond t (from_any (codes "/?#") (drop 2 text)) text)) f
+      ∙ ap (λ t. if_some (when t (before_any (codes "/?#") (drop 2 text))) (is_authority kind)
+      && reads_path kind (cond t (from_any (codes "/?#") (drop 2 text)) text)) f
 
   tail_authority : (text : List ℕ) → IsUtf8 text → has_scheme text ≡ false
       → has_authority text ≡ true → tail_ok text ≡ reads_authority kind (drop 2 text)
@@ -186,14 +224,24 @@ module _ (segment : TableSet) (kind : Kind) (w : Separates segment kind) where
       ⊎_elim
       (λ c.
       let h : has_scheme text ≡ false = and_right _ _ (not_from_true _ c) in
-      let a : has_authority text ≡ false = false_from_ne_true _ (λ t. both_ways _ (slashes_colon text t) c) in
+      let a : has_authority text ≡ false =
+      false_from_ne_true _ (λ t. both_ways _ (slashes_colon text t) c) in
       and_left _ _ (alpha_colon text c)
-      ∙ sym (and_right _ _ (and_left _ _ (unmixed_none text h a ∙ and_right _ _ (not_from_true _ c)))))
+      ∙ sym
+      (and_right _ _
+      (and_left _ _ (unmixed_none text h a ∙ and_right _ _ (not_from_true _ c)))))
       (λ c.
-      let h : has_scheme text ≡ true = and_from _ _ (sym (ap (starts 58) back) ∙ s) (not_from_false _ c) in
-      let valid : is_scheme (before_any (codes ":/?#") text) ≡ is_ascii_alphabetic (get_or text 0 0) = ap (λ t. is_ascii_alphabetic (get_or (before_any (codes ":/?#") text) 0 0) && t) (cut_scheme text u ∙ eq-eqb _ _ eq)
+      let h : has_scheme text ≡ true =
+      and_from _ _ (sym (ap (starts 58) back) ∙ s) (not_from_false _ c) in
+      let valid : is_scheme (before_any (codes ":/?#") text)
+      ≡ is_ascii_alphabetic (get_or text 0 0) =
+      ap (λ t. is_ascii_alphabetic (get_or (before_any (codes ":/?#") text) 0 0) && t)
+      (cut_scheme text u ∙ eq-eqb _ _ eq)
       ∙ and_true _ ∙ scheme_head text h in
-      ap (λ t. is_ascii_alphabetic (get_or text 0 0) && t) (ap (λ r. reads_hier kind (drop 1 r)) back ∙ ap (reads_hier kind) (sym (behind_some text h)) ∙ hier_lemma segment kind w (after_scheme text) (utf8_scheme text u))
+      ap (λ t. is_ascii_alphabetic (get_or text 0 0) && t)
+      (ap (λ r. reads_hier kind (drop 1 r)) back
+      ∙ ap (reads_hier kind) (sym (behind_some text h))
+      ∙ hier_lemma segment kind w (after_scheme text) (utf8_scheme text u))
       ∙ ap (λ t. t && tail_ok text) (sym (scheme_some text h ∙ valid))
       ∙ ap (λ t. scheme_ok text && (t && tail_ok text)) (sym (unmixed_scheme text h)))
       (cases_Bool (starts 58 text))
@@ -213,21 +261,28 @@ module _ (segment : TableSet) (kind : Kind) (w : Separates segment kind) where
       ∙ relative_within segment kind w text
 
   without_colon : (text : List ℕ) → IsUtf8 text → starts 58 (after scheme_set text) ≡ false
-      → (not kind.needs_scheme && reads_schemeless segment kind (front scheme_set text) (after scheme_set text))
+      → (not kind.needs_scheme && reads_schemeless segment kind (front scheme_set text)
+      (after scheme_set text))
       ≡ (scheme_ok text && (unmixed text && tail_ok text))
   without_colon text u s = ⊎_elim
       (λ h.
-      let a : has_authority text ≡ false = false_from_ne_true _ (λ t. both_ways _ (slashes_colon text t) (sym (ap (starts 58) (slashes_first text t)) ∙ (and_parts _ _ h).0)) in
-      let ne : eqb (front scheme_set text) (to_mark (codes ":/?#") text) ≡ false = ne_eqb _ _ (λ e. both_ways _ s (ap (λ n. starts 58 (drop n text)) e ∙ (and_parts _ _ h).0)) in
+      let a : has_authority text ≡ false =
+      false_from_ne_true _ (λ t. both_ways _ (slashes_colon text t)
+      (sym (ap (starts 58) (slashes_first text t)) ∙ (and_parts _ _ h).0)) in
+      let ne : eqb (front scheme_set text) (to_mark (codes ":/?#") text) ≡ false =
+      ne_eqb _ _
+      (λ e. both_ways _ s (ap (λ n. starts 58 (drop n text)) e ∙ (and_parts _ _ h).0)) in
       and_right _ _ (schemeless_relative text a ∙ relative_false segment kind w text u h)
       ∙ sym (and_left _ _ (scheme_some text h ∙ and_right _ _ (cut_scheme text u ∙ ne))))
       (λ h. ⊎_elim
       (λ a.
-      ap (λ t. not kind.needs_scheme && t) (schemeless_authority text a ∙ sym (tail_authority text u h a))
+      ap (λ t. not kind.needs_scheme && t)
+      (schemeless_authority text a ∙ sym (tail_authority text u h a))
       ∙ ap (λ t. t && tail_ok text) (sym (unmixed_authority text h a))
       ∙ ap (λ t. t && (unmixed text && tail_ok text)) (sym (scheme_none text h)))
       (λ a.
-      ap (λ t. not kind.needs_scheme && t) (schemeless_relative text a ∙ relative_lemma segment kind w text u h)
+      ap (λ t. not kind.needs_scheme && t)
+      (schemeless_relative text a ∙ relative_lemma segment kind w text u h)
       ∙ and_assoc (not kind.needs_scheme) (not (starts 58 text)) (reads_path kind text)
       ∙ ap (λ t. (not kind.needs_scheme && not (starts 58 text)) && t) (sym (tail_path text h a))
       ∙ ap (λ t. t && tail_ok text) (sym (unmixed_none text h a))

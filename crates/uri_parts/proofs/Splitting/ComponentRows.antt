@@ -31,15 +31,36 @@ nothing : components []
 nothing = refl
 
 authority_alone : components (codes "//h")
-    ≡ record { scheme = None; authority = Some (codes "h"); path = []; query = None; fragment = None }
+    ≡ record {
+      scheme = None;
+      authority = Some (codes "h");
+      path = [];
+      query = None;
+      fragment =
+          None;
+    }
 authority_alone = refl
 
 empty_authority : components (codes "file:///a")
-    ≡ record { scheme = Some (codes "file"); authority = Some []; path = codes "/a"; query = None; fragment = None }
+    ≡ record {
+      scheme = Some (codes "file");
+      authority = Some [];
+      path = codes "/a";
+      query =
+          None;
+      fragment = None;
+    }
 empty_authority = refl
 
 query_and_fragment : components (codes "?q#f")
-    ≡ record { scheme = None; authority = None; path = []; query = Some (codes "q"); fragment = Some (codes "f") }
+    ≡ record {
+      scheme = None;
+      authority = None;
+      path = [];
+      query = Some (codes "q");
+      fragment =
+          Some (codes "f");
+    }
 query_and_fragment = refl
 
 empty_query_and_fragment : components (codes "?#")
@@ -47,11 +68,25 @@ empty_query_and_fragment : components (codes "?#")
 empty_query_and_fragment = refl
 
 marks_in_fragment : components (codes "#a#b?c:d")
-    ≡ record { scheme = None; authority = None; path = []; query = None; fragment = Some (codes "a#b?c:d") }
+    ≡ record {
+      scheme = None;
+      authority = None;
+      path = [];
+      query = None;
+      fragment =
+          Some (codes "a#b?c:d");
+    }
 marks_in_fragment = refl
 
 first_colon_ends_the_scheme : components (codes "a:b:c")
-    ≡ record { scheme = Some (codes "a"); authority = None; path = codes "b:c"; query = None; fragment = None }
+    ≡ record {
+      scheme = Some (codes "a");
+      authority = None;
+      path = codes "b:c";
+      query =
+          None;
+      fragment = None;
+    }
 first_colon_ends_the_scheme = refl
 
 no_empty_scheme : components (codes ":x")
@@ -59,5 +94,12 @@ no_empty_scheme : components (codes ":x")
 no_empty_scheme = refl
 
 slashes_in_path : components (codes "/a//b")
-    ≡ record { scheme = None; authority = None; path = codes "/a//b"; query = None; fragment = None }
+    ≡ record {
+      scheme = None;
+      authority = None;
+      path = codes "/a//b";
+      query = None;
+      fragment =
+          None;
+    }
 slashes_in_path = refl

@@ -57,11 +57,15 @@ Lacks-cons marks c text e h (suc k) d l = h k d (omega arith)
 pub cut-append : (marks xs ys : List ℕ) → Lacks marks xs → Begins marks ys
     → (before_any marks (xs ++ ys) ≡ xs) × (from_any marks (xs ++ ys) ≡ ys)
 cut-append marks [] [] lacks begins = (refl, refl)
-cut-append marks [] (y ∷ ys) lacks begins = (before_at_mark marks y ys begins, from_at_mark marks y ys begins)
+cut-append marks [] (y ∷ ys) lacks begins =
+    (before_at_mark marks y ys begins, from_at_mark marks y ys begins)
 cut-append marks (x ∷ xs) ys lacks begins =
     let parts = Lacks-parts marks x xs lacks in
-    let rest = cut-append marks xs ys parts.1 begins in
-    (before_past_other marks x (xs ++ ys) parts.0 ∙ ap (λ t. x ∷ t) rest.0, from_past_other marks x (xs ++ ys) parts.0 ∙ rest.1)
+    let rest = cut-append marks xs ys parts.1 begins in (
+      before_past_other marks x (xs ++ ys) parts.0
+          ∙ ap (λ t. x ∷ t) rest.0,
+      from_past_other marks x (xs ++ ys) parts.0 ∙ rest.1,
+    )
 
 -- the two parts of any text that is cut so
 pub record IsCut (marks text before from : List ℕ) : Type 0 where

@@ -51,7 +51,8 @@ has_scheme-append : (text tail : List ℕ) → Begins (codes "#") tail
 has_scheme-append text tail begins =
     let marks = codes ":/?#" in
     let cut = IsCut-any marks text in
-    let behind = colon_behind marks (before_any marks text) (from_any marks text) tail cut.lacks cut.begins (hash_mark tail begins) (no_colon tail begins) in
+    let behind = colon_behind marks (before_any marks text) (from_any marks text) tail cut.lacks
+    cut.begins (hash_mark tail begins) (no_colon tail begins) in
     let colon : starts 58 (from_any marks (text ++ tail)) ≡ starts 58 (from_any marks text) =
     ap (λ t. starts 58 (from_any marks (t ++ tail))) (sym cut.whole) ∙ behind in
     ap (λ t. t && not (starts 58 (text ++ tail))) colon
@@ -94,18 +95,26 @@ Lacks-marked : (before behind : List ℕ) (part : Option (List ℕ)) → Lacks (
     → IfSome part (λ x. Lacks (codes "#") x) → Lacks (codes "#") behind
     → Lacks (codes "#") (marked before part behind)
 Lacks-marked before behind None b p e = All-nil is_other
-Lacks-marked before behind (Some x) b p e = All-append is_other (before ++ x) behind (All-append is_other before x b p) e
+Lacks-marked before behind (Some x) b p e =
+    All-append is_other (before ++ x) behind (All-append is_other before x b p) e
 
 Lacks-before_hash : (text : List ℕ) (p : Components) → IsSplitOf text p
     → Lacks (codes "#") (before_hash p)
 Lacks-before_hash text p split =
     let Hash : List ℕ → Type 0 = Lacks (codes "#") in
     let nil : Hash [] = All-nil is_other in
-    let scheme = Lacks-marked [] (codes ":") p.scheme nil (each_some p.scheme _ Hash (λ s h. fewer (codes ":/?#") s (λ c e. grind (arith, nat_tests)) h.1) split.scheme) (All-cons is_other 58 [] refl nil) in
-    let authority = Lacks-marked (codes "//") [] p.authority (All-cons is_other 47 (codes "/") refl (All-cons is_other 47 [] refl nil)) (each_some p.authority _ Hash (λ a h. fewer (codes "/?#") a (λ c e. grind (arith, nat_tests)) h.0) split.authority) nil in
+    let scheme = Lacks-marked [] (codes ":") p.scheme nil
+    (each_some p.scheme _ Hash (λ s h. fewer (codes ":/?#") s (λ c e. grind (arith, nat_tests))
+    h.1) split.scheme) (All-cons is_other 58 [] refl nil) in
+    let authority = Lacks-marked (codes "//") [] p.authority
+    (All-cons is_other 47 (codes "/") refl (All-cons is_other 47 [] refl nil))
+    (each_some p.authority _ Hash (λ a h. fewer (codes "/?#") a
+    (λ c e. grind (arith, nat_tests)) h.0) split.authority) nil in
     let path = fewer (codes "?#") p.path (λ c e. grind (arith, nat_tests)) split.path in
-    let query = Lacks-marked (codes "?") [] p.query (All-cons is_other 63 [] refl nil) split.query nil in
-    All-append is_other _ _ (All-append is_other _ _ (All-append is_other _ _ scheme authority) path) query
+    let query = Lacks-marked (codes "?") [] p.query (All-cons is_other 63 [] refl nil) split.query
+    nil in
+    All-append is_other _ _
+    (All-append is_other _ _ (All-append is_other _ _ scheme authority) path) query
 
 -- what stands before the fragment stands before the first `#`
 before_any-hash : (text : List ℕ) → before_any (codes "#") text ≡ before_hash (components text)
@@ -113,7 +122,8 @@ before_any-hash text =
     let c = components text in
     let split = IsSplitOf-components text in
     ap (before_any (codes "#")) (before_hash-append text c split)
-    ∙ (cut-append (codes "#") (before_hash c) (fragment_text c.fragment) (Lacks-before_hash text c split) (Begins-fragment_text c.fragment)).0
+    ∙ (cut-append (codes "#") (before_hash c) (fragment_text c.fragment)
+    (Lacks-before_hash text c split) (Begins-fragment_text c.fragment)).0
 
 is_with_fragment : (text made : List ℕ) (fragment : Option (List ℕ))
     → made ≡ before_hash (components text) ++ fragment_text fragment
@@ -123,7 +133,8 @@ is_with_fragment text made fragment e =
     let q = record c { fragment = fragment } in
     record {
       parts = ap components (e ∙ sym (recompose-before_hash q))
-          ∙ components-recompose (recompose q) q (is_split text c fragment (IsSplitOf-components text));
+          ∙ components-recompose (recompose q) q
+          (is_split text c fragment (IsSplitOf-components text));
       whole = e ∙ ap (λ t. t ++ fragment_text fragment) (sym (before_any-hash text));
     }
 
@@ -148,7 +159,9 @@ module _ (text : List ℕ) (p : Positions) (at : AreAt text p) (mark : ℕ)
   pub mark_boundary : IsCharBoundary text mark
   mark_boundary =
       let c = components text in
-      subst (IsCharBoundary text) mark_at (boundary text (before_hash c) (fragment_text c.fragment) whole (Begins-fragment_text c.fragment))
+      subst (IsCharBoundary text) mark_at
+      (boundary text (before_hash c) (fragment_text c.fragment) whole
+      (Begins-fragment_text c.fragment))
 
   pub taken : take mark text ≡ before_hash (components text)
   taken =
@@ -166,15 +179,19 @@ added text kept made fragment w e =
     let before = before_hash (components text) in
     let front : kept ≡ before = w.whole ∙ append-nil (before_any (codes "#") text)
     ∙ before_any-hash text in
-    is_with_fragment text made (Some fragment) (e ∙ ap (λ t. t ++ (35 ∷ fragment)) front ∙ ap (λ t. before ++ (35 ∷ t)) (sym (append-nil fragment)))
+    is_with_fragment text made (Some fragment)
+    (e ∙ ap (λ t. t ++ (35 ∷ fragment)) front
+    ∙ ap (λ t. before ++ (35 ∷ t)) (sym (append-nil fragment)))
 
--- such a text is of the kind where the fragment is valid for it, and its components lie where they lay
+-- such a text is of the kind where the fragment is valid for it, and its components lie where they
+-- lay
 of_kind : (kind : Kind) (text made : List ℕ) (fragment : Option (List ℕ)) → IsOfKind kind text
     → if_some fragment (is_valid_for kind.fragment) ≡ true → IsWithFragment text fragment made
     → IsOfKind kind made
 of_kind kind text made fragment h valid w =
     let p = components text in
-    let front = if_some p.scheme is_scheme && if_some p.authority (is_authority kind) && is_valid_for kind.path p.path && if_some p.query (is_valid_for kind.query) in
+    let front = if_some p.scheme is_scheme && if_some p.authority (is_authority kind)
+    && is_valid_for kind.path p.path && if_some p.query (is_valid_for kind.query) in
     let whole = and_parts (front && if_some p.fragment (is_valid_for kind.fragment)) _ h in
     let kept = and_parts front _ whole.0 in
     ap (are_components kind) w.parts ∙ and_from _ _ (and_from front _ kept.0 valid) whole.1
@@ -190,7 +207,8 @@ stays_without set text made w = record { of_kind = λ kind e h. stripped_of_kind
 pub stays_with : (set : TableSet) (text made fragment : List ℕ) → is_valid_for set fragment ≡ true
     → IsWithFragment text (Some fragment) made → StaysOfKind set text made
 stays_with set text made fragment valid w = record {
-  of_kind = λ kind e h. of_kind kind text made (Some fragment) h (ap (λ s. is_valid_for s fragment) (sym e) ∙ valid) w;
+  of_kind = λ kind e h. of_kind kind text made (Some fragment) h
+      (ap (λ s. is_valid_for s fragment) (sym e) ∙ valid) w;
 }
 
 pub same_places : (text made : List ℕ) (fragment : Option (List ℕ)) (p : Positions) → AreAt text p

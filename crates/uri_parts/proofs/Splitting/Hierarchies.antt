@@ -18,7 +18,8 @@ use Rattle.uri_parts.proofs.Authorities.WholeAuthorities.{authority_reads}
 module _ (segment : TableSet) (kind : Kind) (w : Separates segment kind) where
   pub behind_found : (bs : List ℕ) → IsUtf8 bs → finds_authority kind bs ≡ true
       → drop (found_length kind bs) bs ≡ from_any (codes "/?#") bs
-  behind_found bs u h = ap (λ n. drop n bs) ((is_found segment kind w bs u h).len ∙ length-before (codes "/?#") bs)
+  behind_found bs u h = ap (λ n. drop n bs)
+      ((is_found segment kind w bs u h).len ∙ length-before (codes "/?#") bs)
 
   pub found_is : (bs : List ℕ) → IsUtf8 bs
       → finds_authority kind bs ≡ is_authority kind (before_any (codes "/?#") bs)
@@ -27,7 +28,8 @@ module _ (segment : TableSet) (kind : Kind) (w : Separates segment kind) where
 
   authority_piece : (bs : List ℕ) → IsUtf8 bs
       → reads_authority kind bs
-      ≡ (is_authority kind (before_any (codes "/?#") bs) && reads_path kind (from_any (codes "/?#") bs))
+      ≡ (is_authority kind (before_any (codes "/?#") bs)
+      && reads_path kind (from_any (codes "/?#") bs))
   unfolding reads_authority
   authority_piece bs u = ⊎_elim
       (λ h. ap (λ r. finds_authority kind bs && reads_path kind r) (behind_found bs u h))
@@ -36,14 +38,17 @@ module _ (segment : TableSet) (kind : Kind) (w : Separates segment kind) where
       ∙ ap (λ t. t && reads_path kind (from_any (codes "/?#") bs)) (found_is bs u)
 
   unfoldable pub rest_ok : List ℕ → Bool
-  rest_ok rest = if_some (when (has_authority rest) (before_any (codes "/?#") (drop 2 rest))) (is_authority kind) && reads_path kind (after_authority rest)
+  rest_ok rest = if_some (when (has_authority rest) (before_any (codes "/?#") (drop 2 rest)))
+      (is_authority kind) && reads_path kind (after_authority rest)
 
   pub slashes_lemma : (rest : List ℕ) → has_authority rest ≡ true → IsUtf8 rest
       → reads_authority kind (drop 2 rest) ≡ rest_ok rest
   unfolding rest_ok
   slashes_lemma rest e u =
       authority_piece (drop 2 rest) (utf8_slashes rest e u)
-      ∙ sym (ap (λ t. if_some (when t (before_any (codes "/?#") (drop 2 rest))) (is_authority kind) && reads_path kind (cond t (from_any (codes "/?#") (drop 2 rest)) rest)) e)
+      ∙ sym
+      (ap (λ t. if_some (when t (before_any (codes "/?#") (drop 2 rest))) (is_authority kind)
+      && reads_path kind (cond t (from_any (codes "/?#") (drop 2 rest)) rest)) e)
 
   pub hier_lemma : (rest : List ℕ) → IsUtf8 rest → reads_hier kind rest ≡ rest_ok rest
   unfolding reads_hier rest_ok

@@ -1,7 +1,7 @@
 -- Where each component of a recomposed text is cut: one lemma a component, over its own text.
-use Rattle.std.proofs.Common.{◌≡◌, ℕ, ◌<◌, Bool, true, false, eqb, List, [], ◌∷◌, ◌++◌, length}
-use Rattle.std.proofs.Common.{drop, refl, sym, ap, ◌∙◌, arith, ⊎_elim, append_assoc, rules}
-use Rattle.std.specs.Prelude.{codes, Some, None, Option, IsTrue, IfSome, IfNone}
+use Rattle.std.proofs.Common.{◌≡◌, ℕ, ◌<◌, true, false, eqb, List, [], ◌∷◌, ◌++◌, length}
+use Rattle.std.proofs.Common.{drop, refl, sym, ap, ◌∙◌, arith, ⊎_elim, append_assoc}
+use Rattle.std.specs.Prelude.{codes, Some, None, Option, IfSome, IfNone}
 use Rattle.std.proofs.lemmas.List.{append-nil}
 use Rattle.std.proofs.lemmas.Bool.{cond-true, cond-false, and_left, and_right, and_from, eqb-true}
 use Rattle.std.proofs.lemmas.Bool.{not_from_false}
@@ -27,7 +27,9 @@ Begins-fragment_text (Some f) = refl
 
 pub Begins-query_text : (query fragment : Option (List ℕ))
     → Begins (codes "?#") (query_text query fragment)
-Begins-query_text None fragment = Begins-more (codes "#") (codes "?#") (fragment_text fragment) (λ c e. grind (arith, nat_tests)) (Begins-fragment_text fragment)
+Begins-query_text None fragment =
+    Begins-more (codes "#") (codes "?#") (fragment_text fragment) (λ c e. grind (arith, nat_tests))
+    (Begins-fragment_text fragment)
 Begins-query_text (Some q) fragment = refl
 
 starts-fragment_text : (fragment : Option (List ℕ)) → starts 63 (fragment_text fragment) ≡ false
@@ -42,14 +44,20 @@ fragment-read (Some f) = ap Some (append-nil f)
 
 -- the query that is read, and what is left behind it
 pub query-read : (query fragment : Option (List ℕ)) → IfSome query (λ q. Lacks (codes "#") q) →
-    (when (starts 63 (query_text query fragment)) (before_any (codes "#") (drop 1 (query_text query fragment))) ≡ query)
+    (when (starts 63 (query_text query fragment))
+    (before_any (codes "#") (drop 1 (query_text query fragment))) ≡ query)
     × (after_query (query_text query fragment) ≡ fragment_text fragment)
 query-read None fragment lacks =
-    let e = starts-fragment_text fragment in
-    (ap (λ t. when t (before_any (codes "#") (drop 1 (fragment_text fragment)))) e, cond-false _ _ _ e)
+    let e = starts-fragment_text fragment in (
+      ap (λ t. when t (before_any (codes "#") (drop 1 (fragment_text fragment)))) e,
+      cond-false _ _ _
+          e,
+    )
 query-read (Some q) fragment lacks =
-    let cut = cut-append (codes "#") q (fragment_text fragment) lacks (Begins-fragment_text fragment) in
-    let e : (q ++ []) ++ fragment_text fragment ≡ q ++ fragment_text fragment = ap (λ t. t ++ fragment_text fragment) (append-nil q) in
+    let cut = cut-append (codes "#") q (fragment_text fragment) lacks
+    (Begins-fragment_text fragment) in
+    let e : (q ++ []) ++ fragment_text fragment ≡ q ++ fragment_text fragment =
+    ap (λ t. t ++ fragment_text fragment) (append-nil q) in
     (ap Some (ap (before_any (codes "#")) e ∙ cut.0), ap (from_any (codes "#")) e ∙ cut.1)
 
 no_slash : (c : ℕ) → is_one_of (codes "?#") c ≡ true → eqb c 47 ≡ false
@@ -74,20 +82,27 @@ slash_mark c e = ap (is_one_of (codes "/?#")) (eqb-true c 47 e)
 -- a rooted path ends an authority
 pub Begins-rooted : (path tail : List ℕ) → IsRooted path → Begins (codes "?#") tail
     → Begins (codes "/?#") (path ++ tail)
-Begins-rooted [] tail rooted begins = Begins-more (codes "?#") (codes "/?#") tail (λ c e. grind (arith, nat_tests)) begins
-Begins-rooted (c ∷ path) tail rooted begins = ⊎_elim (λ e. absurd (nil_cons c path e)) (λ e. slash_mark c (true_of _ e)) rooted
+Begins-rooted [] tail rooted begins =
+    Begins-more (codes "?#") (codes "/?#") tail (λ c e. grind (arith, nat_tests)) begins
+Begins-rooted (c ∷ path) tail rooted begins =
+    ⊎_elim (λ e. absurd (nil_cons c path e)) (λ e. slash_mark c (true_of _ e)) rooted
 
 -- the authority that is read, and what is left behind it
 pub authority-read : (authority : Option (List ℕ)) (path tail : List ℕ) →
-    IfSome authority (λ a. Lacks (codes "/?#") a × IsRooted path) → IfNone authority (has_authority path ≡ false) → Begins (codes "?#") tail →
-    (when (has_authority (marked (codes "//") authority [] ++ (path ++ tail))) (before_any (codes "/?#") (drop 2 (marked (codes "//") authority [] ++ (path ++ tail)))) ≡ authority)
+    IfSome authority (λ a. Lacks (codes "/?#") a × IsRooted path)
+    → IfNone authority (has_authority path ≡ false) → Begins (codes "?#") tail →
+    (when (has_authority (marked (codes "//") authority [] ++ (path ++ tail)))
+    (before_any (codes "/?#") (drop 2 (marked (codes "//") authority [] ++ (path ++ tail))))
+    ≡ authority)
     × (after_authority (marked (codes "//") authority [] ++ (path ++ tail)) ≡ path ++ tail)
 authority-read None path tail some none begins =
     let e : has_authority (path ++ tail) ≡ false = has_authority-append path tail begins ∙ none in
     (ap (λ t. when t (before_any (codes "/?#") (drop 2 (path ++ tail)))) e, cond-false _ _ _ e)
 authority-read (Some a) path tail some none begins =
-    let cut = cut-append (codes "/?#") a (path ++ tail) some.0 (Begins-rooted path tail some.1 begins) in
-    let e : (a ++ []) ++ (path ++ tail) ≡ a ++ (path ++ tail) = ap (λ t. t ++ (path ++ tail)) (append-nil a) in
+    let cut = cut-append (codes "/?#") a (path ++ tail) some.0
+    (Begins-rooted path tail some.1 begins) in
+    let e : (a ++ []) ++ (path ++ tail) ≡ a ++ (path ++ tail) =
+    ap (λ t. t ++ (path ++ tail)) (append-nil a) in
     (ap Some (ap (before_any (codes "/?#")) e ∙ cut.0), ap (from_any (codes "/?#")) e ∙ cut.1)
 
 no_colon : (c : ℕ) → is_one_of (codes ":/?#") c ≡ false → eqb c 58 ≡ false
@@ -100,14 +115,22 @@ scheme_first (c ∷ s) rest h lacks = no_colon c (lacks 0 0 (omega arith))
 
 -- the scheme that is read, and what is left behind it
 pub scheme-read : (scheme : Option (List ℕ)) (rest : List ℕ) →
-    IfSome scheme (λ s. (0 < length s) × Lacks (codes ":/?#") s) → IfNone scheme (has_scheme (marked [] scheme (codes ":") ++ rest) ≡ false) →
-    (when (has_scheme (marked [] scheme (codes ":") ++ rest)) (before_any (codes ":/?#") (marked [] scheme (codes ":") ++ rest)) ≡ scheme)
+    IfSome scheme (λ s. (0 < length s) × Lacks (codes ":/?#") s)
+    → IfNone scheme (has_scheme (marked [] scheme (codes ":") ++ rest) ≡ false) →
+    (when (has_scheme (marked [] scheme (codes ":") ++ rest))
+    (before_any (codes ":/?#") (marked [] scheme (codes ":") ++ rest)) ≡ scheme)
     × (after_scheme (marked [] scheme (codes ":") ++ rest) ≡ rest)
-scheme-read None rest some none = (ap (λ t. when t (before_any (codes ":/?#") rest)) none, cond-false _ _ _ none)
+scheme-read None rest some none =
+    (ap (λ t. when t (before_any (codes ":/?#") rest)) none, cond-false _ _ _ none)
 scheme-read (Some s) rest some none =
     let text : List ℕ = (s ++ codes ":") ++ rest in
     let e : text ≡ s ++ (58 ∷ rest) = append_assoc s (codes ":") rest in
     let cut = cut-append (codes ":/?#") s (58 ∷ rest) some.1 refl in
     let back : from_any (codes ":/?#") text ≡ 58 ∷ rest = ap (from_any (codes ":/?#")) e ∙ cut.1 in
-    let t : has_scheme text ≡ true = and_from _ _ (ap (starts 58) back) (not_from_false _ (ap (starts 58) e ∙ scheme_first s rest some.0 some.1)) in
-    (ap (λ t. when t (before_any (codes ":/?#") text)) t ∙ ap Some (ap (before_any (codes ":/?#")) e ∙ cut.0), cond-true _ _ _ t ∙ ap (drop 1) back)
+    let t : has_scheme text ≡ true =
+    and_from _ _ (ap (starts 58) back)
+    (not_from_false _ (ap (starts 58) e ∙ scheme_first s rest some.0 some.1)) in (
+      ap (λ t. when t (before_any (codes ":/?#") text)) t
+          ∙ ap Some (ap (before_any (codes ":/?#")) e ∙ cut.0),
+      cond-true _ _ _ t ∙ ap (drop 1) back,
+    )

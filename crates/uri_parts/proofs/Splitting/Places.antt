@@ -1,27 +1,23 @@
 -- At their positions the components of a text can be cut out, and what is cut out is them.
-use Rattle.std.proofs.Common.{◌≡◌, ℕ, ◌+◌, ◌-◌, ◌<◌, ◌≤◌, true, false, List, [], ◌∷◌, ◌++◌, length}
+use Rattle.std.proofs.Common.{◌≡◌, ℕ, ◌+◌, ◌-◌, ◌<◌, ◌≤◌, true, List, [], ◌∷◌, ◌++◌, length}
 use Rattle.std.proofs.Common.{get_or, take, drop, refl, sym, ap, subst, ◌∙◌, arith, append_assoc}
 use Rattle.std.proofs.Common.{length-append}
 use Rattle.std.specs.Prelude.{codes, Some, None, Option, IfSome, slice_range, nat_lt, is_some}
 use Rattle.std.specs.Prelude.{option_map, unwrap_or}
 use Rattle.std.specs.Str.{IsUtf8, IsCharBoundary}
 use Rattle.std.proofs.Math.Seq.{drop-append_seam, take-append_seam}
-use Rattle.std.proofs.lemmas.Option.{MatchOption-at_some}
-use Rattle.std.proofs.lemmas.List.{append-nil, take_all, length-drop}
+use Rattle.std.proofs.lemmas.List.{append-nil}
 use Rattle.std.proofs.lemmas.Str.{IsCharBoundary-start, IsCharBoundary-end}
 use Rattle.std.proofs.lemmas.Str.{IsCharBoundary-before_ascii, IsCharBoundary-after_ascii}
 use Rattle.std.proofs.lemmas.Bool.{lt-ltb, le-ltb}
 use Rattle.std.proofs.lemmas.Bool.Decides.{nat_tests}
 use Rattle.uri_pct.specs.Sets.{is_one_of}
-use Rattle.uri_parts.specs.declared.positions.Positions.{Positions}
-use Rattle.uri_parts.specs.declared.positions.AuthorityPositions.{AuthorityPositions}
-use Rattle.uri_parts.specs.Components.{Components, IsSplitOf, components, recompose, marked}
+use Rattle.uri_parts.specs.Components.{Components, IsSplitOf, recompose, marked}
 use Rattle.uri_parts.specs.Components.{IsRooted, Lacks}
-use Rattle.uri_parts.specs.Positions.{AreAt, positions_of, marked_length, before_fragment}
+use Rattle.uri_parts.specs.Positions.{positions_of, marked_length, before_fragment}
 use Rattle.uri_parts.proofs.Splitting.Cuts.{Begins, Begins-more}
 use Rattle.uri_parts.proofs.Splitting.Marks.{query_text, fragment_text, Begins-query_text}
 use Rattle.uri_parts.proofs.Splitting.Marks.{Begins-fragment_text, Begins-rooted}
-use Rattle.uri_parts.proofs.Splitting.Recompose.{IsSplitOf-components}
 
 -- a text may be cut at both places, and between them lies this component
 pub record LiesAt (text : List ℕ) (start end : ℕ) (part : Option (List ℕ)) : Type 0 where
@@ -43,15 +39,19 @@ pub before_mark : (before rest : List ℕ) → Begins (codes ":/?#") rest
 before_mark before [] begins = rw (append-nil before) (IsCharBoundary-end before)
 before_mark before (c ∷ rest) begins =
     let ascii = is_ascii_mark c begins in
-    let at : get_or (before ++ (c ∷ rest)) (length before) 0 < 128 = rw (get-seam before rest c) ascii in
-    IsCharBoundary-before_ascii (before ++ (c ∷ rest)) (length before) (omega (arith, length-append before (c ∷ rest))) at
+    let at : get_or (before ++ (c ∷ rest)) (length before) 0 < 128 =
+    rw (get-seam before rest c) ascii in
+    IsCharBoundary-before_ascii (before ++ (c ∷ rest)) (length before)
+    (omega (arith, length-append before (c ∷ rest))) at
 
 -- and behind one
 pub after_mark : (before rest : List ℕ) (c : ℕ) → c < 128 → IsUtf8 (before ++ (c ∷ rest))
     → IsCharBoundary (before ++ (c ∷ rest)) (length before + 1)
 after_mark before rest c ascii utf8 =
-    let at : get_or (before ++ (c ∷ rest)) (length before) 0 < 128 = rw (get-seam before rest c) ascii in
-    IsCharBoundary-after_ascii (before ++ (c ∷ rest)) (length before) utf8 (omega (arith, length-append before (c ∷ rest))) at
+    let at : get_or (before ++ (c ∷ rest)) (length before) 0 < 128 =
+    rw (get-seam before rest c) ascii in
+    IsCharBoundary-after_ascii (before ++ (c ∷ rest)) (length before) utf8
+    (omega (arith, length-append before (c ∷ rest))) at
 
 pub range-between : (before part behind : List ℕ)
     → slice_range (before ++ (part ++ behind)) (length before) (length before + length part) ≡ part
@@ -87,7 +87,8 @@ LiesAt-behind_mark text before part behind c start end whole at_start at_end asc
     ∙ sym (append_assoc before (c ∷ []) (part ++ behind)) in
     let n : start ≡ length (before ++ (c ∷ [])) = omega (arith, length-append before (c ∷ [])) in
     let valid : IsUtf8 (before ++ (c ∷ (part ++ behind))) = rw (← whole) utf8 in
-    let starts : IsCharBoundary text start = rw (whole, at_start) (after_mark before (part ++ behind) c ascii valid) in
+    let starts : IsCharBoundary text start =
+    rw (whole, at_start) (after_mark before (part ++ behind) c ascii valid) in
     LiesAt-between text (before ++ (c ∷ [])) part behind start end joined n at_end starts begins
 
 abbrev pub scheme_text : Option (List ℕ) → List ℕ
@@ -119,13 +120,16 @@ end-query path_end None = omega arith
 end-query path_end (Some q) = omega arith
 
 any_mark : (text : List ℕ) → Begins (codes "/?#") text → Begins (codes ":/?#") text
-any_mark text begins = Begins-more (codes "/?#") (codes ":/?#") text (λ c e. grind (arith, nat_tests)) begins
+any_mark text begins = Begins-more (codes "/?#") (codes ":/?#") text
+    (λ c e. grind (arith, nat_tests)) begins
 
 end_mark : (text : List ℕ) → Begins (codes "?#") text → Begins (codes ":/?#") text
-end_mark text begins = Begins-more (codes "?#") (codes ":/?#") text (λ c e. grind (arith, nat_tests)) begins
+end_mark text begins = Begins-more (codes "?#") (codes ":/?#") text
+    (λ c e. grind (arith, nat_tests)) begins
 
 pub hash_mark : (text : List ℕ) → Begins (codes "#") text → Begins (codes ":/?#") text
-hash_mark text begins = Begins-more (codes "#") (codes ":/?#") text (λ c e. grind (arith, nat_tests)) begins
+hash_mark text begins = Begins-more (codes "#") (codes ":/?#") text
+    (λ c e. grind (arith, nat_tests)) begins
 
 -- the authority
 authority_lies : (text : List ℕ) (scheme : Option (List ℕ)) (a path behind : List ℕ)
@@ -137,8 +141,10 @@ authority_lies text scheme a path behind whole utf8 rooted begins =
     let joined : text ≡ front ++ (47 ∷ (a ++ (path ++ behind))) =
     whole ∙ ap (λ t. scheme_text scheme ++ (47 ∷ 47 ∷ (t ++ (path ++ behind)))) (append-nil a)
     ∙ sym (append_assoc (scheme_text scheme) (47 ∷ []) (47 ∷ (a ++ (path ++ behind)))) in
-    let n : marked_length 1 scheme + 2 ≡ length front + 1 = omega (arith, length-append (scheme_text scheme) (47 ∷ []), length-scheme_text scheme) in
-    LiesAt-behind_mark text front a (path ++ behind) 47 (marked_length 1 scheme + 2) (marked_length 1 scheme + 2 + length a) joined n refl (omega arith) utf8
+    let n : marked_length 1 scheme + 2 ≡ length front + 1 =
+    omega (arith, length-append (scheme_text scheme) (47 ∷ []), length-scheme_text scheme) in
+    LiesAt-behind_mark text front a (path ++ behind) 47 (marked_length 1 scheme + 2)
+    (marked_length 1 scheme + 2 + length a) joined n refl (omega arith) utf8
     (any_mark (path ++ behind) (Begins-rooted path behind rooted begins))
 
 -- the path
@@ -147,8 +153,10 @@ path_starts : (text : List ℕ) (scheme authority : Option (List ℕ)) (path beh
     → IfSome authority (λ a. IsRooted path) → Begins (codes "?#") behind
     → IsCharBoundary text (marked_length 1 scheme + marked_length 2 authority)
 path_starts text scheme (Some a) path behind whole utf8 rooted begins =
-    let n : marked_length 1 scheme + 2 + length a ≡ marked_length 1 scheme + marked_length 2 (Some a) = omega arith in
-    subst (IsCharBoundary text) n (authority_lies text scheme a path behind whole utf8 rooted begins).ends
+    let n : marked_length 1 scheme + 2 + length a
+    ≡ marked_length 1 scheme + marked_length 2 (Some a) = omega arith in
+    subst (IsCharBoundary text) n
+    (authority_lies text scheme a path behind whole utf8 rooted begins).ends
 path_starts text None None path behind whole utf8 rooted begins = IsCharBoundary-start text utf8
 path_starts text (Some s) None path behind whole utf8 rooted begins =
     let joined : text ≡ s ++ (58 ∷ (path ++ behind)) = whole
@@ -160,14 +168,23 @@ path_starts text (Some s) None path behind whole utf8 rooted begins =
 path_lies : (text : List ℕ) (scheme authority : Option (List ℕ)) (path behind : List ℕ)
     → text ≡ scheme_text scheme ++ (marked_authority authority ++ (path ++ behind)) → IsUtf8 text
     → IfSome authority (λ a. IsRooted path) → Begins (codes "?#") behind
-    → LiesAt text (marked_length 1 scheme + marked_length 2 authority) (marked_length 1 scheme + marked_length 2 authority + length path) (Some path)
+    → LiesAt text (marked_length 1 scheme + marked_length 2 authority)
+    (marked_length 1 scheme + marked_length 2 authority + length path) (Some path)
 path_lies text scheme authority path behind whole utf8 rooted begins =
     let start : ℕ = marked_length 1 scheme + marked_length 2 authority in
     let front : List ℕ = scheme_text scheme ++ marked_authority authority in
     let joined : text ≡ front ++ (path ++ behind) = whole
     ∙ sym (append_assoc (scheme_text scheme) (marked_authority authority) (path ++ behind)) in
-    let n : start ≡ length front = omega (arith, length-append (scheme_text scheme) (marked_authority authority), length-scheme_text scheme, length-marked_authority authority) in
-    LiesAt-between text front path behind start (start + length path) joined n refl (path_starts text scheme authority path behind whole utf8 rooted begins) (end_mark behind begins)
+    let n : start ≡ length front =
+    omega (
+      arith,
+      length-append (scheme_text scheme) (marked_authority authority),
+      length-scheme_text scheme,
+      length-marked_authority authority,
+    ) in
+    LiesAt-between text front path behind start (start + length path) joined n refl
+    (path_starts text scheme authority path behind whole utf8 rooted begins)
+    (end_mark behind begins)
 
 -- the text up to the end of the path
 abbrev pub hierarchy_text : Option (List ℕ) → Option (List ℕ) → List ℕ → List ℕ
@@ -176,7 +193,14 @@ hierarchy_text scheme authority path = (scheme_text scheme ++ marked_authority a
 length-hierarchy_text : (scheme authority : Option (List ℕ)) (path : List ℕ)
     → length (hierarchy_text scheme authority path)
     ≡ marked_length 1 scheme + marked_length 2 authority + length path
-length-hierarchy_text scheme authority path = omega (arith, length-append (scheme_text scheme ++ marked_authority authority) path, length-append (scheme_text scheme) (marked_authority authority), length-scheme_text scheme, length-marked_authority authority)
+length-hierarchy_text scheme authority path =
+    omega (
+      arith,
+      length-append (scheme_text scheme ++ marked_authority authority) path,
+      length-append (scheme_text scheme) (marked_authority authority),
+      length-scheme_text scheme,
+      length-marked_authority authority,
+    )
 
 hierarchy-append : (scheme authority : Option (List ℕ)) (path behind : List ℕ)
     → scheme_text scheme ++ (marked_authority authority ++ (path ++ behind))
@@ -193,24 +217,51 @@ query_lies : (text hierarchy q behind : List ℕ)
 query_lies text hierarchy q behind whole utf8 begins =
     let joined : text ≡ hierarchy ++ (63 ∷ (q ++ behind)) = whole
     ∙ ap (λ t. hierarchy ++ (63 ∷ (t ++ behind))) (append-nil q) in
-    LiesAt-behind_mark text hierarchy q behind 63 (length hierarchy + 1) (length hierarchy + 1 + length q) joined refl refl (omega arith) utf8 (hash_mark behind begins)
+    LiesAt-behind_mark text hierarchy q behind 63 (length hierarchy + 1)
+    (length hierarchy + 1 + length q) joined refl refl (omega arith) utf8
+    (hash_mark behind begins)
 
 -- a fragment, behind all else
 fragment_lies : (text before f : List ℕ) → text ≡ before ++ fragment_text (Some f) → IsUtf8 text
     → LiesAt text (length before + 1) (length text) (Some f)
 fragment_lies text before f whole utf8 =
-    let n : length text ≡ length before + 1 + length f = omega (arith, ap length whole, length-append before (fragment_text (Some f)), length-append f []) in
-    LiesAt-behind_mark text before f [] 35 (length before + 1) (length text) whole refl n (omega arith) utf8 tt
+    let n : length text ≡ length before + 1 + length f =
+    omega (
+      arith,
+      ap length whole,
+      length-append before (fragment_text (Some f)),
+      length-append
+          f [],
+    ) in
+    LiesAt-behind_mark text before f [] 35 (length before + 1) (length text) whole refl n
+    (omega arith) utf8 tt
 
 -- each component at its positions, over any split
-authority_at : (text : List ℕ) (scheme authority : Option (List ℕ)) (path : List ℕ)
+pub authority_at : (text : List ℕ) (scheme authority : Option (List ℕ)) (path : List ℕ)
     (query fragment : Option (List ℕ))
-    → IsSplitOf text (record { scheme = scheme; authority = authority; path = path; query = query; fragment = fragment })
+    → IsSplitOf text (record {
+      scheme = scheme;
+      authority = authority;
+      path = path;
+      query =
+          query;
+      fragment = fragment;
+    })
     → IsUtf8 text
-    → (let at = positions_of (record { scheme = scheme; authority = authority; path = path; query = query; fragment = fragment }) in IfSome at.authority (λ a. LiesAt text a.start a.end authority))
+    → (let at =
+    positions_of (record {
+      scheme = scheme;
+      authority = authority;
+      path = path;
+      query =
+          query;
+      fragment = fragment;
+    }) in
+    IfSome at.authority (λ a. LiesAt text a.start a.end authority))
 authority_at text scheme None path query fragment split utf8 = tt
 authority_at text scheme (Some a) path query fragment split utf8 =
-    authority_lies text scheme a path (query_text query fragment) (sym split.whole) utf8 split.authority.1 (Begins-query_text query fragment)
+    authority_lies text scheme a path (query_text query fragment) (sym split.whole) utf8
+    split.authority.1 (Begins-query_text query fragment)
 
 pub rooted_of : (authority : Option (List ℕ)) (path : List ℕ)
     → IfSome authority (λ a. Lacks (codes "/?#") a × IsRooted path)
@@ -218,16 +269,33 @@ pub rooted_of : (authority : Option (List ℕ)) (path : List ℕ)
 rooted_of None path some = tt
 rooted_of (Some a) path some = some.1
 
-path_at : (text : List ℕ) (p : Components) → IsSplitOf text p → IsUtf8 text
+pub path_at : (text : List ℕ) (p : Components) → IsSplitOf text p → IsUtf8 text
     → LiesAt text (positions_of p).path_start (positions_of p).path_end (Some p.path)
 path_at text p split utf8 =
-    path_lies text p.scheme p.authority p.path (query_text p.query p.fragment) (sym split.whole) utf8 (rooted_of p.authority p.path split.authority) (Begins-query_text p.query p.fragment)
+    path_lies text p.scheme p.authority p.path (query_text p.query p.fragment) (sym split.whole)
+    utf8 (rooted_of p.authority p.path split.authority) (Begins-query_text p.query p.fragment)
 
-query_at : (text : List ℕ) (scheme authority : Option (List ℕ)) (path : List ℕ)
+pub query_at : (text : List ℕ) (scheme authority : Option (List ℕ)) (path : List ℕ)
     (query fragment : Option (List ℕ))
-    → IsSplitOf text (record { scheme = scheme; authority = authority; path = path; query = query; fragment = fragment })
+    → IsSplitOf text (record {
+      scheme = scheme;
+      authority = authority;
+      path = path;
+      query =
+          query;
+      fragment = fragment;
+    })
     → IsUtf8 text
-    → (let at = positions_of (record { scheme = scheme; authority = authority; path = path; query = query; fragment = fragment }) in IfSome at.query_end (λ end. LiesAt text (at.path_end + 1) end query))
+    → (let at =
+    positions_of (record {
+      scheme = scheme;
+      authority = authority;
+      path = path;
+      query =
+          query;
+      fragment = fragment;
+    }) in
+    IfSome at.query_end (λ end. LiesAt text (at.path_end + 1) end query))
 query_at text scheme authority path None fragment split utf8 = tt
 query_at text scheme authority path (Some q) fragment split utf8 =
     let hierarchy : List ℕ = hierarchy_text scheme authority path in
@@ -235,7 +303,8 @@ query_at text scheme authority path (Some q) fragment split utf8 =
     ∙ hierarchy-append scheme authority path (query_text (Some q) fragment) in
     let n = length-hierarchy_text scheme authority path in
     let Lies : ℕ → Type 0 = λ k. LiesAt text (k + 1) (k + 1 + length q) (Some q) in
-    subst Lies n (query_lies text hierarchy q (fragment_text fragment) whole utf8 (Begins-fragment_text fragment))
+    subst Lies n (query_lies text hierarchy q (fragment_text fragment) whole utf8
+    (Begins-fragment_text fragment))
 
 -- the text up to a fragment
 abbrev pub before_hash : Components → List ℕ
@@ -246,86 +315,39 @@ pub length-before_hash : (p : Components)
 length-before_hash p =
     let path_end : ℕ = marked_length 1 p.scheme + marked_length 2 p.authority + length p.path in
     let n : length (before_hash p) ≡ path_end + marked_length 1 p.query =
-    omega (arith, length-append (hierarchy_text p.scheme p.authority p.path) (marked (codes "?") p.query []), length-hierarchy_text p.scheme p.authority p.path, length-query_text p.query) in
+    omega (
+      arith,
+      length-append (hierarchy_text p.scheme p.authority p.path)
+          (marked (codes "?") p.query []),
+      length-hierarchy_text p.scheme p.authority p.path,
+      length-query_text p.query,
+    ) in
     n ∙ sym (end-query path_end p.query)
 
 pub recompose-before_hash : (p : Components)
     → recompose p ≡ before_hash p ++ fragment_text p.fragment
 recompose-before_hash p =
     hierarchy-append p.scheme p.authority p.path (query_text p.query p.fragment)
-    ∙ sym (append_assoc (hierarchy_text p.scheme p.authority p.path) (marked (codes "?") p.query []) (fragment_text p.fragment))
+    ∙ sym (append_assoc (hierarchy_text p.scheme p.authority p.path) (marked (codes "?") p.query [])
+    (fragment_text p.fragment))
 
 pub before_hash-append : (text : List ℕ) (p : Components) → IsSplitOf text p
     → text ≡ before_hash p ++ fragment_text p.fragment
 before_hash-append text p split = sym split.whole ∙ recompose-before_hash p
 
 -- a text is longer than what stands before its fragment only where it has one
-fragment_there : (text before : List ℕ) (fragment : Option (List ℕ))
+pub fragment_there : (text before : List ℕ) (fragment : Option (List ℕ))
     → text ≡ before ++ fragment_text fragment
     → nat_lt (length before) (length text) ≡ is_some fragment
-fragment_there text before None whole = le-ltb (length before) (length text) (omega (arith, ap length whole, length-append before []))
-fragment_there text before (Some f) whole = lt-ltb (length before) (length text) (omega (arith, ap length whole, length-append before (fragment_text (Some f))))
+fragment_there text before None whole =
+    le-ltb (length before) (length text) (omega (arith, ap length whole, length-append before []))
+fragment_there text before (Some f) whole =
+    lt-ltb (length before) (length text)
+    (omega (arith, ap length whole, length-append before (fragment_text (Some f))))
 
-fragment_at : (text before : List ℕ) (fragment : Option (List ℕ))
+pub fragment_at : (text before : List ℕ) (fragment : Option (List ℕ))
     → text ≡ before ++ fragment_text fragment → IsUtf8 text → length before < length text
     → LiesAt text (length before + 1) (length text) fragment
-fragment_at text before None whole utf8 less = absurd (omega (arith, ap length whole, length-append before []))
+fragment_at text before None whole utf8 less =
+    absurd (omega (arith, ap length whole, length-append before []))
 fragment_at text before (Some f) whole utf8 less = fragment_lies text before f whole utf8
-
--- for callers: the components of a text at their positions
-pub path_place : (text : List ℕ) (p : Positions) → IsUtf8 text → AreAt text p
-    → LiesAt text p.path_start p.path_end (Some (components text).path)
-path_place text p utf8 at =
-    let Lies : Positions → Type 0 = λ q. LiesAt text q.path_start q.path_end (Some (components text).path) in
-    subst Lies (sym at) (path_at text (components text) (IsSplitOf-components text) utf8)
-
-pub authority_place : (text : List ℕ) (p : Positions) → IsUtf8 text → AreAt text p
-    → (a : AuthorityPositions) → p.authority ≡ Some a
-    → LiesAt text a.start a.end (components text).authority
-authority_place text p utf8 at a here =
-    let c = components text in
-    let split = IsSplitOf-components text in
-    let found = sym (ap (λ (q : Positions). q.authority) at) ∙ here in
-    MatchOption-at_some (Unit {0}) (λ a. LiesAt text a.start a.end c.authority) a found (authority_at text c.scheme c.authority c.path c.query c.fragment split utf8)
-
-pub query_place : (text : List ℕ) (p : Positions) → IsUtf8 text → AreAt text p → (end : ℕ)
-    → p.query_end ≡ Some end → LiesAt text (p.path_end + 1) end (components text).query
-query_place text p utf8 at end here =
-    let c = components text in
-    let split = IsSplitOf-components text in
-    let found = sym (ap (λ (q : Positions). q.query_end) at) ∙ here in
-    let Lies : Positions → Type 0 = λ q. LiesAt text (q.path_end + 1) end c.query in
-    subst Lies (sym at) (MatchOption-at_some (Unit {0}) (λ end. LiesAt text ((positions_of c).path_end + 1) end c.query) end found (query_at text c.scheme c.authority c.path c.query c.fragment split utf8))
-
-pub has_fragment : (text : List ℕ) (p : Positions) → AreAt text p → (mark : ℕ)
-    → mark ≡ before_fragment p → nat_lt mark (length text) ≡ is_some (components text).fragment
-has_fragment text p at mark here =
-    let c = components text in
-    let n = length-before_hash c ∙ sym (here ∙ ap before_fragment at) in
-    let Has : ℕ → Type 0 = λ k. nat_lt k (length text) ≡ is_some c.fragment in
-    subst Has n (fragment_there text (before_hash c) c.fragment (before_hash-append text c (IsSplitOf-components text)))
-
-pub fragment_place : (text : List ℕ) (p : Positions) → IsUtf8 text → AreAt text p → (mark : ℕ)
-    → mark ≡ before_fragment p → mark < length text
-    → LiesAt text (mark + 1) (length text) (components text).fragment
-fragment_place text p utf8 at mark here less =
-    let c = components text in
-    let n = length-before_hash c ∙ sym (here ∙ ap before_fragment at) in
-    let Lies : ℕ → Type 0 = λ k. k < length text → LiesAt text (k + 1) (length text) c.fragment in
-    subst Lies n (fragment_at text (before_hash c) c.fragment (before_hash-append text c (IsSplitOf-components text)) utf8) less
-
--- the same, as the slice that runs to the end
-pub fragment_bytes : (text : List ℕ) (p : Positions) → IsUtf8 text → AreAt text p → (mark : ℕ)
-    → mark ≡ before_fragment p → mark < length text
-    → Some (drop (mark + 1) text) ≡ (components text).fragment
-fragment_bytes text p utf8 at mark here less =
-    let all : take (length text - (mark + 1)) (drop (mark + 1) text) ≡ drop (mark + 1) text = take_all (length text - (mark + 1)) (drop (mark + 1) text) (omega (arith, length-drop {A = ℕ})) in
-    ap Some (sym all) ∙ (fragment_place text p utf8 at mark here less).holds
-
-none_of : (fragment : Option (List ℕ)) → is_some fragment ≡ false → fragment ≡ None
-none_of None h = refl
-none_of (Some f) h = cc
-
-pub no_fragment_place : (text : List ℕ) (p : Positions) → AreAt text p → (mark : ℕ)
-    → mark ≡ before_fragment p → length text ≤ mark → (components text).fragment ≡ None
-no_fragment_place text p at mark here more = none_of (components text).fragment (sym (has_fragment text p at mark here) ∙ le-ltb mark (length text) more)

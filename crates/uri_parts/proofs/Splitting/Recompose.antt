@@ -39,7 +39,9 @@ scheme_whole text = ⊎_elim
     (λ h.
     let back = from_any (codes ":/?#") text in
     let before = before_any (codes ":/?#") text in
-    rw h (append_assoc before (codes ":") (drop 1 back) ∙ ap (λ t. before ++ t) (sym (starts-cons 58 back (and_parts _ _ h).0)) ∙ (IsCut-any (codes ":/?#") text).whole))
+    rw h (append_assoc before (codes ":") (drop 1 back)
+    ∙ ap (λ t. before ++ t) (sym (starts-cons 58 back (and_parts _ _ h).0))
+    ∙ (IsCut-any (codes ":/?#") text).whole))
     (λ h. rw h refl)
     (cases_Bool (has_scheme text))
 
@@ -50,7 +52,8 @@ authority_whole : (rest : List ℕ)
 authority_whole rest = ⊎_elim
     (λ h.
     let behind = drop 2 rest in
-    rw h (ap (λ t. 47 ∷ 47 ∷ (t ++ from_any (codes "/?#") behind)) (append-nil (before_any (codes "/?#") behind))
+    rw h (ap (λ t. 47 ∷ 47 ∷ (t ++ from_any (codes "/?#") behind))
+    (append-nil (before_any (codes "/?#") behind))
     ∙ ap (λ t. 47 ∷ 47 ∷ t) (IsCut-any (codes "/?#") behind).whole
     ∙ sym (has_authority-cons rest h)))
     (λ h. rw h refl)
@@ -63,7 +66,8 @@ query_whole : (end : List ℕ)
 query_whole end = ⊎_elim
     (λ h.
     let behind = drop 1 end in
-    rw h (ap (λ t. 63 ∷ (t ++ from_any (codes "#") behind)) (append-nil (before_any (codes "#") behind))
+    rw h (ap (λ t. 63 ∷ (t ++ from_any (codes "#") behind))
+    (append-nil (before_any (codes "#") behind))
     ∙ ap (λ t. 63 ∷ t) (IsCut-any (codes "#") behind).whole ∙ sym (starts-cons 63 end h)))
     (λ h. rw h refl)
     (cases_Bool (starts 63 end))
@@ -95,9 +99,13 @@ recompose-components text =
     let p = components text in
     let path = IsCut-any (codes "?#") tail in
     let fragment = fragment_whole (after_query end) (Begins-after_query end path.begins) in
-    ap (λ t. marked [] p.scheme (codes ":") ++ (marked (codes "//") p.authority [] ++ (p.path ++ (marked (codes "?") p.query [] ++ t)))) fragment
-    ∙ ap (λ t. marked [] p.scheme (codes ":") ++ (marked (codes "//") p.authority [] ++ (p.path ++ t))) (query_whole end)
-    ∙ ap (λ t. marked [] p.scheme (codes ":") ++ (marked (codes "//") p.authority [] ++ t)) path.whole
+    ap (λ t. marked [] p.scheme (codes ":")
+    ++ (marked (codes "//") p.authority [] ++ (p.path ++ (marked (codes "?") p.query [] ++ t))))
+    fragment
+    ∙ ap (λ t. marked [] p.scheme (codes ":")
+    ++ (marked (codes "//") p.authority [] ++ (p.path ++ t))) (query_whole end)
+    ∙ ap (λ t. marked [] p.scheme (codes ":") ++ (marked (codes "//") p.authority [] ++ t))
+    path.whole
     ∙ ap (λ t. marked [] p.scheme (codes ":") ++ t) (authority_whole rest)
     ∙ scheme_whole text
 
@@ -113,7 +121,10 @@ scheme_fits text = ⊎_elim
     let cut = IsCut-any (codes ":/?#") text in
     let tests = and_parts _ _ h in
     let first = ap (starts 58) cut.whole ∙ not_true _ tests.1 in
-    rw h (not_first (before_any (codes ":/?#") text) (from_any (codes ":/?#") text) tests.0 first, cut.lacks))
+    rw h (
+      not_first (before_any (codes ":/?#") text) (from_any (codes ":/?#") text) tests.0 first,
+      cut.lacks,
+    ))
     (λ h. rw h tt)
     (cases_Bool (has_scheme text))
 
@@ -138,7 +149,11 @@ authority_fits rest = ⊎_elim
     let tail = from_any (codes "/?#") (drop 2 rest) in
     let path = IsCut-any (codes "?#") tail in
     let begins = subst (Begins (codes "/?#")) (sym path.whole) cut.begins in
-    rw h (cut.lacks, rooted_front (before_any (codes "?#") tail) (from_any (codes "?#") tail) path.lacks begins))
+    rw h (
+      cut.lacks,
+      rooted_front (before_any (codes "?#") tail) (from_any (codes "?#") tail)
+          path.lacks begins,
+    ))
     (λ h. rw h tt)
     (cases_Bool (has_authority rest))
 
@@ -149,12 +164,15 @@ no_authority_fits rest = ⊎_elim
     (λ h. rw h tt)
     (λ h.
     let path = IsCut-any (codes "?#") rest in
-    rw h (sym (has_authority-append (before_any (codes "?#") rest) (from_any (codes "?#") rest) path.begins) ∙ ap has_authority path.whole ∙ h))
+    rw h
+    (sym (has_authority-append (before_any (codes "?#") rest) (from_any (codes "?#") rest)
+    path.begins) ∙ ap has_authority path.whole ∙ h))
     (cases_Bool (has_authority rest))
 
 query_fits : (end : List ℕ)
     → IfSome (when (starts 63 end) (before_any (codes "#") (drop 1 end))) (λ q. Lacks (codes "#") q)
-query_fits end = ⊎_elim (λ h. rw h (IsCut-any (codes "#") (drop 1 end)).lacks) (λ h. rw h tt) (cases_Bool (starts 63 end))
+query_fits end = ⊎_elim (λ h. rw h (IsCut-any (codes "#") (drop 1 end)).lacks) (λ h. rw h tt)
+    (cases_Bool (starts 63 end))
 
 pub IsSplitOf-components : (text : List ℕ) → IsSplitOf text (components text)
 IsSplitOf-components text =

@@ -27,7 +27,8 @@ pub stops_at : (marks : List ℕ) (mark : ℕ) → is_one_of marks mark ≡ true
     → LacksPercent set → excludes set marks ≡ true → (bs : List ℕ) → IsUtf8 bs
     → starts mark (after set bs) ≡ true → front set bs ≡ to_mark marks bs
 stops_at marks mark m set lacks outside bs u e = ⊎_elim (λ h. h)
-    (λ w. absurd (both_ways _ w.other (ap (is_one_of marks) (eqb-true w.byte mark (sym (ap (starts mark) w.left) ∙ e)) ∙ m)))
+    (λ w. absurd (both_ways _ w.other
+    (ap (is_one_of marks) (eqb-true w.byte mark (sym (ap (starts mark) w.left) ∙ e)) ∙ m)))
     (stop_cases marks set lacks outside bs u)
 
 pub stops_at_colon : (set : TableSet) → LacksPercent set → excludes set (codes ":/?#") ≡ true
@@ -39,12 +40,14 @@ stops_at_colon = stops_at (codes ":/?#") 58 refl
 pub at_colon : (set : TableSet) → LacksPercent set → excludes set (codes ":/?#") ≡ true
     → (bs : List ℕ) → starts 58 bs ≡ true → after set bs ≡ bs
 at_colon set lacks outside [] e = absurd (false≢true e)
-at_colon set lacks outside (b ∷ rest) e = ap (λ n. drop n (b ∷ rest)) (front_zero_mark (codes ":/?#") set lacks outside b rest (ap (is_one_of (codes ":/?#")) (eqb-true b 58 e)))
+at_colon set lacks outside (b ∷ rest) e =
+    ap (λ n. drop n (b ∷ rest)) (front_zero_mark (codes ":/?#") set lacks outside b rest
+    (ap (is_one_of (codes ":/?#")) (eqb-true b 58 e)))
 
-four_of_two : (b : ℕ) → is_one_of (codes "?#") b ≡ true → is_one_of (codes ":/?#") b ≡ true
+pub four_of_two : (b : ℕ) → is_one_of (codes "?#") b ≡ true → is_one_of (codes ":/?#") b ≡ true
 four_of_two b q = grind (arith, nat_tests)
 
-no_colon_two : (b : ℕ) → is_one_of (codes "?#") b ≡ true → eqb b 58 ≡ false
+pub no_colon_two : (b : ℕ) → is_one_of (codes "?#") b ≡ true → eqb b 58 ≡ false
 no_colon_two b q = grind (arith, nat_tests)
 
 four_of_slash : (b : ℕ) → is_one_of (codes "/") b ≡ true → is_one_of (codes ":/?#") b ≡ true
@@ -64,26 +67,38 @@ any_colon [] = refl
 any_colon (b ∷ rest) =
     let F = before_any (codes "?#") rest in
     ⊎_elim
-    (λ q. ap has_colon_first (before_at_mark (codes "?#") b rest q) ∙ sym (ap (starts 58) (from_at_mark (codes ":/?#") b rest (four_of_two b q)) ∙ no_colon_two b q))
+    (λ q. ap has_colon_first (before_at_mark (codes "?#") b rest q)
+    ∙ sym (ap (starts 58) (from_at_mark (codes ":/?#") b rest (four_of_two b q))
+    ∙ no_colon_two b q))
     (λ q. ap has_colon_first (before_past_other (codes "?#") b rest q) ∙ ⊎_elim
-    (λ s. ap (list_any (λ c. eqb c 58)) (before_at_mark (codes "/") b F s) ∙ sym (ap (starts 58) (from_at_mark (codes ":/?#") b rest (four_of_slash b s)) ∙ no_colon_slash b s))
+    (λ s. ap (list_any (λ c. eqb c 58)) (before_at_mark (codes "/") b F s)
+    ∙ sym (ap (starts 58) (from_at_mark (codes ":/?#") b rest (four_of_slash b s))
+    ∙ no_colon_slash b s))
     (λ s. ap (list_any (λ c. eqb c 58)) (before_past_other (codes "/") b F s) ∙ ⊎_elim
-    (λ c. or_left _ _ c ∙ sym (ap (starts 58) (from_at_mark (codes ":/?#") b rest (ap (is_one_of (codes ":/?#")) (eqb-true b 58 c))) ∙ c))
-    (λ c. ap (λ t. t || has_colon_first F) c ∙ any_colon rest ∙ sym (ap (starts 58) (from_past_other (codes ":/?#") b rest (no_four b q s c))))
+    (λ c. or_left _ _ c
+    ∙ sym
+    (ap (starts 58) (from_at_mark (codes ":/?#") b rest
+    (ap (is_one_of (codes ":/?#")) (eqb-true b 58 c))) ∙ c))
+    (λ c. ap (λ t. t || has_colon_first F) c ∙ any_colon rest
+    ∙ sym (ap (starts 58) (from_past_other (codes ":/?#") b rest (no_four b q s c))))
     (cases_Bool (eqb b 58)))
     (cases_Bool (is_one_of (codes "/") b)))
     (cases_Bool (is_one_of (codes "?#") b))
 
 from_colon : (bs : List ℕ) → starts 58 bs ≡ true → from_any (codes ":/?#") bs ≡ bs
 from_colon [] e = refl
-from_colon (b ∷ rest) e = from_at_mark (codes ":/?#") b rest (ap (is_one_of (codes ":/?#")) (eqb-true b 58 e))
+from_colon (b ∷ rest) e = from_at_mark (codes ":/?#") b rest
+    (ap (is_one_of (codes ":/?#")) (eqb-true b 58 e))
 
 -- with no scheme, that is where the text begins with `:`
 pub colon_first : (bs : List ℕ) → has_scheme bs ≡ false
     → has_colon_first (before_any (codes "?#") bs) ≡ starts 58 bs
 colon_first bs e = any_colon bs ∙ ⊎_elim
-    (λ s. s ∙ sym (⊎_elim (λ f. absurd (both_ways _ f s)) (λ f. not-false _ f) (and_cases (starts 58 (from_any (codes ":/?#") bs)) _ e)))
-    (λ s. s ∙ sym (false_from_ne_true _ (λ t. both_ways _ s (ap (starts 58) (from_colon bs t) ∙ t))))
+    (λ s. s
+    ∙ sym (⊎_elim (λ f. absurd (both_ways _ f s)) (λ f. not-false _ f)
+    (and_cases (starts 58 (from_any (codes ":/?#") bs)) _ e)))
+    (λ s. s
+    ∙ sym (false_from_ne_true _ (λ t. both_ways _ s (ap (starts 58) (from_colon bs t) ∙ t))))
     (cases_Bool (starts 58 (from_any (codes ":/?#") bs)))
 
 pub scheme_lacks : LacksPercent scheme_set
@@ -97,9 +112,16 @@ module _ (segment : TableSet) (kind : Kind) (w : Separates segment kind) where
       → starts 58 (after segment bs) ≡ starts 58 bs
   colon_same bs u e = ⊎_elim
       (λ s. s ∙ sym (⊎_elim
-      (λ f. absurd (both_ways _ f (sym (ap (λ n. starts 58 (drop n bs)) (stops_at_colon segment w.segment_lacks w.segment_marks bs u s)) ∙ s)))
+      (λ f.
+      absurd
+      (both_ways _ f
+      (sym (ap (λ n. starts 58 (drop n bs))
+      (stops_at_colon segment w.segment_lacks w.segment_marks bs u s)) ∙ s)))
       (λ f. not-false _ f) (and_cases (starts 58 (from_any (codes ":/?#") bs)) _ e)))
-      (λ s. s ∙ sym (false_from_ne_true _ (λ t. both_ways _ s (ap (starts 58) (at_colon segment w.segment_lacks w.segment_marks bs t) ∙ t))))
+      (λ s. s
+      ∙ sym
+      (false_from_ne_true _ (λ t. both_ways _ s
+      (ap (starts 58) (at_colon segment w.segment_lacks w.segment_marks bs t) ∙ t))))
       (cases_Bool (starts 58 (after segment bs)))
 
   -- where the first segment stops at no colon, the path stops too
@@ -108,13 +130,17 @@ module _ (segment : TableSet) (kind : Kind) (w : Separates segment kind) where
   stuck_too b rest e z =
       let c = front_cons segment b rest in
       front_cons kind.path b rest
-      ∙ ap (λ t. cond (t && eqb b 37) (cond (begins_hex rest) (front_from kind.path 2 rest + 1) 0) (cond (allows_first kind.path b rest) (front_from kind.path (continuation_len b) rest + 1) 0)) w.octets
+      ∙ ap (λ t. cond (t && eqb b 37) (cond (begins_hex rest) (front_from kind.path 2 rest + 1) 0)
+      (cond (allows_first kind.path b rest) (front_from kind.path (continuation_len b) rest + 1)
+      0)) w.octets
       ∙ ⊎_elim
       (λ o. cond-true _ _ _ o ∙ ⊎_elim
-      (λ h. absurd (none_read (front_from segment 2 rest) (sym (cond-true _ _ _ h) ∙ sym (cond-true _ _ _ o) ∙ sym c ∙ z)))
+      (λ h. absurd (none_read (front_from segment 2 rest)
+      (sym (cond-true _ _ _ h) ∙ sym (cond-true _ _ _ o) ∙ sym c ∙ z)))
       (λ h. cond-false _ _ _ h) (cases_Bool (begins_hex rest)))
       (λ o. cond-false _ _ _ o ∙ ⊎_elim
-      (λ a. absurd (none_read (front_from segment (continuation_len b) rest) (sym (cond-true _ _ _ a) ∙ sym (cond-false _ _ _ o) ∙ sym c ∙ z)))
+      (λ a. absurd (none_read (front_from segment (continuation_len b) rest)
+      (sym (cond-true _ _ _ a) ∙ sym (cond-false _ _ _ o) ∙ sym c ∙ z)))
       (λ a. cond-false _ _ _ (w.rest b rest e a)) (cases_Bool (allows_first segment b rest)))
       (cases_Bool (segment.pct_encoded && eqb b 37))
 
@@ -124,7 +150,9 @@ module _ (segment : TableSet) (kind : Kind) (w : Separates segment kind) where
   path_stuck b rest e z =
       let p = none_of_four b e in
       let r : List ℕ = after kind.path (b ∷ rest) in
-      and_right (not (is_stray kind.path r)) (reads_end kind r) (ap (λ n. reads_end kind (drop n (b ∷ rest))) (stuck_too b rest p.0 z) ∙ end_stuck segment kind w b rest p.1)
+      and_right (not (is_stray kind.path r)) (reads_end kind r)
+      (ap (λ n. reads_end kind (drop n (b ∷ rest))) (stuck_too b rest p.0 z)
+      ∙ end_stuck segment kind w b rest p.1)
 
   pub after_within : (bs : List ℕ) → after kind.path (after segment bs) ≡ after kind.path bs
   after_within bs = drop-drop (front kind.path (after segment bs)) (front segment bs) bs
@@ -139,7 +167,8 @@ module _ (segment : TableSet) (kind : Kind) (w : Separates segment kind) where
   unfolding reads_path
   percent_path [] e z s = absurd (false≢true e)
   percent_path (b ∷ rest) e z s =
-      let marks : is_one_of (codes ":/") b ≡ false = ap (is_one_of (codes ":/")) (eqb-true b 37 e) in
+      let marks : is_one_of (codes ":/") b ≡ false =
+      ap (is_one_of (codes ":/")) (eqb-true b 37 e) in
       let n = stuck_too b rest marks z in
       let stray : is_stray kind.path (b ∷ rest) ≡ true = ap (λ t. t && eqb b 37) w.octets ∙ s in
       ap (λ n. not (is_stray kind.path (drop n (b ∷ rest))) && reads_end kind (drop n (b ∷ rest))) n
@@ -150,7 +179,10 @@ module _ (segment : TableSet) (kind : Kind) (w : Separates segment kind) where
       → (not (is_stray segment (after segment bs)) && (x && reads_path kind (after segment bs)))
       ≡ (x && reads_path kind (after segment bs))
   no_matter bs x = ⊎_elim
-      (λ s. and_left _ _ (not_from_true _ s) ∙ sym (and_right _ _ (percent_path (after segment bs) (and_parts _ _ s).1 (front-after segment bs) s)))
+      (λ s. and_left _ _ (not_from_true _ s)
+      ∙ sym
+      (and_right _ _
+      (percent_path (after segment bs) (and_parts _ _ s).1 (front-after segment bs) s)))
       (λ s. ap (λ t. not t && (x && reads_path kind (after segment bs))) s)
       (cases_Bool (is_stray segment (after segment bs)))
 
@@ -168,7 +200,8 @@ module _ (segment : TableSet) (kind : Kind) (w : Separates segment kind) where
   relative_false bs u e =
       no_matter bs (not (starts 58 (after segment bs)))
       ∙ ⊎_elim
-      (λ h. and_left _ _ (not_from_true _ (ap (λ n. starts 58 (drop n bs)) h ∙ (and_parts _ _ e).0)))
+      (λ h.
+      and_left _ _ (not_from_true _ (ap (λ n. starts 58 (drop n bs)) h ∙ (and_parts _ _ e).0)))
       (λ s. and_right _ _ (ap (reads_path kind) s.left ∙ path_stuck s.byte s.rest s.other s.stuck))
       (stop_cases (codes ":/?#") segment w.segment_lacks w.segment_marks bs u)
 
@@ -180,4 +213,5 @@ module _ (segment : TableSet) (kind : Kind) (w : Separates segment kind) where
   pub relative_within : (bs : List ℕ)
       → reads_relative segment kind (after scheme_set bs) ≡ reads_relative segment kind bs
   unfolding reads_relative
-  relative_within bs = ap (λ r. not (is_stray segment r) && (not (starts 58 r) && reads_path kind r)) (segment_within bs)
+  relative_within bs = ap (λ r. not (is_stray segment r)
+      && (not (starts 58 r) && reads_path kind r)) (segment_within bs)

@@ -56,7 +56,8 @@ first_rest : (ucschar : Bool) (b : ℕ) (bs : List ℕ) → is_one_of (codes ":/
     → allows_first (international ucschar path_set) b bs ≡ false
 unfolding allows_first allows_past_ascii
 first_rest ucschar b bs m e = ⊎_elim
-    (λ h. let l = lt-ltb b 128 h in cond-true _ _ _ l ∙ path_in_segment b m (sym (cond-true _ _ _ l) ∙ e))
+    (λ h. let l = lt-ltb b 128 h in cond-true _ _ _ l
+    ∙ path_in_segment b m (sym (cond-true _ _ _ l) ∙ e))
     (λ h. let l = le-ltb b 128 h in cond-false _ _ _ l ∙ (sym (cond-false _ _ _ l) ∙ e))
     (cases_lt b 128)
 
@@ -77,12 +78,37 @@ separates ucschar iprivate needs_scheme = record {
   query_marks = refl;
   segment_marks = refl;
   userinfo_starts = refl;
-  name_within = record { ascii = name_in_userinfo; pct_encoded = λ e. e; ucschar = λ e. e; iprivate = λ e. e };
-  digits_within = record { ascii = digit_in_userinfo; pct_encoded = λ e. refl; ucschar = λ e. absurd (cc e); iprivate = λ e. e };
+  name_within = record {
+    ascii = name_in_userinfo;
+    pct_encoded = λ e. e;
+    ucschar =
+        λ e. e;
+    iprivate = λ e. e;
+  };
+  digits_within = record {
+    ascii = digit_in_userinfo;
+    pct_encoded = λ e. refl;
+    ucschar =
+        λ e. absurd (cc e);
+    iprivate = λ e. e;
+  };
   colon_within = refl;
-  address_within = record { ascii = λ c e. e; pct_encoded = λ e. e; ucschar = λ e. absurd (cc e); iprivate = λ e. e };
-  scheme_within = record { ascii = scheme_in_segment; pct_encoded = λ e. refl; ucschar = λ e. absurd (cc e); iprivate = λ e. e };
-  within = record { ascii = segment_in_path; pct_encoded = λ e. e; ucschar = λ e. e; iprivate = λ e. e };
+  address_within = record {
+    ascii = λ c e. e;
+    pct_encoded = λ e. e;
+    ucschar =
+        λ e. absurd (cc e);
+    iprivate = λ e. e;
+  };
+  scheme_within = record {
+    ascii = scheme_in_segment;
+    pct_encoded = λ e. refl;
+    ucschar =
+        λ e. absurd (cc e);
+    iprivate = λ e. e;
+  };
+  within =
+      record { ascii = segment_in_path; pct_encoded = λ e. e; ucschar = λ e. e; iprivate = λ e. e };
   octets = refl;
   rest = first_rest ucschar;
 }
@@ -90,8 +116,10 @@ separates ucschar iprivate needs_scheme = record {
 one_separates : (international needs_scheme : Bool) (kind : Kind)
     → kind ≡ one_of_four international needs_scheme → kind.path.ucschar ≡ international
     → Separates (first_segment_set kind) kind
-one_separates false needs_scheme kind e u = subst (λ k. Separates (first_segment_set k) k) (sym e) (separates false false needs_scheme)
-one_separates true needs_scheme kind e u = subst (λ k. Separates (first_segment_set k) k) (sym e) (separates true true needs_scheme)
+one_separates false needs_scheme kind e u =
+    subst (λ k. Separates (first_segment_set k) k) (sym e) (separates false false needs_scheme)
+one_separates true needs_scheme kind e u =
+    subst (λ k. Separates (first_segment_set k) k) (sym e) (separates true true needs_scheme)
 
 -- each of the four kinds does
 pub known_separates : (kind : Kind) → kind ≡ one_of_four kind.path.ucschar kind.needs_scheme
@@ -111,7 +139,8 @@ needed_or_not needed false other h = (and_parts (not needed) other h).1
 
 pub scheme_there : (kind : Kind) (text : List ℕ) → kind.needs_scheme ≡ true → IsOfKind kind text
     → is_some (components text).scheme ≡ true
-scheme_there kind text n h = with_scheme kind.needs_scheme (is_some (components text).scheme) _ n (and_parts _ _ h).1
+scheme_there kind text n h = with_scheme kind.needs_scheme (is_some (components text).scheme) _ n
+    (and_parts _ _ h).1
 
 pub is_reference : (kind : Kind) (text : List ℕ) → IsOfKind kind text
     → IsOfKind (record kind { needs_scheme = false }) text

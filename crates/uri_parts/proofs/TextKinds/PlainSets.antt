@@ -18,7 +18,8 @@ plain_step : (test : ℕ → Bool) (b : ℕ) (bs : List ℕ)
 unfolding allows_past_ascii
 plain_step test b bs = valid_cons (plain test) b bs ∙ ⊎_elim
     (λ h.
-    ap (λ t. t && valid_from (plain test) (continuation_len b) bs) (allows_first-ascii (plain test) b bs h)
+    ap (λ t. t && valid_from (plain test) (continuation_len b) bs)
+    (allows_first-ascii (plain test) b bs h)
     ∙ ap (λ n. test b && valid_from (plain test) n bs) (cond-true _ _ _ (lt-ltb b 128 h))
     ∙ ap (λ t. (t && test b) && valid_from (plain test) 0 bs) (sym (lt-ltb b 128 h)))
     (λ h.

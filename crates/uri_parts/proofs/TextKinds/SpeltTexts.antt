@@ -34,13 +34,15 @@ utf8_apart xs c ys h u =
 -- a mark is no character of a set that excludes it
 pub mark_outside : (set : TableSet) (marks : List ℕ) → excludes set marks ≡ true → (c : ℕ)
     → is_one_of marks c ≡ true → set.ascii c ≡ false
-mark_outside set marks outside c m = not-true _ (and_parts _ _ (and_parts _ _ (of_each _ marks outside c m)).1).0
+mark_outside set marks outside c m =
+    not-true _ (and_parts _ _ (and_parts _ _ (of_each _ marks outside c m)).1).0
 
 -- what a set spells lacks the marks that the set excludes
 pub valid_lacks : (set : TableSet) (marks : List ℕ) → LacksPercent set → excludes set marks ≡ true
     → (text : List ℕ) → IsUtf8 text → is_valid_for set text ≡ true → Lacks marks text
 valid_lacks set marks lacks outside text u valid =
-    let read : front set text ≡ length text = eqb-true _ _ (sym (valid_where_read set text lacks u) ∙ valid) in
+    let read : front set text ≡ length text =
+    eqb-true _ _ (sym (valid_where_read set text lacks u) ∙ valid) in
     let le : front set text ≤ to_mark marks text = front_le_mark marks set lacks outside text u in
     let whole : before_any marks text ≡ text = take_all _ text (omega arith) in
     subst (Lacks marks) whole (IsCut-any marks text).lacks

@@ -50,12 +50,12 @@ literal_length rest = length (literal_before rest) + 1
 unfoldable pub reads_marked : TableSet → ℕ → List ℕ → Bool
 reads_marked set mark rest = nat_lt 0 (front set rest) && starts mark (after set rest)
 
-unfoldable pub marked_length : TableSet → List ℕ → ℕ
-marked_length set rest = front set rest + 1
+unfoldable pub length_to_mark : TableSet → List ℕ → ℕ
+length_to_mark set rest = front set rest + 1
 
 -- what is left behind a version and its `.`
 abbrev pub behind_version : List ℕ → List ℕ
-behind_version rest = drop (marked_length hexdig_set rest) rest
+behind_version rest = drop (length_to_mark hexdig_set rest) rest
 
 -- behind a `v`, the rest of an IPvFuture address and `]` come first
 unfoldable pub reads_future : List ℕ → Bool
@@ -65,7 +65,7 @@ reads_future rest =
 
 unfoldable pub future_length : List ℕ → ℕ
 future_length rest =
-    marked_length hexdig_set rest + marked_length ipv_future_set (behind_version rest)
+    length_to_mark hexdig_set rest + length_to_mark ipv_future_set (behind_version rest)
 
 -- the refusal of a text that lacks something there
 pub record IsMissing (text : List ℕ) (e : ParseError) : Type 0 where

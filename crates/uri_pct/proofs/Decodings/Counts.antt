@@ -23,7 +23,8 @@ length-onto_chunks text (Byte value ∷ ps) = omega arith
 length-chunks_of : (ts : List Token) → length (chunks_of ts) ≤ length ts
 unfolding chunks_of
 length-chunks_of [] = omega arith
-length-chunks_of (Char c ∷ ts) = omega (arith, length-chunks_of ts, length-onto_chunks (encode_utf8 c) (chunks_of ts))
+length-chunks_of (Char c ∷ ts) =
+    omega (arith, length-chunks_of ts, length-onto_chunks (encode_utf8 c) (chunks_of ts))
 length-chunks_of (Octet value ∷ ts) = omega (arith, length-chunks_of ts)
 
 length-tokens_of : (cs : List ℕ) → length (tokens_of cs) ≤ length cs
@@ -32,11 +33,20 @@ length-tokens_of [] = omega arith
 length-tokens_of (c ∷ []) = omega arith
 length-tokens_of (c ∷ d ∷ []) = omega arith
 length-tokens_of (c ∷ high ∷ low ∷ rest) =
-    elim (is_pct_encoded c high low) as (λ t. length (cond t (Octet (16 * digit_value high + digit_value low) ∷ tokens_of rest) (Char c ∷ tokens_of (high ∷ low ∷ rest))) ≤ length (c ∷ high ∷ low ∷ rest)) [
+    elim (is_pct_encoded c high low)
+    as (λ t. length (cond t (Octet (16 * digit_value high + digit_value low) ∷ tokens_of rest)
+    (Char c ∷ tokens_of (high ∷ low ∷ rest))) ≤ length (c ∷ high ∷ low ∷ rest)) [
       | true ↦ omega (arith, length-tokens_of rest)
       | false ↦ omega (arith, length-tokens_of (high ∷ low ∷ rest))
     ]
 
 pub length-chunks : (text : List ℕ) → IsUtf8 text → length (chunks text) ≤ length text
 length-chunks text u =
-    omega (arith, length-chunks_of (tokens text), length-tokens_of (chars text), length-le-encodes (chars text), ap length (encodes-chars text u))
+    omega (
+      arith,
+      length-chunks_of (tokens text),
+      length-tokens_of (chars text),
+      length-le-encodes
+          (chars text),
+      ap length (encodes-chars text u),
+    )

@@ -36,7 +36,8 @@ tokens_of-lacks (c ∷ cs) ds e =
 char_lacks : (c : ℕ) (cs : List ℕ) → lacks 37 (encode_utf8_all (c ∷ cs)) ≡ true
     → (eqb c 37 ≡ false) × (lacks 37 (encode_utf8_all cs) ≡ true)
 char_lacks c cs e =
-    let p = and_parts _ _ (sym (list_all-append (λ b. not (eqb b 37)) (encode_utf8 c) (encode_utf8_all cs)) ∙ e) in (
+    let p = and_parts _ _
+    (sym (list_all-append (λ b. not (eqb b 37)) (encode_utf8 c) (encode_utf8_all cs)) ∙ e) in (
       false_from_ne_true _ (λ q. let d = eqb-true c 37 q in
           let one : encode_utf8 37 ≡ 37 ∷ [] = encode_ascii 37 (omega arith) in
           false≢true (sym (ap (lacks 37) one) ∙ ap (λ x. lacks 37 (encode_utf8 x)) (sym d) ∙ p.0)),
@@ -45,7 +46,8 @@ char_lacks c cs e =
 
 chars_lack : (cs : List ℕ) → lacks 37 (encode_utf8_all cs) ≡ true → lacks 37 cs ≡ true
 chars_lack [] e = refl
-chars_lack (c ∷ cs) e = let p = char_lacks c cs e in and_from _ _ (not_from_false _ p.0) (chars_lack cs p.1)
+chars_lack (c ∷ cs) e = let p = char_lacks c cs e in
+    and_from _ _ (not_from_false _ p.0) (chars_lack cs p.1)
 
 -- the chunks of what characters precede
 onto-onto : (xs ys : List ℕ) (ps : List Chunk)
@@ -87,10 +89,12 @@ octet_is : (high low : ℕ) (cs : List ℕ) → all_scalars (high ∷ low ∷ cs
     → BeginsOctet (37 ∷ encode_utf8_all (high ∷ low ∷ cs))
 unfolding tokens_of is_pct_encoded is_valid_for
 octet_is high low cs s e v =
-    let digits = and_parts (is_ascii_hexdigit high) (is_ascii_hexdigit low) (and_parts (eqb 37 37) _ e).1 in
+    let digits = and_parts (is_ascii_hexdigit high) (is_ascii_hexdigit low)
+    (and_parts (eqb 37 37) _ e).1 in
     let one = encode_ascii high (hex_ascii high digits.0) in
     let two = encode_ascii low (hex_ascii low digits.1) in
-    let inner : all_scalars cs ≡ true = (and_parts _ (all_scalars cs) (and_parts _ (all_scalars (low ∷ cs)) s).1).1 in
+    let inner : all_scalars cs ≡ true =
+    (and_parts _ (all_scalars cs) (and_parts _ (all_scalars (low ∷ cs)) s).1).1 in
     let same : chars (encode_utf8_all cs) ≡ cs = chars-encodes cs inner in
     record {
       high = high;
@@ -99,11 +103,13 @@ octet_is high low cs s e v =
       spelt = rw (one, two) refl;
       high_digit = digits.0;
       low_digit = digits.1;
-      first = ap tokens_of (chars-ascii 37 (encode_utf8_all (high ∷ low ∷ cs)) (lit< tt) ∙ ap (λ x. 37 ∷ x) (chars-encodes (high ∷ low ∷ cs) s))
+      first = ap tokens_of (chars-ascii 37 (encode_utf8_all (high ∷ low ∷ cs)) (lit< tt)
+          ∙ ap (λ x. 37 ∷ x) (chars-encodes (high ∷ low ∷ cs) s))
           ∙ cond-true _ _ _ e
           ∙ ap (λ x. Octet (16 * digit_value high + digit_value low) ∷ tokens_of x) (sym same);
       valid = ap (λ x. list_all (allows_token widest_set) (tokens_of x)) same
-          ∙ (and_parts true _ (sym (ap (list_all (allows_token widest_set)) (cond-true _ _ _ e)) ∙ v)).1;
+          ∙ (and_parts true _ (sym (ap (list_all (allows_token widest_set)) (cond-true _ _ _ e))
+          ∙ v)).1;
     }
 
 octet_of : (cs : List ℕ) → all_scalars cs ≡ true
@@ -114,7 +120,8 @@ octet_of [] s v = absurd (percent_out [] v)
 octet_of (c ∷ []) s v = absurd (percent_out (Char c ∷ []) v)
 octet_of (high ∷ low ∷ cs) s v = ⊎_elim
     (λ e. octet_is high low cs s e v)
-    (λ e. absurd (percent_out (tokens_of (high ∷ low ∷ cs)) (sym (ap (list_all (allows_token widest_set)) (cond-false _ _ _ e)) ∙ v)))
+    (λ e. absurd (percent_out (tokens_of (high ∷ low ∷ cs))
+    (sym (ap (list_all (allows_token widest_set)) (cond-false _ _ _ e)) ∙ v)))
     (cases_Bool (is_pct_encoded 37 high low))
 
 octet_behind : (rest : List ℕ) → IsUtf8 rest → IsValidFor widest_set (37 ∷ rest)
@@ -122,15 +129,19 @@ octet_behind : (rest : List ℕ) → IsUtf8 rest → IsValidFor widest_set (37 �
 unfolding is_valid_for
 octet_behind rest u v =
     subst (λ x. BeginsOctet (37 ∷ x)) (encodes-chars rest u)
-    (octet_of (chars rest) (scalars-chars rest u) (sym (ap (λ cs. list_all (allows_token widest_set) (tokens_of cs)) (chars-ascii 37 rest (lit< tt))) ∙ v))
+    (octet_of (chars rest) (scalars-chars rest u)
+    (sym (ap (λ cs. list_all (allows_token widest_set) (tokens_of cs))
+    (chars-ascii 37 rest (lit< tt))) ∙ v))
 
 -- each `%` of a text that decodes begins an octet
 pub octet_first : (text : List ℕ) → IsUtf8 text → IsValidFor widest_set text → 0 < length text
     → get_or text 0 0 ≡ 37 → BeginsOctet text
 octet_first [] u v some e = absurd (omega arith)
 octet_first (b ∷ rest) u v some e =
-    let behind : IsUtf8 rest = IsUtf8-drop (b ∷ rest) 1 u (IsCharBoundary-after_ascii (b ∷ rest) 0 u some (omega arith)) in
-    subst (λ x. BeginsOctet (x ∷ rest)) (sym e) (octet_behind rest behind (ap (λ x. is_valid_for widest_set (x ∷ rest)) (sym e) ∙ v))
+    let behind : IsUtf8 rest = IsUtf8-drop (b ∷ rest) 1 u
+    (IsCharBoundary-after_ascii (b ∷ rest) 0 u some (omega arith)) in
+    subst (λ x. BeginsOctet (x ∷ rest)) (sym e)
+    (octet_behind rest behind (ap (λ x. is_valid_for widest_set (x ∷ rest)) (sym e) ∙ v))
 
 -- what begins with an octet, or is nothing, has no text first
 octet_apart : (text : List ℕ) → BeginsOctet text → BeginsApart (chunks text)
@@ -149,11 +160,12 @@ nil_apart x = refl
 abbrev text_len : List ℕ → ℕ
 text_len text = position_or_len (λ b. eqb b 37) text
 
-prefix_all : (p : ℕ → Bool) (xs : List ℕ) → list_all p (take (prefix_len p xs) xs) ≡ true
+pub prefix_all : (p : ℕ → Bool) (xs : List ℕ) → list_all p (take (prefix_len p xs) xs) ≡ true
 prefix_all p [] = refl
 prefix_all p (x ∷ xs) =
     let next : 1 + prefix_len p xs ≡ suc (prefix_len p xs) = omega arith in
-    ⊎_elim (λ e. rw e (rw next (and_from _ _ e (prefix_all p xs)))) (λ e. rw e refl) (cases_Bool (p x))
+    ⊎_elim (λ e. rw e (rw next (and_from _ _ e (prefix_all p xs)))) (λ e. rw e refl)
+    (cases_Bool (p x))
 
 text_lacks : (text : List ℕ) → lacks 37 (take (text_len text) text) ≡ true
 text_lacks text = prefix_all (λ b. not (eqb b 37)) text
@@ -169,7 +181,8 @@ text_boundary text =
     let p = text_len text in
     ⊎_elim
     (λ h. let there = at_percent text h in IsCharBoundary-before_ascii text p h (omega arith))
-    (λ h. let e : length text ≡ p = omega (arith, text_len-le text) in subst (IsCharBoundary text) e (IsCharBoundary-end text))
+    (λ h. let e : length text ≡ p = omega (arith, text_len-le text) in
+    subst (IsCharBoundary text) e (IsCharBoundary-end text))
     (cases_lt p (length text))
 
 text_nonempty : (text : List ℕ) → 0 < length text → get_or text 0 0 ≢ 37
@@ -191,7 +204,8 @@ pub tokens_front : (front back : List ℕ) → IsUtf8 front → lacks 37 front �
     → tokens (front ++ back) ≡ map Char (chars front) ++ tokens back
 tokens_front front back u e =
     ap tokens_of (chars-append front back u)
-    ∙ tokens_of-lacks (chars front) (chars back) (chars_lack (chars front) (ap (lacks 37) (encodes-chars front u) ∙ e))
+    ∙ tokens_of-lacks (chars front) (chars back)
+    (chars_lack (chars front) (ap (lacks 37) (encodes-chars front u) ∙ e))
 
 -- what stands behind the text before the first `%`
 pub record BeginsText (text : List ℕ) (n : ℕ) : Type 0 where
@@ -216,14 +230,17 @@ unfolding is_valid_for
 text_parts text n u v e some =
     let front = take n text in
     let back = drop n text in
-    let boundary : IsCharBoundary text n = subst (IsCharBoundary text) (sym e) (text_boundary text) in
+    let boundary : IsCharBoundary text n =
+    subst (IsCharBoundary text) (sym e) (text_boundary text) in
     let inner : IsUtf8 front = IsUtf8-take text n u boundary in
     let outer : IsUtf8 back = IsUtf8-drop text n u boundary in
     let parts : tokens text ≡ map Char (chars front) ++ tokens back =
     ap tokens (sym (take-append-drop n text))
     ∙ tokens_front front back inner (ap (λ k. lacks 37 (take k text)) e ∙ text_lacks text) in
     let valid : IsValidFor widest_set back =
-    (and_parts _ _ (sym (list_all-append (allows_token widest_set) (map Char (chars front)) (tokens back)) ∙ sym (ap (list_all (allows_token widest_set)) parts) ∙ v)).1 in
+    (and_parts _ _
+    (sym (list_all-append (allows_token widest_set) (map Char (chars front)) (tokens back))
+    ∙ sym (ap (list_all (allows_token widest_set)) parts) ∙ v)).1 in
     let within : n ≤ length text = subst (λ k. k ≤ length text) (sym e) (text_len-le text) in
     let percent : n < length text → get_or text n 0 ≡ 37 = λ h. ap (λ k. get_or text k 0) e
     ∙ at_percent text (subst (λ k. k < length text) e h) in
@@ -238,7 +255,8 @@ text_parts text n u v e some =
 pub text_first : (text : List ℕ) (n : ℕ) → IsUtf8 text → IsValidFor widest_set text
     → 0 < length text → get_or text 0 0 ≢ 37 → n ≡ text_len text → BeginsText text n
 text_first text n u v some other e =
-    text_parts text n u v e (subst (λ k. 0 < length (take k text)) (sym e) (text_nonempty text some other))
+    text_parts text n u v e
+    (subst (λ k. 0 < length (take k text)) (sym e) (text_nonempty text some other))
 
 nonempty : (bytes : List ℕ) → eqb (length bytes) 0 ≡ false → 0 < length bytes
 nonempty bytes e = omega (arith, eqb-false (length bytes) 0 e)
@@ -248,7 +266,8 @@ pub octet_of_bytes : (bytes text : List ℕ) → bytes ≡ text → IsUtf8 bytes
     → IsValidFor widest_set text → eqb (length bytes) 0 ≡ false → get_or bytes 0 0 ≡ 37
     → BeginsOctet text
 octet_of_bytes bytes text same u v some e =
-    octet_first text (subst IsUtf8 same u) v (subst (λ x. 0 < length x) same (nonempty bytes some)) (ap (λ x. get_or x 0 0) (sym same) ∙ e)
+    octet_first text (subst IsUtf8 same u) v (subst (λ x. 0 < length x) same (nonempty bytes some))
+    (ap (λ x. get_or x 0 0) (sym same) ∙ e)
 
 pub text_of_bytes : (bytes text : List ℕ) (n : ℕ) → bytes ≡ text → IsUtf8 bytes
     → IsValidFor widest_set text → eqb (length bytes) 0 ≡ false → get_or bytes 0 0 ≢ 37
@@ -257,7 +276,9 @@ pub text_of_bytes : (bytes text : List ℕ) (n : ℕ) → bytes ≡ text → IsU
 text_of_bytes bytes text n same u v some other e =
     let place : n ≡ position_or_len (λ b. eqb b 37) text = e
     ∙ ap (position_or_len (λ b. eqb b 37)) same in (
-      text_first text n (subst IsUtf8 same u) v (subst (λ x. 0 < length x) same (nonempty bytes some)) (λ h. other (ap (λ x. get_or x 0 0) same ∙ h)) place,
+      text_first text n (subst IsUtf8 same u) v
+          (subst (λ x. 0 < length x) same (nonempty bytes some))
+          (λ h. other (ap (λ x. get_or x 0 0) same ∙ h)) place,
       subst (IsCharBoundary text) (sym place) (text_boundary text),
     )
 
@@ -277,7 +298,8 @@ chunks-octet text o = ap chunks_of o.first
 -- the set of a table is within the largest one
 pub in_widest : (set : TableSet) → LacksPercent set → IsSubset set widest_set
 in_widest set lacks = record {
-  ascii = λ c e. not_from_false _ (ne_eqb c 37 (λ d. false≢true (sym lacks ∙ ap set.ascii (sym d) ∙ e)));
+  ascii = λ c e. not_from_false _
+      (ne_eqb c 37 (λ d. false≢true (sym lacks ∙ ap set.ascii (sym d) ∙ e)));
   pct_encoded = λ _. refl;
   ucschar = λ _. refl;
   iprivate = λ _. refl;

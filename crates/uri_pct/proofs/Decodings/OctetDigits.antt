@@ -17,5 +17,6 @@ tokens_of_octet upper value rest small =
     let ascii = and_parts _ _ p.0 in
     let is = and_parts _ _ p.1 in
     ap tokens_of (chars-ascii 37 (high ∷ low ∷ rest) (lit< tt)
-    ∙ ap (λ x. 37 ∷ x) (chars-ascii high (low ∷ rest) (ltb-true _ 128 ascii.0) ∙ ap (λ x. high ∷ x) (chars-ascii low rest (ltb-true _ 128 ascii.1))))
+    ∙ ap (λ x. 37 ∷ x) (chars-ascii high (low ∷ rest) (ltb-true _ 128 ascii.0)
+    ∙ ap (λ x. high ∷ x) (chars-ascii low rest (ltb-true _ 128 ascii.1))))
     ∙ cond-true _ _ _ is.0 ∙ ap (λ n. Octet n ∷ tokens rest) (eqb-true _ value is.1)

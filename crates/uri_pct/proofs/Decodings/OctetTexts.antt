@@ -18,7 +18,9 @@ entries_match (suc n) = bytes_eq (entry n) (text_of_token (Octet n)) && entries_
 -- the three bytes at three times b are the octet b
 pub octet_entry : (b : ℕ) → b < 256 → take 3 (drop (b * 3) OCTETS.now) ≡ text_of_token (Octet b)
 octet_entry =
-    (Decides-below_and (λ b. bytes_eq (entry b) (text_of_token (Octet b))) (λ b. entry b ≡ text_of_token (Octet b)) entries_match (λ b. bytes_eq-Decides _ _) refl (λ _. refl) 256).0 refl
+    (Decides-below_and (λ b. bytes_eq (entry b) (text_of_token (Octet b)))
+    (λ b. entry b ≡ text_of_token (Octet b)) entries_match (λ b. bytes_eq-Decides _ _) refl
+    (λ _. refl) 256).0 refl
 
 abbrev all_ascii : List ℕ → Bool
 all_ascii [] = true
@@ -26,4 +28,6 @@ all_ascii (b ∷ bs) = ltb b 128 && all_ascii bs
 
 pub octets_ascii : IsAscii OCTETS.now
 octets_ascii =
-    IsAscii-from_all OCTETS.now ((Decides-by_and (λ b. ltb b 128) (λ b. b < 128) all_ascii (λ b. Decides-ltb b 128) refl (λ _ _. refl) OCTETS.now).0 refl)
+    IsAscii-from_all OCTETS.now
+    ((Decides-by_and (λ b. ltb b 128) (λ b. b < 128) all_ascii (λ b. Decides-ltb b 128) refl
+    (λ _ _. refl) OCTETS.now).0 refl)

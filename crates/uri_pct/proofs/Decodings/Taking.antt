@@ -32,15 +32,21 @@ pub took_text : (s t : Bytes) (ps : List Part) (text : List ℕ) → IsUtf8 text
     → t.is_text ≡ s.is_text → TookBytes s ps t
 took_text s t ps text u pieces bytes same = record {
   bytes = bytes
-      ∙ ap (λ x. s.bytes.items ++ x) (sym (ap bytes_of_pieces pieces ∙ bytes_of_pieces-utf8_pieces text));
+      ∙ ap (λ x. s.bytes.items ++ x)
+      (sym (ap bytes_of_pieces pieces ∙ bytes_of_pieces-utf8_pieces text));
   is_text = same ∙ sym (and_true s.is_text)
-      ∙ ap (λ b. s.is_text && b) (sym (ap (list_all is_well_formed) pieces ∙ well_formed-IsUtf8 text u));
+      ∙ ap (λ b. s.is_text && b)
+      (sym (ap (list_all is_well_formed) pieces ∙ well_formed-IsUtf8 text u));
 }
 
 pub lossy_took_text : (s t : LossyText) (ps : List Part) (text : List ℕ) → IsUtf8 text
     → pieces_of ps ≡ utf8_pieces text → string_bytes t.text ≡ string_bytes s.text ++ text
     → TookText s ps t
-lossy_took_text s t ps text u pieces bytes = record { text = bytes ∙ ap (λ x. string_bytes s.text ++ x) (sym (ap (flat_map lossy_piece) pieces ∙ lossy_of_text text u)) }
+lossy_took_text s t ps text u pieces bytes =
+    record {
+      text = bytes ∙ ap (λ x. string_bytes s.text ++ x)
+          (sym (ap (flat_map lossy_piece) pieces ∙ lossy_of_text text u));
+    }
 
 -- what is taken of a whole text
 pub taken_bytes : (text : List ℕ) (s t : Bytes) → IsValidFor widest_set text → s.bytes.items ≡ []

@@ -14,4 +14,5 @@ token_bytes-append ts us = flat_map-append bytes_of_token ts us
 
 pub tokens-encode_text : (set : TableSet) (text : List ℕ) → LacksPercent set → IsUtf8 text
     → tokens (print (encode_text set text)) ≡ encode_text set text
-tokens-encode_text set text lacks u = tokens-print (encode_text set text) (printable-encode_text set text lacks u)
+tokens-encode_text set text lacks u =
+    tokens-print (encode_text set text) (printable-encode_text set text lacks u)

@@ -11,7 +11,8 @@ use Rattle.uri_pct.specs.Encoding.{encode_text, encode_bytes}
 
 -- `¡Olé!` as data of a URI and of an IRI
 of_data :
-    (print (encode_text data_set (0xC2 ∷ 0xA1 ∷ 0x4F ∷ 0x6C ∷ 0xC3 ∷ 0xA9 ∷ 0x21 ∷ [])) ≡ codes "%C2%A1Ol%C3%A9%21")
+    (print (encode_text data_set (0xC2 ∷ 0xA1 ∷ 0x4F ∷ 0x6C ∷ 0xC3 ∷ 0xA9 ∷ 0x21 ∷ []))
+    ≡ codes "%C2%A1Ol%C3%A9%21")
     × (print (encode_text idata_set (0xC3 ∷ 0xA9 ∷ 0x21 ∷ [])) ≡ 0xC3 ∷ 0xA9 ∷ codes "%21")
 unfolding chars encode_utf8 allows_past_ascii is_ucschar is_iprivate
 of_data = (refl, refl)

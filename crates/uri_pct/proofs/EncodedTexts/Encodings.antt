@@ -29,7 +29,8 @@ print-append ts us = flat_map-append text_of_token ts us
 pub encode_text-first : (set : TableSet) (text rest : List ℕ) (c : ℕ) → IsUtf8 text
     → text ≡ encode_utf8 c ++ rest
     → encode_text set text ≡ encode_char set c ++ encode_text set rest
-encode_text-first set text rest c u e = ap (flat_map (encode_char set)) (chars_past_char text rest c u e)
+encode_text-first set text rest c u e =
+    ap (flat_map (encode_char set)) (chars_past_char text rest c u e)
 
 pub encode_char-kept : (set : TableSet) (c : ℕ) → allows set c ≡ true
     → print (encode_char set c) ≡ encode_utf8 c
@@ -72,7 +73,8 @@ pieces_are : (set : TableSet) (ps : List Piece) → All IsOfCharacter ps
 pieces_are set [] h = refl
 pieces_are set (p ∷ ps) h =
     flat_map-append bytes_of_token (encode_piece set p) (flat_map (encode_piece set) ps)
-    ∙ ap (λ x. x ++ token_bytes (flat_map (encode_piece set) ps)) (piece_is set p (All-head IsOfCharacter p ps h))
+    ∙ ap (λ x. x ++ token_bytes (flat_map (encode_piece set) ps))
+    (piece_is set p (All-head IsOfCharacter p ps h))
     ∙ ap (λ x. piece_bytes p ++ x) (pieces_are set ps (All-tail IsOfCharacter p ps h))
 
 pub token_bytes-encode_bytes : (set : TableSet) (bytes : List ℕ)
@@ -89,7 +91,8 @@ part_longer text start end c ordered e =
     let n = end - start in
     let size : end + len_utf8 c - start ≡ n + len_utf8 c = omega arith in
     let place : start + n ≡ end = omega arith in
-    let behind : drop n (drop start text) ≡ encode_utf8 c ++ drop (end + len_utf8 c) text = drop-drop n start text
+    let behind : drop n (drop start text) ≡ encode_utf8 c ++ drop (end + len_utf8 c) text =
+    drop-drop n start text
     ∙ ap (λ k. drop k text) place ∙ e in
     let front : take (len_utf8 c) (drop n (drop start text)) ≡ encode_utf8 c =
     ap (take (len_utf8 c)) behind
@@ -122,15 +125,20 @@ unfolding of_char
 chars_pieces set [] e = refl
 chars_pieces set (c ∷ cs) e =
     let p = and_parts _ (all_scalars cs) e in
-    ap (λ x. x ++ flat_map (encode_piece set) (map of_char cs)) (ap (encode_char set) (char_of-encode c p.0))
+    ap (λ x. x ++ flat_map (encode_piece set) (map of_char cs))
+    (ap (encode_char set) (char_of-encode c p.0))
     ∙ ap (λ x. encode_char set c ++ x) (chars_pieces set cs p.1)
 
 pub text_as_pieces : (set : TableSet) (text : List ℕ) → IsUtf8 text
     → flat_map (encode_piece set) (utf8_pieces text) ≡ encode_text set text
 text_as_pieces set text u =
     let all = encodes-chars text u in
-    ap (λ x. flat_map (encode_piece set) (utf8_pieces x)) (sym (append-nil text) ∙ ap (λ x. x ++ []) (sym all))
-    ∙ ap (flat_map (encode_piece set)) (text_first (chars text) [] (scalars-chars text u) ∙ ap (λ ps. map of_char (chars text) ++ ps) nil_pieces ∙ append-nil (map of_char (chars text)))
+    ap (λ x. flat_map (encode_piece set) (utf8_pieces x))
+    (sym (append-nil text) ∙ ap (λ x. x ++ []) (sym all))
+    ∙ ap (flat_map (encode_piece set))
+    (text_first (chars text) [] (scalars-chars text u)
+    ∙ ap (λ ps. map of_char (chars text) ++ ps) nil_pieces
+    ∙ append-nil (map of_char (chars text)))
     ∙ chars_pieces set (chars text) (scalars-chars text u)
 
 fault_octets : (set : TableSet) (bytes : List ℕ)
@@ -145,20 +153,31 @@ pub bytes_step : (set : TableSet) (out mid new bytes text fault rest all : List 
     → out ++ print (encode_bytes set bytes) ≡ all → new ++ print (encode_bytes set rest) ≡ all
 bytes_step set out mid new bytes text fault rest all u pieces first then whole =
     let f = flat_map (encode_piece set) in
-    let parts : encode_bytes set bytes ≡ (encode_text set text ++ map Octet fault) ++ encode_bytes set rest =
+    let parts : encode_bytes set bytes ≡ (encode_text set text ++ map Octet fault)
+    ++ encode_bytes set rest =
     ap f pieces
     ∙ flat_map-append (encode_piece set) (utf8_pieces text ++ fault_pieces fault) (utf8_pieces rest)
-    ∙ ap (λ x. x ++ encode_bytes set rest) (flat_map-append (encode_piece set) (utf8_pieces text) (fault_pieces fault) ∙ ap (λ x. x ++ f (fault_pieces fault)) (text_as_pieces set text u) ∙ ap (λ x. encode_text set text ++ x) (fault_octets set fault)) in
-    let printed : print (encode_bytes set bytes) ≡ (print (encode_text set text) ++ print (map Octet fault)) ++ print (encode_bytes set rest) =
+    ∙ ap (λ x. x ++ encode_bytes set rest)
+    (flat_map-append (encode_piece set) (utf8_pieces text) (fault_pieces fault)
+    ∙ ap (λ x. x ++ f (fault_pieces fault)) (text_as_pieces set text u)
+    ∙ ap (λ x. encode_text set text ++ x) (fault_octets set fault)) in
+    let printed : print (encode_bytes set bytes)
+    ≡ (print (encode_text set text) ++ print (map Octet fault))
+    ++ print (encode_bytes set rest) =
     ap print parts ∙ print-append (encode_text set text ++ map Octet fault) (encode_bytes set rest)
-    ∙ ap (λ x. x ++ print (encode_bytes set rest)) (print-append (encode_text set text) (map Octet fault)) in
-    ap (λ x. x ++ print (encode_bytes set rest)) (then ∙ ap (λ x. x ++ print (map Octet fault)) first ∙ append_assoc out (print (encode_text set text)) (print (map Octet fault)))
-    ∙ append_assoc out (print (encode_text set text) ++ print (map Octet fault)) (print (encode_bytes set rest))
+    ∙ ap (λ x. x ++ print (encode_bytes set rest))
+    (print-append (encode_text set text) (map Octet fault)) in
+    ap (λ x. x ++ print (encode_bytes set rest))
+    (then ∙ ap (λ x. x ++ print (map Octet fault)) first
+    ∙ append_assoc out (print (encode_text set text)) (print (map Octet fault)))
+    ∙ append_assoc out (print (encode_text set text) ++ print (map Octet fault))
+    (print (encode_bytes set rest))
     ∙ ap (λ x. out ++ x) (sym printed) ∙ whole
 
 pub bytes_end : (set : TableSet) (out bytes all : List ℕ) → length bytes ≡ 0
     → out ++ print (encode_bytes set bytes) ≡ all → out ≡ all
 bytes_end set out bytes all none whole =
     sym (append-nil out)
-    ∙ ap (λ x. out ++ print (flat_map (encode_piece set) x)) (sym (ap utf8_pieces (nil_from_length bytes none) ∙ nil_pieces))
+    ∙ ap (λ x. out ++ print (flat_map (encode_piece set) x))
+    (sym (ap utf8_pieces (nil_from_length bytes none) ∙ nil_pieces))
     ∙ whole

@@ -1,4 +1,5 @@
--- A run of ASCII characters that a set allows is read, and behind it the text has a character's boundary.
+-- A run of ASCII characters that a set allows is read, and behind it the text has a character's
+-- boundary.
 use Rattle.std.proofs.Common.{◌≡◌, ℕ, zero, suc, ◌+◌, ◌-◌, ◌<◌, ◌≤◌, true, List, length, get_or}
 use Rattle.std.proofs.Common.{drop, arith, subst}
 use Rattle.std.specs.Str.{IsUtf8, IsCharBoundary}
@@ -17,14 +18,19 @@ module _ (set : TableSet) (lacks : LacksPercent set)
   read_on : (n : ℕ) → start + n ≤ length bs
       → ((k : ℕ) → start ≤ k → k < start + n → set.ascii (get_or bs k 0) ≡ true)
       → IsReadTo (start + n)
-  read_on zero room pass = let e : start ≡ start + zero = omega arith in subst IsReadTo e (omega arith, here)
+  read_on zero room pass = let e : start ≡ start + zero = omega arith in
+      subst IsReadTo e (omega arith, here)
   read_on (suc n) room pass =
       let before = read_on n (omega arith) (λ k from to. pass k from (omega arith)) in
       let held = pass (start + n) (omega arith) (omega arith) in
       let below = ascii (get_or bs (start + n) 0) held in
       let step = front-char set lacks bs (start + n) (omega arith) below held in
       let next : start + n + 1 ≡ start + suc n = omega arith in
-      subst IsReadTo next (omega (arith, before.0, step), IsCharBoundary-after_ascii bs (start + n) u (omega arith) below)
+      subst IsReadTo next (
+        omega (arith, before.0, step),
+        IsCharBoundary-after_ascii bs (start + n)
+            u (omega arith) below,
+      )
 
   pub run_read : (end : ℕ) → IsRun set.ascii bs start end
       → (end + front set (drop end bs) ≡ start + front set (drop start bs)) × IsCharBoundary bs end
@@ -32,4 +38,5 @@ module _ (set : TableSet) (lacks : LacksPercent set)
       let f = run.from in
       let w = run.within in
       let e : start + (end - start) ≡ end = omega arith in
-      subst IsReadTo e (read_on (end - start) (omega arith) (λ k from to. run.pass k from (omega arith)))
+      subst IsReadTo e
+      (read_on (end - start) (omega arith) (λ k from to. run.pass k from (omega arith)))

@@ -26,7 +26,8 @@ bit_shl n s k h l =
     let b : bit_at (n * 2 ^ s) k < 2 = bit_at-lt (n * 2 ^ s) k in
     let z : n * 2 ^ s + 0 ≡ n * 2 ^ s = omega arith in
     ap (λ m. eqb m 1)
-    (ap (λ m. bit_at m k) (sym (and_mask (n * 2 ^ s) 64)) ∙ bit_at_and (n * 2 ^ s) (2 ^ 64 - 1) k ∙ ap (λ m. min (bit_at (n * 2 ^ s) k) m) (bit_at_ones 64 k h) ∙ omega arith
+    (ap (λ m. bit_at m k) (sym (and_mask (n * 2 ^ s) 64)) ∙ bit_at_and (n * 2 ^ s) (2 ^ 64 - 1) k
+    ∙ ap (λ m. min (bit_at (n * 2 ^ s) k) m) (bit_at_ones 64 k h) ∙ omega arith
     ∙ ap (λ m. bit_at m k) (sym z) ∙ bit_at_cat_high n s 0 k (pow_pos s) l)
 
 pub bit_shl_low : (n s k : ℕ) → k < 64 → k < s → bit (n * 2 ^ s % 2 ^ 64) k ≡ false
@@ -41,7 +42,8 @@ bit_shl_low n s k h l =
 -- what a mask says of a lane
 pub lane_test : (test : ℕ → Bool) (bs : List ℕ) (i w mask k : ℕ) → LaneMarks test bs i w mask
     → k < w → bit mask k ≡ false → test (get_or bs (i + k) 0) ≡ true
-lane_test test bs i w mask k m h e = unset (test (get_or bs (i + k) 0)) (sym (ap (λ b. eqb b 1) (m.lane k h)) ∙ e)
+lane_test test bs i w mask k m h e =
+    unset (test (get_or bs (i + k) 0)) (sym (ap (λ b. eqb b 1) (m.lane k h)) ∙ e)
   where
     unset : (b : Bool) → eqb (cond (not b) 1 0) 1 ≡ false → b ≡ true
     unset true f = refl
@@ -54,7 +56,10 @@ byte_lane byte bs i k room h =
     let v = chunk i 16 bs in
     let ms = map (λ b. eqb b byte) v in
     let long : length ms ≡ 16 = length-map v (λ b. eqb b byte) ∙ length-chunk i 16 bs room in
-    ap (λ m. eqb m 1) (bit_mask_l ms k ∙ ap (λ b. cond b 1 0) (get_or_default ms k false (eqb 0 byte) (omega (arith, long)) ∙ get_or-map (λ b. eqb b byte) v k 0 ∙ ap (λ b. eqb b byte) (get_or-chunk i 16 bs k 0 h)))
+    ap (λ m. eqb m 1) (bit_mask_l ms k
+    ∙ ap (λ b. cond b 1 0) (get_or_default ms k false (eqb 0 byte) (omega (arith, long))
+    ∙ get_or-map (λ b. eqb b byte) v k 0
+    ∙ ap (λ b. eqb b byte) (get_or-chunk i 16 bs k 0 h)))
     ∙ one_if (eqb (get_or bs (i + k) 0) byte)
   where
     one_if : (b : Bool) → eqb (cond b 1 0) 1 ≡ b
@@ -65,7 +70,8 @@ pub bytes_below : (byte : ℕ) (bs : List ℕ) (i : ℕ) → i + 16 ≤ length b
     → mask_l (map (λ b. eqb b byte) (chunk i 16 bs)) < 2 ^ 16
 bytes_below byte bs i room =
     let ms = map (λ b. eqb b byte) (chunk i 16 bs) in
-    subst (λ n. mask_l ms < 2 ^ n) (length-map (chunk i 16 bs) (λ b. eqb b byte) ∙ length-chunk i 16 bs room) (mask_l-lt ms)
+    subst (λ n. mask_l ms < 2 ^ n)
+    (length-map (chunk i 16 bs) (λ b. eqb b byte) ∙ length-chunk i 16 bs room) (mask_l-lt ms)
 
 -- the first lane that is set
 pub first_lane : (mask : ℕ) → mask < 2 ^ 16 → (mask ≡ 0 → ⊥)
@@ -74,8 +80,14 @@ pub first_lane : (mask : ℕ) → mask < 2 ^ 16 → (mask ≡ 0 → ⊥)
 first_lane mask below some =
     let pos : 0 < mask = pos-from-nonzero mask some in
     let z = bit_at-trailing_zeros w64 mask pos (omega (arith, below)) in
-    let set : bit_at mask (trailing_zeros w64 mask) ≡ 1 = z.1 in
-    (⊎_elim (λ (h : trailing_zeros w64 mask < 16). h) (λ (h : 16 ≤ trailing_zeros w64 mask). let none = bit_at_above mask 16 (trailing_zeros w64 mask) below h in absurd (omega (arith, none, set))) (cases_lt (trailing_zeros w64 mask) 16), set, z.2)
+    let set : bit_at mask (trailing_zeros w64 mask) ≡ 1 = z.1 in (
+      ⊎_elim (λ (h : trailing_zeros w64 mask < 16). h)
+          (λ (h : 16 ≤ trailing_zeros w64 mask). let none =
+          bit_at_above mask 16 (trailing_zeros w64 mask) below h in
+          absurd (omega (arith, none, set))) (cases_lt (trailing_zeros w64 mask) 16),
+      set,
+      z.2,
+    )
   where
     pos-from-nonzero : (n : ℕ) → (n ≡ 0 → ⊥) → 0 < n
     pos-from-nonzero zero e = absurd (e refl)

@@ -44,14 +44,18 @@ bit_of_masks : (low high c : ℕ) → low < 2 ^ 64 → c < 128
 bit_of_masks low high c fits below =
     let turned : high * 2 ^ 64 + low ≡ low + 2 ^ 64 * high = omega arith in
     ⊎_elim
-    (λ (h : c < 64). has_low_bit low high c h ∙ ap (λ b. eqb b 1) (sym (bit_at_cat_low high 64 low c h) ∙ ap (λ n. bit_at n c) turned))
-    (λ (h : 64 ≤ c). has_high_bit low high c h below ∙ ap (λ b. eqb b 1) (sym (bit_at_cat_high high 64 low c fits h) ∙ ap (λ n. bit_at n c) turned))
+    (λ (h : c < 64). has_low_bit low high c h
+    ∙ ap (λ b. eqb b 1) (sym (bit_at_cat_low high 64 low c h) ∙ ap (λ n. bit_at n c) turned))
+    (λ (h : 64 ≤ c). has_high_bit low high c h below
+    ∙ ap (λ b. eqb b 1) (sym (bit_at_cat_high high 64 low c fits h)
+    ∙ ap (λ n. bit_at n c) turned))
     (cases_lt c 64)
 
 -- the bit that a lane reads
 no_bit_there : (b k : ℕ) → b < 2 → eqb (b * 2 ^ k) 0 ≡ not (eqb b 1)
 no_bit_there zero k h = let e : 0 * 2 ^ k ≡ 0 = omega arith in ap (λ x. eqb x 0) e
-no_bit_there (suc zero) k h = let l : 0 < 2 ^ k = pow_pos k in ne_eqb (1 * 2 ^ k) 0 (λ (e : 1 * 2 ^ k ≡ 0). omega arith)
+no_bit_there (suc zero) k h = let l : 0 < 2 ^ k = pow_pos k in
+    ne_eqb (1 * 2 ^ k) 0 (λ (e : 1 * 2 ^ k ≡ 0). omega arith)
 no_bit_there (suc (suc b)) k h = absurd (omega arith)
 
 no_bit_past : (n k : ℕ) → k ≡ 0 → eqb (bit_and n k) 0 ≡ true
@@ -67,14 +71,17 @@ lane_is low high b fits = ⊎_elim
     let j : ℕ = b / 8 % 16 in
     let k : ℕ = b % 8 in
     let place : 8 * j + k ≡ b = omega arith in
-    let byte : get_or (bytes_of_masks low high) j 0 ≡ n / 2 ^ (8 * j) % 2 ^ 8 = ap (λ m. get_or (digits_l (2 ^ 8) 16 m) j 0) (omega arith)
+    let byte : get_or (bytes_of_masks low high) j 0 ≡ n / 2 ^ (8 * j) % 2 ^ 8 =
+    ap (λ m. get_or (digits_l (2 ^ 8) 16 m) j 0) (omega arith)
     ∙ digit 16 n j (omega arith) in
-    ap (λ x. eqb (bit_and (get_or (bytes_of_masks low high) j 0) x) 0) (cond-true _ _ _ (lt-ltb b 128 below))
+    ap (λ x. eqb (bit_and (get_or (bytes_of_masks low high) j 0) x) 0)
+    (cond-true _ _ _ (lt-ltb b 128 below))
     ∙ ap (λ x. eqb x 0) (ap (λ y. bit_and y (2 ^ k)) byte ∙ and_pow (n / 2 ^ (8 * j) % 2 ^ 8) k)
     ∙ no_bit_there _ k (bit_at-lt (n / 2 ^ (8 * j) % 2 ^ 8) k)
     ∙ ap (λ x. not (eqb x 1)) (bit_of_digit n j k (omega arith) ∙ ap (bit_at n) place)
     ∙ ap not (sym (bit_of_masks low high b fits below)))
-    (λ (past : 128 ≤ b). no_bit_past _ _ (cond-false _ _ _ (le-ltb b 128 past)) ∙ ap not (sym (has_no_bit low high b past)))
+    (λ (past : 128 ≤ b). no_bit_past _ _ (cond-false _ _ _ (le-ltb b 128 past))
+    ∙ ap not (sym (has_no_bit low high b past)))
     (cases_lt b 128)
 
 -- positions computed lane by lane, and what stands there
@@ -92,7 +99,8 @@ module _ (xs v : List ℕ) (f g : ℕ → ℕ) (long : length v ≡ 16) (fits : 
       SwzOk-from_Each1 w8 16 1 16 0 _ refl (omega (arith, length-map v f))
       (Each1-from_get_or (λ j. T (zeroes 16 w8 j || ltb j 16)) (map f v) 0 (λ i l.
       let h : i < 16 = omega (arith, length-map v f) in
-      subst T (sym (ap (λ j. zeroes 16 w8 j || ltb j 16) (at i h) ∙ ok (get_or v i 0) (byte_at i h))) tt))
+      subst T (sym (ap (λ j. zeroes 16 w8 j || ltb j 16) (at i h)
+      ∙ ok (get_or v i 0) (byte_at i h))) tt))
 
   pub looked_up : ((b : ℕ) → b < 256 → cond (zeroes 16 w8 (f b)) 0 (get_or xs (f b) 0) ≡ g b)
       → swz_l w8 16 xs 0 (map f v) ≡ map g v
@@ -104,18 +112,22 @@ module _ (xs v : List ℕ) (f g : ℕ → ℕ) (long : length v ≡ 16) (fits : 
       ∙ ap (λ j. cond (zeroes 16 w8 (get_or (map f v) i 0)) 0 (get_or xs j 0)) (omega arith)
       ∙ ap (λ j. cond (zeroes 16 w8 j) 0 (get_or xs j 0)) (at i h)
       ∙ is (get_or v i 0) (byte_at i h)
-      ∙ sym (sym (get_or_default_zero (map g v) i (g 0) (omega (arith, length-map v g))) ∙ get_or-map g v i 0))
+      ∙ sym (sym (get_or_default_zero (map g v) i (g 0) (omega (arith, length-map v g)))
+      ∙ get_or-map g v i 0))
 
 -- the place of a byte of the words, and of a bit
 pub byte_place : (b : ℕ) → b < 256 → (zeroes 16 w8 (b / 8 % 16) || ltb (b / 8 % 16) 16) ≡ true
-byte_place b h = agree_below_at (λ c. zeroes 16 w8 (c / 8 % 16) || ltb (c / 8 % 16) 16) (λ c. true) 256 b refl h
+byte_place b h = agree_below_at (λ c. zeroes 16 w8 (c / 8 % 16) || ltb (c / 8 % 16) 16) (λ c. true)
+    256 b refl h
 
 pub bit_place : (b : ℕ) → b < 256 → (zeroes 16 w8 (bit_and b 135) || ltb (bit_and b 135) 16) ≡ true
-bit_place b h = agree_below_at (λ c. zeroes 16 w8 (bit_and c 135) || ltb (bit_and c 135) 16) (λ c. true) 256 b refl h
+bit_place b h = agree_below_at (λ c. zeroes 16 w8 (bit_and c 135) || ltb (bit_and c 135) 16)
+    (λ c. true) 256 b refl h
 
 pub byte_there : (xs : List ℕ) (b : ℕ) → b < 256
     → cond (zeroes 16 w8 (b / 8 % 16)) 0 (get_or xs (b / 8 % 16) 0) ≡ get_or xs (b / 8 % 16) 0
-byte_there xs b h = cond-false _ _ _ (agree_below_at (λ c. zeroes 16 w8 (c / 8 % 16)) (λ c. false) 256 b refl h)
+byte_there xs b h = cond-false _ _ _
+    (agree_below_at (λ c. zeroes 16 w8 (c / 8 % 16)) (λ c. false) 256 b refl h)
 
 abbrev pub bit_list : List ℕ
 bit_list = 1 ∷ 2 ∷ 4 ∷ 8 ∷ 16 ∷ 32 ∷ 64 ∷ 128 ∷ 0 ∷ 0 ∷ 0 ∷ 0 ∷ 0 ∷ 0 ∷ 0 ∷ 0 ∷ []
@@ -123,16 +135,24 @@ bit_list = 1 ∷ 2 ∷ 4 ∷ 8 ∷ 16 ∷ 32 ∷ 64 ∷ 128 ∷ 0 ∷ 0 ∷ 0 �
 pub bit_there : (b : ℕ) → b < 256
     → cond (zeroes 16 w8 (bit_and b 135)) 0 (get_or bit_list (bit_and b 135) 0) ≡ bit_of b
 unfolding bit_of
-bit_there b h = eqb-true _ _ (agree_below_at (λ c. eqb (cond (zeroes 16 w8 (bit_and c 135)) 0 (get_or bit_list (bit_and c 135) 0)) (bit_of c)) (λ c. true) 256 b refl h)
+bit_there b h =
+    eqb-true _ _
+    (agree_below_at
+    (λ c. eqb (cond (zeroes 16 w8 (bit_and c 135)) 0 (get_or bit_list (bit_and c 135) 0))
+    (bit_of c)) (λ c. true) 256 b refl h)
 
 -- the mask of the lanes that have no bit
 pub mask_is : (low high : ℕ) (v : List ℕ) → length v ≡ 16 → low < 2 ^ 64
-    → mask_l (map (top 7) (zip2 (λ a b. cond (eqb a b) 255 0) (zip2 bit_and (map (λ b. get_or (bytes_of_masks low high) (b / 8 % 16) 0) v) (map bit_of v)) (replicate 16 0))) % 2 ^ 64
+    → mask_l
+    (map (top 7) (zip2 (λ a b. cond (eqb a b) 255 0)
+    (zip2 bit_and (map (λ b. get_or (bytes_of_masks low high) (b / 8 % 16) 0) v)
+    (map bit_of v)) (replicate 16 0))) % 2 ^ 64
     ≡ mask_l (map (λ b. not (has_bit low high b)) v)
 mask_is low high v long fits =
     let at : ℕ → ℕ = λ b. get_or (bytes_of_masks low high) (b / 8 % 16) 0 in
     let m : ℕ → ℕ = λ b. bit_and (at b) (bit_of b) in
-    ap (λ l. mask_l (map (top 7) (zip2 (λ a b. cond (eqb a b) 255 0) l (replicate 16 0))) % 2 ^ 64) (zip2_of_maps bit_and at bit_of v refl refl)
+    ap (λ l. mask_l (map (top 7) (zip2 (λ a b. cond (eqb a b) 255 0) l (replicate 16 0))) % 2 ^ 64)
+    (zip2_of_maps bit_and at bit_of v refl refl)
     ∙ bitmask_splat w8 eqb (map m v) 16 0 (length-map v m ∙ long) (omega arith)
     ∙ ap mask_l (map-map (λ x. eqb x 0) m v)
     ∙ ap (λ f. mask_l (map f v)) (λ i b. lane_is low high b fits i)

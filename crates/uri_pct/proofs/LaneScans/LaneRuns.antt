@@ -28,7 +28,9 @@ marks_of_load test bs i w room =
     record {
       lane = λ k h.
           bit_mask_l ms k
-          ∙ ap (λ b. cond b 1 0) (get_or_default ms k false (not (test 0)) (omega (arith, both)) ∙ get_or-map (λ b. not (test b)) v k 0 ∙ ap (λ b. not (test b)) (get_or-chunk i w bs k 0 h));
+          ∙ ap (λ b. cond b 1 0) (get_or_default ms k false (not (test 0)) (omega (arith, both))
+          ∙ get_or-map (λ b. not (test b)) v k 0
+          ∙ ap (λ b. not (test b)) (get_or-chunk i w bs k 0 h));
       below = subst (λ n. mask_l ms < 2 ^ n) both (mask_l-lt ms);
     }
 
@@ -54,7 +56,8 @@ marked false e = refl
 
 module _ (test : ℕ → Bool) (bs : List ℕ) (i w mask : ℕ) (m : LaneMarks test bs i w mask) where
   at : (k : ℕ) → i ≤ k → k < i + w → bit_at mask (k - i) ≡ 0 → test (get_or bs k 0) ≡ true
-  at k from to e = unmarked _ (ap (λ n. cond (not (test (get_or bs n 0))) 1 0) (omega arith) ∙ sym (m.lane (k - i) (omega arith)) ∙ e)
+  at k from to e = unmarked _ (ap (λ n. cond (not (test (get_or bs n 0))) 1 0) (omega arith)
+      ∙ sym (m.lane (k - i) (omega arith)) ∙ e)
 
   pub all_pass : mask ≡ 0 → (k : ℕ) → i ≤ k → k < i + w → test (get_or bs k 0) ≡ true
   all_pass e k from to = at k from to (ap (λ n. bit_at n (k - i)) e ∙ bit_at-zero (k - i))
@@ -62,12 +65,15 @@ module _ (test : ℕ → Bool) (bs : List ℕ) (i w mask : ℕ) (m : LaneMarks t
   module _ (some : 0 < mask) (small : w ≤ 64) where
     place : (trailing_zeros w64 mask < 64) × (bit_at mask (trailing_zeros w64 mask) ≡ 1)
         × ((j : ℕ) → j < trailing_zeros w64 mask → bit_at mask j ≡ 0)
-    place = bit_at-trailing_zeros w64 mask some (omega (arith, m.below, pow_mono {i = w} {j = 64} small))
+    place = bit_at-trailing_zeros w64 mask some
+        (omega (arith, m.below, pow_mono {i = w} {j = 64} small))
 
     pub first_within : trailing_zeros w64 mask < w
     first_within = ⊎_elim
         (λ (h : trailing_zeros w64 mask < w). h)
-        (λ (h : w ≤ trailing_zeros w64 mask). let e = bit_at_above mask w (trailing_zeros w64 mask) m.below h in let f = place.1 in absurd (omega arith))
+        (λ (h : w ≤ trailing_zeros w64 mask). let e =
+        bit_at_above mask w (trailing_zeros w64 mask) m.below h in let f = place.1 in
+        absurd (omega arith))
         (cases_lt (trailing_zeros w64 mask) w)
 
     pub first_passes : (k : ℕ) → i ≤ k → k < i + trailing_zeros w64 mask
@@ -100,6 +106,7 @@ module _ (test : ℕ → Bool) (bs : List ℕ) (start i w mask : ℕ) (m : LaneM
       record {
         from = omega arith;
         within = omega arith;
-        pass = both_pass test bs start i (i + trailing_zeros w64 mask) passed (first_passes test bs i w mask m some small);
+        pass = both_pass test bs start i (i + trailing_zeros w64 mask) passed
+            (first_passes test bs i w mask m some small);
         stop = λ h. first_stops test bs i w mask m some small;
       }

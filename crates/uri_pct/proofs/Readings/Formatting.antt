@@ -66,9 +66,11 @@ pub encode_formatting-none : (set : TableSet) (ts : List Token)
     → (set.ucschar && set.pct_encoded) ≡ false → encode_formatting set ts ≡ ts
 unfolding is_never_literal
 encode_formatting-none set [] e = refl
-encode_formatting-none set (Octet value ∷ ts) e = ap (λ us. Octet value ∷ us) (encode_formatting-none set ts e)
+encode_formatting-none set (Octet value ∷ ts) e =
+    ap (λ us. Octet value ∷ us) (encode_formatting-none set ts e)
 encode_formatting-none set (Char c ∷ ts) e =
-    ap (λ us. us ++ encode_formatting set ts) (cond-false _ _ _ (ap (λ b. b && is_bidi_formatting c) e))
+    ap (λ us. us ++ encode_formatting set ts)
+    (cond-false _ _ _ (ap (λ b. b && is_bidi_formatting c) e))
     ∙ ap (λ us. Char c ∷ us) (encode_formatting-none set ts e)
 
 off_formatting : (x y : Bool) → (x && y && false) ≡ false
@@ -80,7 +82,9 @@ off_formatting false y = refl
 pub ascii_literal : (set : TableSet) (c : ℕ) → c < 128
     → formatting_as_octets set (Char c) ≡ Char c ∷ []
 unfolding is_never_literal
-ascii_literal set c h = cond-false _ _ _ (ap (λ b. set.ucschar && set.pct_encoded && b) (ascii_formatting c h) ∙ off_formatting set.ucschar set.pct_encoded)
+ascii_literal set c h = cond-false _ _ _
+    (ap (λ b. set.ucschar && set.pct_encoded && b) (ascii_formatting c h)
+    ∙ off_formatting set.ucschar set.pct_encoded)
 
 -- the bytes
 token_kept : (set : TableSet) (t : Token)
@@ -120,12 +124,17 @@ tokens_pass test set (t ∷ ts) octets e =
 
 pub printable-encode_formatting : (set : TableSet) (ts : List Token)
     → list_all is_printable ts ≡ true → list_all is_printable (encode_formatting set ts) ≡ true
-printable-encode_formatting set ts e = tokens_pass is_printable set ts (λ c h. octets_printable (encode_utf8 c) (character_small c (never_literal_scalar set c h).1)) e
+printable-encode_formatting set ts e =
+    tokens_pass is_printable set ts
+    (λ c h. octets_printable (encode_utf8 c)
+    (character_small c (never_literal_scalar set c h).1)) e
 
 pub allows-encode_formatting : (set : TableSet) (ts : List Token)
     → list_all (allows_token set) ts ≡ true
     → list_all (allows_token set) (encode_formatting set ts) ≡ true
-allows-encode_formatting set ts e = tokens_pass (allows_token set) set ts (λ c h. octets_allowed set (encode_utf8 c) (never_literal set c h).1.0) e
+allows-encode_formatting set ts e =
+    tokens_pass (allows_token set) set ts
+    (λ c h. octets_allowed set (encode_utf8 c) (never_literal set c h).1.0) e
 
 -- letters may be lowered before or after
 pub lower_octets : (bytes : List ℕ) → map lower_token (map Octet bytes) ≡ map Octet bytes
@@ -139,12 +148,17 @@ token_lower : (set : TableSet) (t : Token)
     → map lower_token (formatting_as_octets set t) ≡ formatting_as_octets set (lower_token t)
 token_lower set (Octet value) = refl
 token_lower set (Char c) = ⊎_elim
-    (λ low. ap (map lower_token) (ascii_literal set c low) ∙ sym (ascii_literal set (to_ascii_lowercase c) (lowercase_ascii c low)))
+    (λ low. ap (map lower_token) (ascii_literal set c low)
+    ∙ sym (ascii_literal set (to_ascii_lowercase c) (lowercase_ascii c low)))
     (λ high.
-    let same : formatting_as_octets set (Char (to_ascii_lowercase c)) ≡ formatting_as_octets set (Char c) = ap (λ d. formatting_as_octets set (Char d)) (past_same c high) in
+    let same : formatting_as_octets set (Char (to_ascii_lowercase c))
+    ≡ formatting_as_octets set (Char c) =
+    ap (λ d. formatting_as_octets set (Char d)) (past_same c high) in
     ⊎_elim
-    (λ e. ap (map lower_token) (cond-true _ _ _ e) ∙ lower_octets (encode_utf8 c) ∙ sym (same ∙ cond-true _ _ _ e))
-    (λ e. ap (map lower_token) (cond-false _ _ _ e) ∙ ap (λ d. Char d ∷ []) (past_same c high) ∙ sym (same ∙ cond-false _ _ _ e))
+    (λ e. ap (map lower_token) (cond-true _ _ _ e) ∙ lower_octets (encode_utf8 c)
+    ∙ sym (same ∙ cond-true _ _ _ e))
+    (λ e. ap (map lower_token) (cond-false _ _ _ e) ∙ ap (λ d. Char d ∷ []) (past_same c high)
+    ∙ sym (same ∙ cond-false _ _ _ e))
     (cases_Bool (is_never_literal set c)))
     (cases_lt c 128)
 
@@ -162,7 +176,8 @@ pub encode_formatting-around_char : (set : TableSet) (ts : List Token) (c : ℕ)
     ≡ encode_formatting set ts ++ Char c ∷ encode_formatting set us
 encode_formatting-around_char set ts c us low =
     flat_map-append (formatting_as_octets set) ts (Char c ∷ us)
-    ∙ ap (λ x. encode_formatting set ts ++ (x ++ encode_formatting set us)) (ascii_literal set c low)
+    ∙ ap (λ x. encode_formatting set ts ++ (x ++ encode_formatting set us))
+    (ascii_literal set c low)
 
 -- none is left
 octets_not_literal : (bytes : List ℕ) (ts : List Token)

@@ -1,6 +1,6 @@
 -- Where a set has no characters past ASCII, each octet is read by itself.
-use Rattle.std.proofs.Common.{◌≡◌, ℕ, zero, suc, ◌<◌, ◌≤◌, Bool, true, false, cond, leb, List, []}
-use Rattle.std.proofs.Common.{◌∷◌, ◌++◌, take, drop, map, refl, sym, ap, ◌∙◌, arith, ◌&&◌, ◌||◌}
+use Rattle.std.proofs.Common.{◌≡◌, ℕ, zero, suc, ◌<◌, ◌≤◌, true, false, cond, leb, List, []}
+use Rattle.std.proofs.Common.{◌∷◌, ◌++◌, take, drop, map, refl, sym, ap, ◌∙◌, arith, ◌&&◌}
 use Rattle.std.proofs.Common.{⊎_elim, append_assoc, Option, Some, None}
 use Rattle.std.specs.List.{list_all, flat_map}
 use Rattle.std.proofs.Math.Utf8.{low_scalar}
@@ -16,7 +16,8 @@ use Rattle.uri_pct.specs.Pieces.{IsOfCharacter}
 use Rattle.uri_pct.specs.Reading.{LacksPastAscii, is_readable, read_alone, read_piece, read_run}
 use Rattle.uri_pct.specs.Reading.{read_from, read}
 use Rattle.uri_pct.proofs.Unicode.Pieces.{is_inner, are_inner, following_inner, first_bytes}
-use Rattle.uri_pct.proofs.Unicode.CharacterPieces.{is_piece, row_1, char_of-encode}
+use Rattle.uri_pct.proofs.Unicode.CharacterPieces.{is_piece, char_of-encode}
+use Rattle.uri_pct.proofs.Unicode.FirstBytes.{row_1}
 use Rattle.uri_pct.proofs.ValidTexts.Allowed.{unreserved_below}
 use Rattle.uri_pct.proofs.Readings.Formatting.{encode_formatting-none}
 use Rattle.uri_pct.proofs.Tests.{or_false}
@@ -35,7 +36,8 @@ octets_stay [] e = refl
 octets_stay (b ∷ rest) e =
     let p = and_parts (leb 128 b) _ e in
     let high : 128 ≤ b = leb-true 128 b p.0 in
-    let reserved : is_unreserved b ≡ false = false_from_ne_true _ (λ u. let low = unreserved_below b u in omega arith) in
+    let reserved : is_unreserved b ≡ false =
+    false_from_ne_true _ (λ u. let low = unreserved_below b u in omega arith) in
     ap (λ t. t ∷ map octet rest) (cond-false _ _ _ reserved)
     ∙ ap (λ x. Octet b ∷ x) (octets_stay rest p.1)
 
@@ -43,7 +45,8 @@ inner_past_ascii : (range : ByteRange) (b : ℕ) → is_inner range ≡ true →
     → leb 128 b ≡ true
 unfolding is_inner
 inner_past_ascii range b inner e =
-    let low : 0x80 ≤ range.0 = leb-true 0x80 range.0 (and_parts (leb 0x80 range.0) (leb range.1 0xBF) inner).0 in
+    let low : 0x80 ≤ range.0 = leb-true 0x80 range.0
+    (and_parts (leb 0x80 range.0) (leb range.1 0xBF) inner).0 in
     let from : range.0 ≤ b = leb-true range.0 b (and_parts (leb range.0 b) (leb b range.1) e).0 in
     le-leb 128 b (omega arith)
 
@@ -73,7 +76,9 @@ past_ascii_piece set (WellFormed bytes) alone h e =
     ∙ false_from_ne_true _ (λ u.
     let low = unreserved_below (char_of bytes) u in
     let one : bytes ≡ char_of bytes ∷ [] = sym h.1 ∙ encode_ascii (char_of bytes) low in
-    let high : 128 ≤ char_of bytes = leb-true 128 (char_of bytes) (and_parts (leb 128 (char_of bytes)) true (sym (ap (list_all (leb 128)) one) ∙ e)).0 in
+    let high : 128 ≤ char_of bytes =
+    leb-true 128 (char_of bytes)
+    (and_parts (leb 128 (char_of bytes)) true (sym (ap (list_all (leb 128)) one) ∙ e)).0 in
     omega arith) in
     cond-false _ _ _ unread
 
@@ -94,8 +99,10 @@ piece_alone set b rest alone = ⊎_elim
     (λ low. rw (row_1 b low) (ascii_piece set b alone low))
     (λ high.
     let bytes = first_bytes (following b) b rest in
-    let past = and_from _ _ (le-leb 128 b high) (taken_past_ascii (following b) rest (following_inner b)) in
-    past_ascii_piece set (first_piece (following b) b rest) alone (is_piece b rest _ refl) (ap (list_all (leb 128)) bytes ∙ past)
+    let past = and_from _ _ (le-leb 128 b high)
+    (taken_past_ascii (following b) rest (following_inner b)) in
+    past_ascii_piece set (first_piece (following b) b rest) alone (is_piece b rest _ refl)
+    (ap (list_all (leb 128)) bytes ∙ past)
     ∙ ap (map Octet) bytes ∙ sym (octets_stay (b ∷ take (taken (following b) rest) rest) past))
     (cases_lt b 128)
 
@@ -109,7 +116,8 @@ passed_alone set zero (b ∷ rest) alone =
     let n = taken (following b) rest in
     ap (λ x. x ++ flat_map (read_piece set) (pieces_from n rest)) (piece_alone set b rest alone)
     ∙ ap (λ x. map octet (b ∷ take n rest) ++ x) (passed_alone set n rest alone)
-    ∙ ap (λ x. octet b ∷ x) (sym (map-append octet (take n rest) (drop n rest)) ∙ ap (map octet) (take-append-drop n rest))
+    ∙ ap (λ x. octet b ∷ x) (sym (map-append octet (take n rest) (drop n rest))
+    ∙ ap (map octet) (take-append-drop n rest))
 
 run_alone : (set : TableSet) (run : List ℕ) → LacksPastAscii set → read_run set run ≡ map octet run
 unfolding read_run
@@ -131,5 +139,6 @@ from_alone set run (Char c ∷ ts) alone =
 pub read-alone : (set : TableSet) (text : List ℕ) → LacksPastAscii set
     → read set text ≡ map read_alone (tokens text)
 read-alone set text alone =
-    encode_formatting-none set (read_from set [] (tokens text)) (ap (λ b. b && set.pct_encoded) alone.0)
+    encode_formatting-none set (read_from set [] (tokens text))
+    (ap (λ b. b && set.pct_encoded) alone.0)
     ∙ from_alone set [] (tokens text) alone

@@ -20,7 +20,8 @@ abbrev pub are_digits : Bool → ℕ → Bool
 are_digits upper v =
     let high = digit_glyph upper (v / 16) in
     let low = digit_glyph upper (v % 16) in
-    (ltb high 128 && ltb low 128) && ((is_ascii_hexdigit high && is_ascii_hexdigit low) && eqb (16 * digit_value high + digit_value low) v)
+    (ltb high 128 && ltb low 128) && ((is_ascii_hexdigit high && is_ascii_hexdigit low)
+    && eqb (16 * digit_value high + digit_value low) v)
 
 pub digits_of : (upper : Bool) (v : ℕ) → v < 256 → are_digits upper v ≡ true
 digits_of true v h = agree_below_at (are_digits true) (λ _. true) 256 v refl h
@@ -47,7 +48,8 @@ token_scalars (Octet v) e =
     let p = and_parts _ _ (and_parts _ _ (digits_of true v (ltb-true v 256 e))).0 in
     let high : digit_glyph true (v / 16) < 128 = ltb-true _ 128 p.0 in
     let low : digit_glyph true (v % 16) < 128 = ltb-true _ 128 p.1 in
-    and_from _ _ (low_scalar (digit_glyph true (v / 16)) (omega arith)) (and_from _ _ (low_scalar (digit_glyph true (v % 16)) (omega arith)) refl)
+    and_from _ _ (low_scalar (digit_glyph true (v / 16)) (omega arith))
+    (and_from _ _ (low_scalar (digit_glyph true (v % 16)) (omega arith)) refl)
 
 pub char_first : (c : ℕ) (cs : List ℕ) → eqb c 37 ≡ false
     → tokens_of (c ∷ cs) ≡ Char c ∷ tokens_of cs
@@ -77,19 +79,23 @@ print-encodes : (ts : List Token) → list_all is_printable ts ≡ true
 print-encodes [] e = refl
 print-encodes (t ∷ ts) e =
     let p = and_parts (is_printable t) (list_all is_printable ts) e in
-    sym (encodes-append (chars_of_token t) (flat_map chars_of_token ts) ∙ ap (λ x. x ++ encode_utf8_all (flat_map chars_of_token ts)) (token_encodes t p.0) ∙ ap (λ x. text_of_token t ++ x) (sym (print-encodes ts p.1)))
+    sym (encodes-append (chars_of_token t) (flat_map chars_of_token ts)
+    ∙ ap (λ x. x ++ encode_utf8_all (flat_map chars_of_token ts)) (token_encodes t p.0)
+    ∙ ap (λ x. text_of_token t ++ x) (sym (print-encodes ts p.1)))
 
 scalars-append : (xs ys : List ℕ) → all_scalars xs ≡ true → all_scalars ys ≡ true
     → all_scalars (xs ++ ys) ≡ true
 scalars-append [] ys e f = f
-scalars-append (x ∷ xs) ys e f = let p = and_parts _ (all_scalars xs) e in and_from _ _ p.0 (scalars-append xs ys p.1 f)
+scalars-append (x ∷ xs) ys e f = let p = and_parts _ (all_scalars xs) e in
+    and_from _ _ p.0 (scalars-append xs ys p.1 f)
 
 all_scalar_chars : (ts : List Token) → list_all is_printable ts ≡ true
     → all_scalars (flat_map chars_of_token ts) ≡ true
 all_scalar_chars [] e = refl
 all_scalar_chars (t ∷ ts) e =
     let p = and_parts (is_printable t) (list_all is_printable ts) e in
-    scalars-append (chars_of_token t) (flat_map chars_of_token ts) (token_scalars t p.0) (all_scalar_chars ts p.1)
+    scalars-append (chars_of_token t) (flat_map chars_of_token ts) (token_scalars t p.0)
+    (all_scalar_chars ts p.1)
 
 pub chars-print : (ts : List Token) → list_all is_printable ts ≡ true
     → chars (print ts) ≡ flat_map chars_of_token ts

@@ -1,4 +1,5 @@
--- What reading keeps: the bytes, what the set allows, and what stands on either side of a character.
+-- What reading keeps: the bytes, what the set allows, and what stands on either side of a
+-- character.
 use Rattle.std.proofs.Common.{◌≡◌, ℕ, Bool, true, false, cond, List, [], ◌∷◌, ◌++◌, map, refl, sym}
 use Rattle.std.proofs.Common.{ap, ◌∙◌, ◌&&◌, ⊎_elim, append_assoc}
 use Rattle.std.specs.Char.{encode_utf8, IsScalar}
@@ -41,7 +42,8 @@ pieces_kept : (set : TableSet) (ps : List Piece) → All IsOfCharacter ps
 pieces_kept set [] h = refl
 pieces_kept set (p ∷ ps) h =
     flat_map-append bytes_of_token (read_piece set p) (flat_map (read_piece set) ps)
-    ∙ ap (λ x. x ++ token_bytes (flat_map (read_piece set) ps)) (piece_kept set p (All-head IsOfCharacter p ps h))
+    ∙ ap (λ x. x ++ token_bytes (flat_map (read_piece set) ps))
+    (piece_kept set p (All-head IsOfCharacter p ps h))
     ∙ ap (λ x. piece_bytes p ++ x) (pieces_kept set ps (All-tail IsOfCharacter p ps h))
 
 token_bytes-read_run : (set : TableSet) (run : List ℕ) → token_bytes (read_run set run) ≡ run
@@ -57,7 +59,8 @@ token_bytes-read_from set run (Octet value ∷ ts) = token_bytes-read_from set (
     ∙ append_assoc run (value ∷ []) (token_bytes ts)
 token_bytes-read_from set run (Char c ∷ ts) =
     flat_map-append bytes_of_token (read_run set run) (Char c ∷ read_from set [] ts)
-    ∙ ap (λ x. x ++ (encode_utf8 c ++ token_bytes (read_from set [] ts))) (token_bytes-read_run set run)
+    ∙ ap (λ x. x ++ (encode_utf8 c ++ token_bytes (read_from set [] ts)))
+    (token_bytes-read_run set run)
     ∙ ap (λ x. run ++ (encode_utf8 c ++ x)) (token_bytes-read_from set [] ts)
 
 -- reading changes no bytes
@@ -76,7 +79,8 @@ all_from_parts test xs ys e f = list_all-append test xs ys ∙ and_from _ _ e f
 
 all_parts : (test : Token → Bool) (xs ys : List Token) → list_all test (xs ++ ys) ≡ true
     → (list_all test xs ≡ true) × (list_all test ys ≡ true)
-all_parts test xs ys e = and_parts (list_all test xs) (list_all test ys) (sym (list_all-append test xs ys) ∙ e)
+all_parts test xs ys e = and_parts (list_all test xs) (list_all test ys)
+    (sym (list_all-append test xs ys) ∙ e)
 
 piece_passes : (test : Token → Bool) (set : TableSet) (p : Piece) → PassesReadable test set
     → list_all test (map Octet (piece_bytes p)) ≡ true → list_all test (read_piece set p) ≡ true
@@ -91,13 +95,16 @@ pieces_pass : (test : Token → Bool) (set : TableSet) (ps : List Piece) → Pas
     → list_all test (flat_map (read_piece set) ps) ≡ true
 pieces_pass test set [] h e = refl
 pieces_pass test set (p ∷ ps) h e =
-    let parts = all_parts test (map Octet (piece_bytes p)) (map Octet (bytes_of_pieces ps)) (ap (list_all test) (sym (map-append Octet (piece_bytes p) (bytes_of_pieces ps))) ∙ e) in
-    all_from_parts test (read_piece set p) (flat_map (read_piece set) ps) (piece_passes test set p h parts.0) (pieces_pass test set ps h parts.1)
+    let parts = all_parts test (map Octet (piece_bytes p)) (map Octet (bytes_of_pieces ps))
+    (ap (list_all test) (sym (map-append Octet (piece_bytes p) (bytes_of_pieces ps))) ∙ e) in
+    all_from_parts test (read_piece set p) (flat_map (read_piece set) ps)
+    (piece_passes test set p h parts.0) (pieces_pass test set ps h parts.1)
 
 run_passes : (test : Token → Bool) (set : TableSet) (run : List ℕ) → PassesReadable test set
     → list_all test (map Octet run) ≡ true → list_all test (read_run set run) ≡ true
 unfolding read_run
-run_passes test set run h e = pieces_pass test set (utf8_pieces run) h (ap (λ x. list_all test (map Octet x)) (bytes_of_pieces-utf8_pieces run) ∙ e)
+run_passes test set run h e = pieces_pass test set (utf8_pieces run) h
+    (ap (λ x. list_all test (map Octet x)) (bytes_of_pieces-utf8_pieces run) ∙ e)
 
 from_passes : (test : Token → Bool) (set : TableSet) (run : List ℕ) (ts : List Token)
     → PassesReadable test set → list_all test (map Octet run) ≡ true → list_all test ts ≡ true
@@ -107,32 +114,39 @@ from_passes test set run [] h e f = run_passes test set run h e
 from_passes test set run (Octet value ∷ ts) h e f =
     let p = and_parts (test (Octet value)) _ f in
     from_passes test set (run ++ value ∷ []) ts h
-    (ap (list_all test) (map-append Octet run (value ∷ [])) ∙ all_from_parts test (map Octet run) (Octet value ∷ []) e (and_from _ true p.0 refl)) p.1
+    (ap (list_all test) (map-append Octet run (value ∷ []))
+    ∙ all_from_parts test (map Octet run) (Octet value ∷ []) e (and_from _ true p.0 refl)) p.1
 from_passes test set run (Char c ∷ ts) h e f =
     let p = and_parts (test (Char c)) _ f in
-    all_from_parts test (read_run set run) (Char c ∷ read_from set [] ts) (run_passes test set run h e) (and_from _ _ p.0 (from_passes test set [] ts h refl p.1))
+    all_from_parts test (read_run set run) (Char c ∷ read_from set [] ts)
+    (run_passes test set run h e) (and_from _ _ p.0 (from_passes test set [] ts h refl p.1))
 
 -- what is read of printable tokens is printable
 pub printable-read_tokens : (set : TableSet) (ts : List Token) → list_all is_printable ts ≡ true
     → list_all is_printable (read_tokens set ts) ≡ true
-printable-read_tokens set ts e = from_passes is_printable set [] ts (λ c h. printable_readable set c h) refl e
+printable-read_tokens set ts e =
+    from_passes is_printable set [] ts (λ c h. printable_readable set c h) refl e
 
 pub printable-read : (set : TableSet) (text : List ℕ) → list_all is_printable (tokens text) ≡ true
     → list_all is_printable (read set text) ≡ true
-printable-read set text e = printable-encode_formatting set (read_tokens set (tokens text)) (printable-read_tokens set (tokens text) e)
+printable-read set text e = printable-encode_formatting set (read_tokens set (tokens text))
+    (printable-read_tokens set (tokens text) e)
 
 -- what is read of a text that the set allows is allowed by it
 pub allows-read : (set : TableSet) (text : List ℕ) → IsSubset unreserved_set set
     → IsValidFor set text → list_all (allows_token set) (read set text) ≡ true
 unfolding is_valid_for
 allows-read set text wide valid =
-    allows-encode_formatting set (read_tokens set (tokens text)) (from_passes (allows_token set) set [] (tokens text) (λ c h. allows_readable set c wide h) refl valid)
+    allows-encode_formatting set (read_tokens set (tokens text))
+    (from_passes (allows_token set) set [] (tokens text) (λ c h. allows_readable set c wide h)
+    refl valid)
 
 -- and so is its text
 pub is_valid_for-read : (set : TableSet) (text : List ℕ) → LacksPercent set
     → IsSubset unreserved_set set → IsValidFor set text → IsValidFor set (print (read set text))
 is_valid_for-read set text lacks wide valid =
-    is_valid_for-print set (read set text) (printable-read set text (printable_valid set text lacks valid))
+    is_valid_for-print set (read set text)
+    (printable-read set text (printable_valid set text lacks valid))
     ∙ allows-read set text wide valid
 
 -- a character that stands for itself parts the reading before it from that behind it
@@ -143,7 +157,8 @@ from_parted set run [] c us = refl
 from_parted set run (Octet value ∷ ts) c us = from_parted set (run ++ value ∷ []) ts c us
 from_parted set run (Char d ∷ ts) c us =
     ap (λ x. read_run set run ++ Char d ∷ x) (from_parted set [] ts c us)
-    ∙ sym (append_assoc (read_run set run) (Char d ∷ read_from set [] ts) (Char c ∷ read_tokens set us))
+    ∙ sym (append_assoc (read_run set run) (Char d ∷ read_from set [] ts)
+    (Char c ∷ read_tokens set us))
 
 pub read_tokens-around_char : (set : TableSet) (ts : List Token) (c : ℕ) (us : List Token)
     → read_tokens set (ts ++ Char c ∷ us) ≡ read_tokens set ts ++ Char c ∷ read_tokens set us
@@ -157,9 +172,12 @@ unfolding read_run
 run_parted set run c more scalar readable =
     let same = char_of-encode c scalar in
     ap (flat_map (read_piece set)) (utf8_pieces-around_char run c more scalar)
-    ∙ flat_map-append (read_piece set) (utf8_pieces run) (WellFormed (encode_utf8 c) ∷ utf8_pieces more)
-    ∙ ap (λ x. flat_map (read_piece set) (utf8_pieces run) ++ (x ++ flat_map (read_piece set) (utf8_pieces more)))
-    (ap (λ d. cond (is_readable set d) (Char d ∷ []) (map Octet (encode_utf8 c))) same ∙ cond-true _ _ _ readable)
+    ∙ flat_map-append (read_piece set) (utf8_pieces run)
+    (WellFormed (encode_utf8 c) ∷ utf8_pieces more)
+    ∙ ap (λ x. flat_map (read_piece set) (utf8_pieces run)
+    ++ (x ++ flat_map (read_piece set) (utf8_pieces more)))
+    (ap (λ d. cond (is_readable set d) (Char d ∷ []) (map Octet (encode_utf8 c))) same
+    ∙ cond-true _ _ _ readable)
 
 octets_parted : (set : TableSet) (run : List ℕ) (c : ℕ) (more : List ℕ) (ts : List Token)
     → IsScalar c → is_readable set c ≡ true
@@ -168,7 +186,8 @@ octets_parted : (set : TableSet) (run : List ℕ) (c : ℕ) (more : List ℕ) (t
 unfolding read_from
 octets_parted set run c more [] scalar readable = run_parted set run c more scalar readable
 octets_parted set run c more (Octet value ∷ ts) scalar readable =
-    ap (λ r. read_from set r ts) (append_assoc run (encode_utf8 c ++ more) (value ∷ []) ∙ ap (λ x. run ++ x) (append_assoc (encode_utf8 c) more (value ∷ [])))
+    ap (λ r. read_from set r ts) (append_assoc run (encode_utf8 c ++ more) (value ∷ [])
+    ∙ ap (λ x. run ++ x) (append_assoc (encode_utf8 c) more (value ∷ [])))
     ∙ octets_parted set run c (more ++ value ∷ []) ts scalar readable
 octets_parted set run c more (Char d ∷ ts) scalar readable =
     ap (λ x. x ++ Char d ∷ read_from set [] ts) (run_parted set run c more scalar readable)
@@ -190,8 +209,10 @@ from_encoded set run [] c us scalar readable =
     octets_join set run (encode_utf8 c) us
     ∙ ap (λ x. read_from set (run ++ x) us) (sym (append-nil (encode_utf8 c)))
     ∙ octets_parted set run c [] us scalar readable
-from_encoded set run (Octet value ∷ ts) c us scalar readable = from_encoded set (run ++ value ∷ []) ts c us scalar readable
-from_encoded set run (Char d ∷ ts) c us scalar readable = ap (λ x. read_run set run ++ Char d ∷ x) (from_encoded set [] ts c us scalar readable)
+from_encoded set run (Octet value ∷ ts) c us scalar readable =
+    from_encoded set (run ++ value ∷ []) ts c us scalar readable
+from_encoded set run (Char d ∷ ts) c us scalar readable =
+    ap (λ x. read_run set run ++ Char d ∷ x) (from_encoded set [] ts c us scalar readable)
 
 -- the octets of a readable character are read as the character, wherever they stand
 pub read_tokens-encoded : (set : TableSet) (ts : List Token) (c : ℕ) (us : List Token) → IsScalar c
@@ -216,9 +237,11 @@ read_tokens-encode_formatting set before (Char c ∷ ts) =
     ⊎_elim
     (λ e.
     ap (λ x. read_tokens set (before ++ (x ++ encode_formatting set ts))) (cond-true _ _ _ e)
-    ∙ read_tokens-encoded set before c (encode_formatting set ts) (never_literal_scalar set c e).1 (never_literal_readable set c e)
+    ∙ read_tokens-encoded set before c (encode_formatting set ts) (never_literal_scalar set c e).1
+    (never_literal_readable set c e)
     ∙ next)
-    (λ e. ap (λ x. read_tokens set (before ++ (x ++ encode_formatting set ts))) (cond-false _ _ _ e) ∙ next)
+    (λ e. ap (λ x. read_tokens set (before ++ (x ++ encode_formatting set ts))) (cond-false _ _ _ e)
+    ∙ next)
     (cases_Bool (is_never_literal set c))
 
 -- the octets of a readable character mean what it means
@@ -231,8 +254,11 @@ read-print_encoded set before c behind scalar readable e =
     let octets = map Octet (encode_utf8 c) in
     let of : List Token → List Token = λ ts. encode_formatting set (read_tokens set ts) in
     let p = all_parts is_printable before (Char c ∷ behind) e in
-    let spelt = all_from_parts is_printable octets behind (octets_printable (encode_utf8 c) (character_small c scalar)) (and_parts (is_printable (Char c)) _ p.1).1 in
-    ap of (tokens-print (before ++ (octets ++ behind)) (all_from_parts is_printable before (octets ++ behind) p.0 spelt))
+    let spelt = all_from_parts is_printable octets behind
+    (octets_printable (encode_utf8 c) (character_small c scalar))
+    (and_parts (is_printable (Char c)) _ p.1).1 in
+    ap of (tokens-print (before ++ (octets ++ behind))
+    (all_from_parts is_printable before (octets ++ behind) p.0 spelt))
     ∙ ap (encode_formatting set) (read_tokens-encoded set before c behind scalar readable)
     ∙ sym (ap of (tokens-print (before ++ Char c ∷ behind) e))
 

@@ -45,7 +45,9 @@ read_from-IsRead set run (Char c ∷ ts) stays =
 octets_lengthen : (set : TableSet) (run more : List ℕ) (ts : List Token)
     → IsRead set (run ++ more) ts → IsRead set run (map Octet more ++ ts)
 octets_lengthen set run [] ts h = subst (λ r. IsRead set r ts) (append-nil run) h
-octets_lengthen set run (b ∷ more) ts h = octets_lengthen set (run ++ b ∷ []) more ts (subst (λ r. IsRead set r ts) (sym (append_assoc run (b ∷ []) more)) h)
+octets_lengthen set run (b ∷ more) ts h =
+    octets_lengthen set (run ++ b ∷ []) more ts
+    (subst (λ r. IsRead set r ts) (sym (append_assoc run (b ∷ []) more)) h)
 
 is_unread : TableSet → Piece → Bool
 is_unread set (WellFormed bytes) = not (is_readable set (char_of bytes))
@@ -83,35 +85,48 @@ read_first : (set : TableSet) (done : List Piece) (p : Piece) (ps : List Piece) 
 unfolding is_unread
 read_first set done (IllFormed bytes) ps ts e stays behind = cc
 read_first set done (WellFormed bytes) ps ts e stays behind =
-    subst (λ x. IsRead set (bytes_of_pieces done) ((x ++ flat_map (read_piece set) ps) ++ ts)) (sym (cond-true _ _ _ (not-false _ e))) (stays, behind)
+    subst (λ x. IsRead set (bytes_of_pieces done) ((x ++ flat_map (read_piece set) ps) ++ ts))
+    (sym (cond-true _ _ _ (not-false _ e))) (stays, behind)
 
--- what is read of the pieces of a run is read, where unread pieces stand before it and what follows is read
+-- what is read of the pieces of a run is read, where unread pieces stand before it and what follows
+-- is read
 pieces_are_read : (set : TableSet) (done ps : List Piece) (ts : List Token) → AreCut (done ++ ps)
     → list_all (is_unread set) done ≡ true
     → ((run : List ℕ) → StaysOctets set run → IsRead set run ts)
     → IsRead set (bytes_of_pieces done) (flat_map (read_piece set) ps ++ ts)
-pieces_are_read set done [] ts cut unread behind = behind (bytes_of_pieces done) (unread_run set done (cut_front done [] cut) unread)
+pieces_are_read set done [] ts cut unread behind =
+    behind (bytes_of_pieces done) (unread_run set done (cut_front done [] cut) unread)
 pieces_are_read set done (p ∷ ps) ts cut unread behind = ⊎_elim
     (λ e.
-    let more : AreCut ((done ++ p ∷ []) ++ ps) = subst AreCut (sym (append_assoc done (p ∷ []) ps)) cut in
+    let more : AreCut ((done ++ p ∷ []) ++ ps) =
+    subst AreCut (sym (append_assoc done (p ∷ []) ps)) cut in
     let all = list_all-append (is_unread set) done (p ∷ [])
     ∙ and_from _ _ unread (and_from _ true e refl) in
-    let bytes : bytes_of_pieces (done ++ p ∷ []) ≡ bytes_of_pieces done ++ piece_bytes p = flat_map-append piece_bytes done (p ∷ [])
+    let bytes : bytes_of_pieces (done ++ p ∷ []) ≡ bytes_of_pieces done ++ piece_bytes p =
+    flat_map-append piece_bytes done (p ∷ [])
     ∙ ap (λ x. bytes_of_pieces done ++ x) (append-nil (piece_bytes p)) in
-    let next = subst (λ r. IsRead set r (flat_map (read_piece set) ps ++ ts)) bytes (pieces_are_read set (done ++ p ∷ []) ps ts more all behind) in
-    let octets = octets_lengthen set (bytes_of_pieces done) (piece_bytes p) (flat_map (read_piece set) ps ++ ts) next in
-    subst (IsRead set (bytes_of_pieces done)) (sym (append_assoc (read_piece set p) (flat_map (read_piece set) ps) ts))
-    (subst (λ x. IsRead set (bytes_of_pieces done) (x ++ (flat_map (read_piece set) ps ++ ts))) (sym (unread_piece set p e)) octets))
+    let next = subst (λ r. IsRead set r (flat_map (read_piece set) ps ++ ts)) bytes
+    (pieces_are_read set (done ++ p ∷ []) ps ts more all behind) in
+    let octets = octets_lengthen set (bytes_of_pieces done) (piece_bytes p)
+    (flat_map (read_piece set) ps ++ ts) next in
+    subst (IsRead set (bytes_of_pieces done))
+    (sym (append_assoc (read_piece set p) (flat_map (read_piece set) ps) ts))
+    (subst (λ x. IsRead set (bytes_of_pieces done) (x ++ (flat_map (read_piece set) ps ++ ts)))
+    (sym (unread_piece set p e)) octets))
     (λ e. read_first set done p ps ts e (unread_run set done (cut_front done (p ∷ ps) cut) unread)
-    (pieces_are_read set [] ps ts (cut_behind (done ++ p ∷ []) ps (subst AreCut (sym (append_assoc done (p ∷ []) ps)) cut)) refl behind))
+    (pieces_are_read set [] ps ts (cut_behind (done ++ p ∷ []) ps
+    (subst AreCut (sym (append_assoc done (p ∷ []) ps)) cut)) refl behind))
     (cases_Bool (is_unread set p))
 
 -- what was read is read
 is_read : (set : TableSet) (run : List ℕ) (ts : List Token) → IsRead set [] (read_from set run ts)
 unfolding read_from read_run
-is_read set run [] = subst (IsRead set []) (append-nil (read_run set run)) (pieces_are_read set [] (utf8_pieces run) [] (cut_whole run) refl (λ r stays. stays))
+is_read set run [] = subst (IsRead set []) (append-nil (read_run set run))
+    (pieces_are_read set [] (utf8_pieces run) [] (cut_whole run) refl (λ r stays. stays))
 is_read set run (Octet value ∷ ts) = is_read set (run ++ value ∷ []) ts
-is_read set run (Char c ∷ ts) = pieces_are_read set [] (utf8_pieces run) (Char c ∷ read_from set [] ts) (cut_whole run) refl (λ r stays. (stays, is_read set [] ts))
+is_read set run (Char c ∷ ts) =
+    pieces_are_read set [] (utf8_pieces run) (Char c ∷ read_from set [] ts) (cut_whole run) refl
+    (λ r stays. (stays, is_read set [] ts))
 
 pub read_tokens-read_tokens : (set : TableSet) (ts : List Token)
     → read_tokens set (read_tokens set ts) ≡ read_tokens set ts
@@ -122,8 +137,10 @@ pub read-print_read : (set : TableSet) (text : List ℕ) → list_all is_printab
     → read set (print (read set text)) ≡ read set text
 read-print_read set text e =
     let ts = read_tokens set (tokens text) in
-    ap (λ us. encode_formatting set (read_tokens set us)) (tokens-print (read set text) (printable-read set text e))
-    ∙ ap (encode_formatting set) (read_tokens-encode_formatting set [] ts ∙ read_tokens-read_tokens set (tokens text))
+    ap (λ us. encode_formatting set (read_tokens set us))
+    (tokens-print (read set text) (printable-read set text e))
+    ∙ ap (encode_formatting set) (read_tokens-encode_formatting set [] ts
+    ∙ read_tokens-read_tokens set (tokens text))
 
 lower_is_read : (set : TableSet) (run : List ℕ) (ts : List Token) → IsRead set run ts
     → IsRead set run (map lower_token ts)
@@ -133,14 +150,18 @@ lower_is_read set run (Char c ∷ ts) h = (h.0, lower_is_read set [] ts h.1)
 
 pub read_tokens-lower : (set : TableSet) (ts : List Token)
     → read_tokens set (map lower_token (read_tokens set ts)) ≡ map lower_token (read_tokens set ts)
-read_tokens-lower set ts = read_from-IsRead set [] (map lower_token (read_tokens set ts)) (lower_is_read set [] (read_tokens set ts) (is_read set [] ts))
+read_tokens-lower set ts = read_from-IsRead set [] (map lower_token (read_tokens set ts))
+    (lower_is_read set [] (read_tokens set ts) (is_read set [] ts))
 
 -- what is read with its letters lowered is read again as itself
 pub read-print_lower : (set : TableSet) (text : List ℕ) → list_all is_printable (tokens text) ≡ true
     → read set (print (map lower_token (read set text))) ≡ map lower_token (read set text)
 read-print_lower set text e =
     let ts = read_tokens set (tokens text) in
-    ap (λ us. encode_formatting set (read_tokens set us)) (tokens-print (map lower_token (read set text)) (printable-lower (read set text) (printable-read set text e)))
+    ap (λ us. encode_formatting set (read_tokens set us))
+    (tokens-print (map lower_token (read set text))
+    (printable-lower (read set text) (printable-read set text e)))
     ∙ ap (λ us. encode_formatting set (read_tokens set us)) (lower-encode_formatting set ts)
-    ∙ ap (encode_formatting set) (read_tokens-encode_formatting set [] (map lower_token ts) ∙ read_tokens-lower set (tokens text))
+    ∙ ap (encode_formatting set) (read_tokens-encode_formatting set [] (map lower_token ts)
+    ∙ read_tokens-lower set (tokens text))
     ∙ sym (lower-encode_formatting set ts)

@@ -27,11 +27,19 @@ none_there text e h = let n = ap length e in omega arith
 first_of : (text cs : List ℕ) → all_scalars cs ≡ true → encode_utf8_all cs ≡ text → 0 < length text
     → FirstChar text
 first_of text [] s e h = absurd (none_there text e h)
-first_of text (c ∷ cs) s e h = record { code = c; behind = encode_utf8_all cs; scalar = (and_parts _ (all_scalars cs) s).0; spelt = sym e }
+first_of text (c ∷ cs) s e h =
+    record {
+      code = c;
+      behind = encode_utf8_all cs;
+      scalar =
+          (and_parts _ (all_scalars cs) s).0;
+      spelt = sym e;
+    }
 
 -- its first byte
 abbrev lead_byte : ℕ → ℕ
-lead_byte c = cond (ltb c 128) c (cond (ltb c 2048) (192 + c / 64) (cond (ltb c 65536) (224 + c / 4096) (240 + c / 262144)))
+lead_byte c = cond (ltb c 128) c
+    (cond (ltb c 2048) (192 + c / 64) (cond (ltb c 65536) (224 + c / 4096) (240 + c / 262144)))
 
 lead_is : (c : ℕ) (rest : List ℕ) → get_or (encode_utf8 c ++ rest) 0 0 ≡ lead_byte c
 unfolding encode_utf8
@@ -39,7 +47,8 @@ lead_is c rest = ⊎_elim
     (λ (e : ltb c 128 ≡ true). rw e refl)
     (λ (e : ltb c 128 ≡ false). ⊎_elim
     (λ (f : ltb c 2048 ≡ true). rw (e, f) refl)
-    (λ (f : ltb c 2048 ≡ false). ⊎_elim (λ (g : ltb c 65536 ≡ true). rw (e, f, g) refl) (λ (g : ltb c 65536 ≡ false). rw (e, f, g) refl) (cases_Bool (ltb c 65536)))
+    (λ (f : ltb c 2048 ≡ false). ⊎_elim (λ (g : ltb c 65536 ≡ true). rw (e, f, g) refl)
+    (λ (g : ltb c 65536 ≡ false). rw (e, f, g) refl) (cases_Bool (ltb c 65536)))
     (cases_Bool (ltb c 2048)))
     (cases_Bool (ltb c 128))
 
@@ -51,15 +60,18 @@ record IsTold (c n : ℕ) : Type 0 where
 
 two_told : (c : ℕ) → 195 ≤ lead_byte c → lead_byte c < 224 → IsTold c 2
 two_told c h l = ⊎_elim
-    (λ small. let e : lead_byte c ≡ c = cond-true _ _ _ (lt-ltb c 128 small) in absurd (omega arith))
+    (λ small. let e : lead_byte c ≡ c = cond-true _ _ _ (lt-ltb c 128 small) in
+    absurd (omega arith))
     (λ past. let e = le-ltb c 128 past in ⊎_elim
     (λ mid.
     let f = lt-ltb c 2048 mid in
     let b : lead_byte c ≡ 192 + c / 64 = cond-false _ _ _ e ∙ cond-true _ _ _ f in
     record { from = omega arith; to = omega arith; size = cond-false _ _ _ e ∙ cond-true _ _ _ f })
     (λ big. let f = le-ltb c 2048 big in ⊎_elim
-    (λ g. let b : lead_byte c ≡ 224 + c / 4096 = cond-false _ _ _ e ∙ cond-false _ _ _ f ∙ cond-true _ _ _ (lt-ltb c 65536 g) in absurd (omega arith))
-    (λ g. let b : lead_byte c ≡ 240 + c / 262144 = cond-false _ _ _ e ∙ cond-false _ _ _ f ∙ cond-false _ _ _ (le-ltb c 65536 g) in absurd (omega arith))
+    (λ g. let b : lead_byte c ≡ 224 + c / 4096 = cond-false _ _ _ e ∙ cond-false _ _ _ f
+    ∙ cond-true _ _ _ (lt-ltb c 65536 g) in absurd (omega arith))
+    (λ g. let b : lead_byte c ≡ 240 + c / 262144 = cond-false _ _ _ e ∙ cond-false _ _ _ f
+    ∙ cond-false _ _ _ (le-ltb c 65536 g) in absurd (omega arith))
     (cases_lt c 65536))
     (cases_lt c 2048))
     (cases_lt c 128)
@@ -69,16 +81,24 @@ no_surrogate c s h = grind (arith, nat_tests)
 
 three_told : (c : ℕ) → IsScalar c → 224 ≤ lead_byte c → lead_byte c ≤ 237 → IsTold c 3
 three_told c s h l = ⊎_elim
-    (λ small. let e : lead_byte c ≡ c = cond-true _ _ _ (lt-ltb c 128 small) in absurd (omega arith))
+    (λ small. let e : lead_byte c ≡ c = cond-true _ _ _ (lt-ltb c 128 small) in
+    absurd (omega arith))
     (λ past. let e = le-ltb c 128 past in ⊎_elim
-    (λ mid. let b : lead_byte c ≡ 192 + c / 64 = cond-false _ _ _ e ∙ cond-true _ _ _ (lt-ltb c 2048 mid) in absurd (omega arith))
+    (λ mid. let b : lead_byte c ≡ 192 + c / 64 = cond-false _ _ _ e
+    ∙ cond-true _ _ _ (lt-ltb c 2048 mid) in absurd (omega arith))
     (λ big. let f = le-ltb c 2048 big in ⊎_elim
     (λ below.
     let g = lt-ltb c 65536 below in
     let b : lead_byte c ≡ 224 + c / 4096 = cond-false _ _ _ e ∙ cond-false _ _ _ f
     ∙ cond-true _ _ _ g in
-    record { from = omega arith; to = no_surrogate c s (omega arith); size = cond-false _ _ _ e ∙ cond-false _ _ _ f ∙ cond-true _ _ _ g })
-    (λ g. let b : lead_byte c ≡ 240 + c / 262144 = cond-false _ _ _ e ∙ cond-false _ _ _ f ∙ cond-false _ _ _ (le-ltb c 65536 g) in absurd (omega arith))
+    record {
+      from = omega arith;
+      to = no_surrogate c s (omega arith);
+      size = cond-false _ _ _ e
+          ∙ cond-false _ _ _ f ∙ cond-true _ _ _ g;
+    })
+    (λ g. let b : lead_byte c ≡ 240 + c / 262144 = cond-false _ _ _ e ∙ cond-false _ _ _ f
+    ∙ cond-false _ _ _ (le-ltb c 65536 g) in absurd (omega arith))
     (cases_lt c 65536))
     (cases_lt c 2048))
     (cases_lt c 128)
@@ -109,8 +129,13 @@ pub char_read : (set : TableSet) (bs rest : List ℕ) (i c n : ℕ) → IsUtf8 b
 char_read set bs rest i c n u here inside past spelt allowed size =
     let whole : drop i bs ≡ encode_utf8 c ++ drop (i + len_utf8 c) bs = spelt
     ∙ ap (λ t. encode_utf8 c ++ t) (sym (drop_past_char bs rest i c spelt)) in
-    subst (λ k. (front set (drop i bs) ≡ front set (drop (i + k) bs) + k) × IsCharBoundary bs (i + k)) size
-    (front-past-at set bs i c u here whole past ∙ cond-true _ _ _ allowed, IsCharBoundary-past_char bs rest i c (omega arith) (IsUtf8-drop bs i u here) spelt)
+    subst (λ k. (front set (drop i bs) ≡ front set (drop (i + k) bs) + k)
+    × IsCharBoundary bs (i + k)) size (
+      front-past-at set bs i c u here whole past
+          ∙ cond-true _ _ _ allowed,
+      IsCharBoundary-past_char bs rest i c (omega arith)
+          (IsUtf8-drop bs i u here) spelt,
+    )
 
 byte_there : (bs rest : List ℕ) (i c : ℕ) → drop i bs ≡ encode_utf8 c ++ rest
     → get_or bs i 0 ≡ lead_byte c
@@ -122,20 +147,24 @@ byte_there bs rest i c spelt =
 module _ (set : TableSet) (bs : List ℕ) (i : ℕ) (u : IsUtf8 bs) (here : IsCharBoundary bs i)
     (inside : i < length bs) (flag : set.ucschar ≡ true) where
   there : FirstChar (drop i bs)
-  there = let v = IsUtf8-drop bs i u here in first_of (drop i bs) v.0 v.1.0 v.1.1 (omega (arith, length-drop i bs))
+  there = let v = IsUtf8-drop bs i u here in
+      first_of (drop i bs) v.0 v.1.0 v.1.1 (omega (arith, length-drop i bs))
 
   told_read : (n : ℕ) → 195 ≤ get_or bs i 0 → IsTold there.code n
       → (front set (drop i bs) ≡ front set (drop (i + n) bs) + n) × IsCharBoundary bs (i + n)
-  told_read n high told = char_read set bs there.behind i there.code n u here inside (omega arith) there.spelt (told_allowed set there.code n flag told) told.size
+  told_read n high told = char_read set bs there.behind i there.code n u here inside (omega arith)
+      there.spelt (told_allowed set there.code n flag told) told.size
 
   pub two_read : 195 ≤ get_or bs i 0 → get_or bs i 0 < 224
       → (front set (drop i bs) ≡ front set (drop (i + 2) bs) + 2) × IsCharBoundary bs (i + 2)
   two_read high low =
       let e = byte_there bs there.behind i there.code there.spelt in
-      told_read 2 high (two_told there.code (subst (λ b. 195 ≤ b) e high) (subst (λ b. b < 224) e low))
+      told_read 2 high
+      (two_told there.code (subst (λ b. 195 ≤ b) e high) (subst (λ b. b < 224) e low))
 
   pub three_read : 224 ≤ get_or bs i 0 → get_or bs i 0 ≤ 237
       → (front set (drop i bs) ≡ front set (drop (i + 3) bs) + 3) × IsCharBoundary bs (i + 3)
   three_read high low =
       let e = byte_there bs there.behind i there.code there.spelt in
-      told_read 3 (omega arith) (three_told there.code there.scalar (subst (λ b. 224 ≤ b) e high) (subst (λ b. b ≤ 237) e low))
+      told_read 3 (omega arith) (three_told there.code there.scalar (subst (λ b. 224 ≤ b) e high)
+      (subst (λ b. b ≤ 237) e low))

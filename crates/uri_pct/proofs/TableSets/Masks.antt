@@ -32,7 +32,8 @@ has_no_bit low high c h = cond-false _ _ _ (le-ltb c 64 (omega arith))
     ∙ ap (λ b. b && eqb (bit_at high (c - 64)) 1) (le-ltb c 128 h)
 
 pub bit_ascii : (low high c : ℕ) → has_bit low high c ≡ true → c < 128
-bit_ascii low high c e = ⊎_elim (λ (below : c < 128). below) (λ (past : 128 ≤ c). absurd (both_ways _ (has_no_bit low high c past) e)) (cases_lt c 128)
+bit_ascii low high c e = ⊎_elim (λ (below : c < 128). below)
+    (λ (past : 128 ≤ c). absurd (both_ways _ (has_no_bit low high c past) e)) (cases_lt c 128)
 
 -- the place of `%`
 pub percent_bit : (low high : ℕ) → has_bit low high 37 ≡ eqb (bit_at low 37) 1
@@ -62,14 +63,18 @@ bit_read_is words b third fourth h =
     let low = slice_index_or words 0 0 in
     let high = slice_index_or words 1 0 in
     ⊎_elim
-    (λ (below : b < 64). bit_of_word words b 0 (omega arith) ∙ ap (λ k. eqb (bit_at low k) 1) (omega arith) ∙ sym (has_low_bit low high b below))
+    (λ (below : b < 64). bit_of_word words b 0 (omega arith)
+    ∙ ap (λ k. eqb (bit_at low k) 1) (omega arith) ∙ sym (has_low_bit low high b below))
     (λ (from : 64 ≤ b).
     ⊎_elim
-    (λ (below : b < 128). bit_of_word words b 1 (omega arith) ∙ ap (λ k. eqb (bit_at high k) 1) (omega arith) ∙ sym (has_high_bit low high b from below))
+    (λ (below : b < 128). bit_of_word words b 1 (omega arith)
+    ∙ ap (λ k. eqb (bit_at high k) 1) (omega arith) ∙ sym (has_high_bit low high b from below))
     (λ (past : 128 ≤ b).
     ⊎_elim
-    (λ (below : b < 192). bit_of_word words b 2 (omega arith) ∙ no_bit_of_zero _ (b - 64 * 2) third ∙ sym (has_no_bit low high b past))
-    (λ (last : 192 ≤ b). bit_of_word words b 3 (omega arith) ∙ no_bit_of_zero _ (b - 64 * 3) fourth ∙ sym (has_no_bit low high b past))
+    (λ (below : b < 192). bit_of_word words b 2 (omega arith) ∙ no_bit_of_zero _ (b - 64 * 2) third
+    ∙ sym (has_no_bit low high b past))
+    (λ (last : 192 ≤ b). bit_of_word words b 3 (omega arith) ∙ no_bit_of_zero _ (b - 64 * 3) fourth
+    ∙ sym (has_no_bit low high b past))
     (cases_lt b 192))
     (cases_lt b 128))
     (cases_lt b 64)
@@ -121,18 +126,27 @@ without_test a b i fits within =
 pub has_bit_or : (low high low' high' c : ℕ)
     → has_bit (bit_or low low') (bit_or high high') c ≡ (has_bit low high c || has_bit low' high' c)
 has_bit_or low high low' high' =
-    has_bit_by (bit_or low low') (bit_or high high') (λ c. has_bit low high c || has_bit low' high' c)
-    (λ c h. or_test low low' c ∙ sym (in_both (λ a b. a || b) (has_low_bit low high c h) (has_low_bit low' high' c h)))
-    (λ c h k. or_test high high' (c - 64) ∙ sym (in_both (λ a b. a || b) (has_high_bit low high c h k) (has_high_bit low' high' c h k)))
-    (λ c h. or_from (has_bit low high c) (has_bit low' high' c) (has_no_bit low high c h) (has_no_bit low' high' c h))
+    has_bit_by (bit_or low low') (bit_or high high')
+    (λ c. has_bit low high c || has_bit low' high' c)
+    (λ c h. or_test low low' c
+    ∙ sym (in_both (λ a b. a || b) (has_low_bit low high c h) (has_low_bit low' high' c h)))
+    (λ c h k. or_test high high' (c - 64)
+    ∙ sym
+    (in_both (λ a b. a || b) (has_high_bit low high c h k) (has_high_bit low' high' c h k)))
+    (λ c h. or_from (has_bit low high c) (has_bit low' high' c) (has_no_bit low high c h)
+    (has_no_bit low' high' c h))
 
 pub has_bit_without : (low high low' high' c : ℕ) → low' < 2 ^ 64 → high' < 2 ^ 64
     → has_bit (bit_and low (bit_not w64 low')) (bit_and high (bit_not w64 high')) c
     ≡ (has_bit low high c && not (has_bit low' high' c))
 has_bit_without low high low' high' c fits fits' =
-    has_bit_by (bit_and low (bit_not w64 low')) (bit_and high (bit_not w64 high')) (λ c. has_bit low high c && not (has_bit low' high' c))
-    (λ c h. without_test low low' c fits h ∙ sym (in_both (λ a b. a && not b) (has_low_bit low high c h) (has_low_bit low' high' c h)))
-    (λ c h k. without_test high high' (c - 64) fits' (omega arith) ∙ sym (in_both (λ a b. a && not b) (has_high_bit low high c h k) (has_high_bit low' high' c h k)))
+    has_bit_by (bit_and low (bit_not w64 low')) (bit_and high (bit_not w64 high'))
+    (λ c. has_bit low high c && not (has_bit low' high' c))
+    (λ c h. without_test low low' c fits h
+    ∙ sym (in_both (λ a b. a && not b) (has_low_bit low high c h) (has_low_bit low' high' c h)))
+    (λ c h k. without_test high high' (c - 64) fits' (omega arith)
+    ∙ sym (in_both (λ a b. a && not b) (has_high_bit low high c h k)
+    (has_high_bit low' high' c h k)))
     (λ c h. and_left (has_bit low high c) (not (has_bit low' high' c)) (has_no_bit low high c h))
     c
 
@@ -158,7 +172,8 @@ has_bit_set_low low high k c within =
     (λ c h j.
     sym (has_high_bit low high c h j) ∙ sym (or-false (has_bit low high c))
     ∙ ap (λ b. has_bit low high c || b) (sym (ne_eqb k c (λ (e : k ≡ c). omega arith))))
-    (λ c h. or_from (has_bit low high c) (eqb k c) (has_no_bit low high c h) (ne_eqb k c (λ (e : k ≡ c). omega arith)))
+    (λ c h. or_from (has_bit low high c) (eqb k c) (has_no_bit low high c h)
+    (ne_eqb k c (λ (e : k ≡ c). omega arith)))
     c
 
 same_distance : (k c : ℕ) → 64 ≤ k → 64 ≤ c → eqb (k - 64) (c - 64) ≡ eqb k c
@@ -174,12 +189,14 @@ has_bit_set_high low high k c from within =
     (λ c h j.
     set_test high (k - 64) (c - 64) (omega arith)
     ∙ in_both (λ a b. a || b) (sym (has_high_bit low high c h j)) (same_distance k c from h))
-    (λ c h. or_from (has_bit low high c) (eqb k c) (has_no_bit low high c h) (ne_eqb k c (λ (e : k ≡ c). omega arith)))
+    (λ c h. or_from (has_bit low high c) (eqb k c) (has_no_bit low high c h)
+    (ne_eqb k c (λ (e : k ≡ c). omega arith)))
     c
 
 -- no bit at all
 pub has_no_bits : (c : ℕ) → has_bit 0 0 c ≡ false
-has_no_bits = has_bit_by 0 0 (λ c. false) (λ c h. no_bit_of_zero 0 c refl) (λ c h k. no_bit_of_zero 0 (c - 64) refl) (λ c h. refl)
+has_no_bits = has_bit_by 0 0 (λ c. false) (λ c h. no_bit_of_zero 0 c refl)
+    (λ c h k. no_bit_of_zero 0 (c - 64) refl) (λ c h. refl)
 
 no_bit : (n i : ℕ) → eqb (bit_at n i) 1 ≡ false → bit_at n i ≡ 0
 no_bit n i e =
@@ -189,10 +206,12 @@ no_bit n i e =
 
 zero_by_bits : (n : ℕ) → n < 2 ^ 64 → ((i : ℕ) → i < 64 → eqb (bit_at n i) 1 ≡ false) → n ≡ 0
 zero_by_bits n fits none =
-    same_from_bits_below 64 n 0 fits (omega arith) (λ i h. no_bit n i (none i h) ∙ sym (bit_at-zero i))
+    same_from_bits_below 64 n 0 fits (omega arith)
+    (λ i h. no_bit n i (none i h) ∙ sym (bit_at-zero i))
 
 pub low_is_zero : (low high : ℕ) → low < 2 ^ 64 → ((c : ℕ) → has_bit low high c ≡ false) → low ≡ 0
-low_is_zero low high fits none = zero_by_bits low fits (λ i h. sym (has_low_bit low high i h) ∙ none i)
+low_is_zero low high fits none =
+    zero_by_bits low fits (λ i h. sym (has_low_bit low high i h) ∙ none i)
 
 pub high_is_zero : (low high : ℕ) → high < 2 ^ 64 → ((c : ℕ) → has_bit low high c ≡ false)
     → high ≡ 0
@@ -214,4 +233,5 @@ has_bit_is low high test same none c =
 -- where all bits are set, each ASCII character
 pub all_bits : (c : ℕ) → has_bit 0xFFFFFFFFFFFFFFFF 0xFFFFFFFFFFFFFFFF c ≡ ltb c 128
 unfolding has_bit
-all_bits c = has_bit_is 0xFFFFFFFFFFFFFFFF 0xFFFFFFFFFFFFFFFF (λ b. ltb b 128) refl (λ b h. le-ltb b 128 h) c
+all_bits c = has_bit_is 0xFFFFFFFFFFFFFFFF 0xFFFFFFFFFFFFFFFF (λ b. ltb b 128) refl
+    (λ b h. le-ltb b 128 h) c

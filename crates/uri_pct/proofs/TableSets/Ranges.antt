@@ -1,4 +1,5 @@
--- The ranges of `ucschar` and `iprivate`, told apart as the code tells them: below plane 1, planes 1 to 13, and above.
+-- The ranges of `ucschar` and `iprivate`, told apart as the code tells them: below plane 1, planes
+-- 1 to 13, and above.
 use Rattle.std.proofs.Common.{◌≡◌, ℕ, zero, suc, ◌+◌, ◌*◌, ◌%◌, ◌<◌, ◌≤◌, Bool, false, leb, refl}
 use Rattle.std.proofs.Common.{ap, ◌∙◌, arith, ◌||◌, ⊎_elim}
 use Rattle.std.specs.Int.{is_in_range}
@@ -16,13 +17,15 @@ above_range low high c h = and_right (leb low c) (leb c high) (lt-leb c high h)
 -- `others`, or a character of one of the planes 1 to n that is not among the last two of its plane
 unfoldable pub in_planes : Bool → ℕ → ℕ → Bool
 in_planes others zero c = others
-in_planes others (suc n) c = in_planes others n c || is_in_range (65536 * (n + 1)) (65536 * (n + 1) + 65533) c
+in_planes others (suc n) c = in_planes others n c
+    || is_in_range (65536 * (n + 1)) (65536 * (n + 1) + 65533) c
 
 below_planes : (others : Bool) (n c : ℕ) → c < 65536 → in_planes others n c ≡ others
 unfolding in_planes
 below_planes others zero c h = refl
 below_planes others (suc n) c h =
-    ap (λ b. in_planes others n c || b) (below_range (65536 * (n + 1)) (65536 * (n + 1) + 65533) c (omega arith))
+    ap (λ b. in_planes others n c || b)
+    (below_range (65536 * (n + 1)) (65536 * (n + 1) + 65533) c (omega arith))
     ∙ or-false (in_planes others n c) ∙ below_planes others n c h
 
 above_planes : (n c : ℕ) → 65536 * (n + 1) ≤ c → in_planes false n c ≡ false
@@ -46,7 +49,8 @@ within_planes zero c from below = absurd (omega arith)
 within_planes (suc n) c from below =
     ⊎_elim
     (λ (lower : c < 65536 * (n + 1)).
-    ap (λ b. in_planes false n c || b) (below_range (65536 * (n + 1)) (65536 * (n + 1) + 65533) c lower)
+    ap (λ b. in_planes false n c || b)
+    (below_range (65536 * (n + 1)) (65536 * (n + 1) + 65533) c lower)
     ∙ or-false (in_planes false n c) ∙ within_planes n c from lower)
     (λ (here : 65536 * (n + 1) ≤ c).
     ap (λ b. b || is_in_range (65536 * (n + 1)) (65536 * (n + 1) + 65533) c) (above_planes n c here)
@@ -55,7 +59,8 @@ within_planes (suc n) c from below =
 
 -- the ranges of plane 0
 abbrev pub is_low_ucschar : ℕ → Bool
-is_low_ucschar c = is_in_range 0xA0 0xD7FF c || is_in_range 0xF900 0xFDCF c || is_in_range 0xFDF0 0xFFEF c
+is_low_ucschar c = is_in_range 0xA0 0xD7FF c || is_in_range 0xF900 0xFDCF c
+    || is_in_range 0xFDF0 0xFFEF c
 
 ucschar_by_planes : (c : ℕ)
     → is_ucschar c ≡ (in_planes (is_low_ucschar c) 13 c || is_in_range 0xE1000 0xEFFFD c)
@@ -89,6 +94,7 @@ ucschar_last c h =
 
 pub iprivate_ranges : (c : ℕ)
     → is_iprivate c
-    ≡ (is_in_range 0xE000 0xF8FF c || is_in_range 0xF0000 0xFFFFD c || is_in_range 0x100000 0x10FFFD c)
+    ≡ (is_in_range 0xE000 0xF8FF c || is_in_range 0xF0000 0xFFFFD c
+    || is_in_range 0x100000 0x10FFFD c)
 unfolding is_iprivate
 iprivate_ranges c = refl

@@ -15,13 +15,15 @@ use Rattle.uri_pct.specs.Tables.{empty_set}
 use Rattle.uri_pct.proofs.TableSets.Masks.{has_no_bits, low_is_zero, high_is_zero}
 
 abbrev pub record_set : (ℕ → Bool) → Bool → Bool → Bool → TableSet
-record_set test pct_encoded ucschar iprivate = record { ascii = test; pct_encoded = pct_encoded; ucschar = ucschar; iprivate = iprivate }
+record_set test pct_encoded ucschar iprivate =
+    record { ascii = test; pct_encoded = pct_encoded; ucschar = ucschar; iprivate = iprivate }
 
 -- sets are equal if their tests agree everywhere, and their flags are the same
 pub same_set : (test test' : ℕ → Bool) (pct_encoded ucschar iprivate : Bool)
     → ((c : ℕ) → test c ≡ test' c)
     → record_set test pct_encoded ucschar iprivate ≡ record_set test' pct_encoded ucschar iprivate
-same_set test test' pct_encoded ucschar iprivate same = λ i. record_set (λ c. same c i) pct_encoded ucschar iprivate
+same_set test test' pct_encoded ucschar iprivate same =
+    λ i. record_set (λ c. same c i) pct_encoded ucschar iprivate
 
 -- a set lies in another if nothing is left of it without that other
 kept : (a b : Bool) → (a && not b) ≡ false → a ≡ true → b ≡ true
@@ -51,7 +53,8 @@ empty_if_subset s t h = λ i. record {
 
 -- masks and flags of which none is set
 abbrev pub is_clear : ℕ → ℕ → Bool → Bool → Bool → Bool
-is_clear low high pct_encoded ucschar iprivate = eqb (bit_or low high) 0 && not (pct_encoded || ucschar || iprivate)
+is_clear low high pct_encoded ucschar iprivate =
+    eqb (bit_or low high) 0 && not (pct_encoded || ucschar || iprivate)
 
 abbrev pub set_of_masks : ℕ → ℕ → Bool → Bool → Bool → TableSet
 set_of_masks low high = record_set (has_bit low high)
@@ -67,7 +70,8 @@ empty_if_clear low high pct_encoded ucschar iprivate h =
     let below' : bit_and low high ≤ high = and_le_r low high in
     let no_low : low ≡ 0 = omega arith in
     let no_high : high ≡ 0 = omega arith in
-    let flags = or_parts (pct_encoded || ucschar) iprivate (not-true (pct_encoded || ucschar || iprivate) parts.1) in
+    let flags = or_parts (pct_encoded || ucschar) iprivate
+    (not-true (pct_encoded || ucschar || iprivate) parts.1) in
     let first_flags = or_parts pct_encoded ucschar flags.0 in
     ap (λ n. set_of_masks n high pct_encoded ucschar iprivate) no_low
     ∙ ap (λ n. set_of_masks 0 n pct_encoded ucschar iprivate) no_high
@@ -86,11 +90,13 @@ clear_if_empty low high pct_encoded ucschar iprivate fits fits' e =
 
 -- a byte that is in no place of a list
 pub not_one_of : (bytes : List ℕ) (c : ℕ) → All (λ b. b ≡ c → ⊥) bytes → is_one_of bytes c ≡ false
-not_one_of bytes c h = list_any_none (λ x. eqb x c) bytes (λ k d within. ne_eqb (get_or bytes k d) c (h k d within))
+not_one_of bytes c h = list_any_none (λ x. eqb x c) bytes
+    (λ k d within. ne_eqb (get_or bytes k d) c (h k d within))
 
 pub plain_bytes : (bytes : List ℕ) → list_all is_plain_ascii bytes ≡ true
     → All (λ b. (b < 128) × (b ≡ 37 → ⊥)) bytes
 plain_bytes bytes h = λ k d within.
     let b = get_or bytes k d in
-    let parts = and_parts (ltb b 128) (not (eqb b 37)) (AllPass-from_list_all is_plain_ascii bytes h k d within) in
+    let parts = and_parts (ltb b 128) (not (eqb b 37))
+    (AllPass-from_list_all is_plain_ascii bytes h k d within) in
     (ltb-true b 128 parts.0, eqb-false b 37 (not-true (eqb b 37) parts.1))

@@ -64,7 +64,8 @@ text_pieces : (run text : List ℕ) (ps : List Chunk)
 unfolding parts_from
 text_pieces run text ps =
     flat_map-append part_pieces (map Read (utf8_pieces run)) (Plain text ∷ parts_from [] ps)
-    ∙ ap (λ x. x ++ (utf8_pieces text ++ pieces_of (parts_from [] ps))) (read_pieces (utf8_pieces run))
+    ∙ ap (λ x. x ++ (utf8_pieces text ++ pieces_of (parts_from [] ps)))
+    (read_pieces (utf8_pieces run))
 
 onto_pieces : (run text : List ℕ) (ps : List Chunk) → IsUtf8 text
     → pieces_of (parts_from run (onto_chunks text ps))
@@ -73,16 +74,20 @@ unfolding onto_chunks
 onto_pieces run text [] u = text_pieces run text []
 onto_pieces run text (Text more ∷ ps) u =
     text_pieces run (text ++ more) ps
-    ∙ ap (λ x. utf8_pieces run ++ (x ++ pieces_of (parts_from [] ps))) (utf8_pieces-text text more u)
-    ∙ ap (λ x. utf8_pieces run ++ x) (append_assoc (utf8_pieces text) (utf8_pieces more) (pieces_of (parts_from [] ps))
-    ∙ ap (λ x. utf8_pieces text ++ x) (sym (text_pieces [] more ps ∙ ap (λ x. x ++ (utf8_pieces more ++ pieces_of (parts_from [] ps))) nil_pieces)))
+    ∙ ap (λ x. utf8_pieces run ++ (x ++ pieces_of (parts_from [] ps)))
+    (utf8_pieces-text text more u)
+    ∙ ap (λ x. utf8_pieces run ++ x)
+    (append_assoc (utf8_pieces text) (utf8_pieces more) (pieces_of (parts_from [] ps))
+    ∙ ap (λ x. utf8_pieces text ++ x)
+    (sym (text_pieces [] more ps
+    ∙ ap (λ x. x ++ (utf8_pieces more ++ pieces_of (parts_from [] ps))) nil_pieces)))
 onto_pieces run text (Byte value ∷ ps) u = text_pieces run text (Byte value ∷ ps)
 
 char_pieces : (c : ℕ) → IsScalar c → utf8_pieces (encode_utf8 c) ≡ WellFormed (encode_utf8 c) ∷ []
 char_pieces c s = ap utf8_pieces (sym (append-nil (encode_utf8 c)))
     ∙ utf8_pieces-encode_first c [] s ∙ ap (λ x. WellFormed (encode_utf8 c) ∷ x) nil_pieces
 
-scalar_first : (c : ℕ) → is_printable (Char c) ≡ true → IsScalar c
+pub scalar_first : (c : ℕ) → is_printable (Char c) ≡ true → IsScalar c
 scalar_first c e = (and_parts _ true (and_parts _ _ e).0).0
 
 pieces_of-parts_from : (run : List ℕ) (ts : List Token) → list_all is_printable ts ≡ true
@@ -97,11 +102,13 @@ pieces_of-parts_from run (Char c ∷ ts) e =
     let p = and_parts (is_printable (Char c)) _ e in
     let scalar = scalar_first c p.0 in
     onto_pieces run (encode_utf8 c) (chunks_of ts) (IsUtf8-encode c scalar)
-    ∙ ap (λ x. utf8_pieces run ++ (x ++ pieces_of (parts_from [] (chunks_of ts)))) (char_pieces c scalar)
+    ∙ ap (λ x. utf8_pieces run ++ (x ++ pieces_of (parts_from [] (chunks_of ts))))
+    (char_pieces c scalar)
     ∙ ap (λ x. utf8_pieces run ++ WellFormed (encode_utf8 c) ∷ x) (pieces_of-parts_from [] ts p.1)
     ∙ sym (utf8_pieces-around_char run c (token_bytes ts) scalar)
 
 -- of a text that decodes
 pub pieces_of-parts : (text : List ℕ) → IsValidFor widest_set text
     → pieces_of (parts text) ≡ utf8_pieces (token_bytes (tokens text))
-pieces_of-parts text v = pieces_of-parts_from [] (tokens text) (printable_valid widest_set text refl v)
+pieces_of-parts text v = pieces_of-parts_from [] (tokens text)
+    (printable_valid widest_set text refl v)

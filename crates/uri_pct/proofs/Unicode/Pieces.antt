@@ -1,5 +1,5 @@
--- The pieces of bytes: they are together the bytes, those at the front stay what they are without what follows, and
--- a byte that continues no character always begins one.
+-- The pieces of bytes: they are together the bytes, those at the front stay what they are without
+-- what follows, and a byte that continues no character always begins one.
 use Rattle.std.proofs.Common.{◌≡◌, ℕ, zero, suc, ◌+◌, ◌<◌, ◌≤◌, Bool, true, false, cond, eqb, leb}
 use Rattle.std.proofs.Common.{List, [], ◌∷◌, ◌++◌, length, take, drop, refl, sym, ap, ◌∙◌, arith}
 use Rattle.std.proofs.Common.{◌&&◌, ⊎_elim, Option, Some, None, option_map, subst, zero-add}
@@ -26,7 +26,9 @@ taken_le (Some ranges) rest = fitting_le ranges rest
 pub first_bytes : (row : Option (List ByteRange)) (b : ℕ) (rest : List ℕ)
     → piece_bytes (first_piece row b rest) ≡ b ∷ take (taken row rest) rest
 first_bytes None b rest = refl
-first_bytes (Some ranges) b rest = ⊎_elim (λ e. rw e refl) (λ e. rw e refl) (cases_Bool (eqb (fitting ranges rest) (length ranges)))
+first_bytes (Some ranges) b rest =
+    ⊎_elim (λ e. rw e refl) (λ e. rw e refl)
+    (cases_Bool (eqb (fitting ranges rest) (length ranges)))
 
 -- to pass some bytes is to begin behind them
 pub pieces_from-drop : (k : ℕ) (bytes : List ℕ) → pieces_from k bytes ≡ utf8_pieces (drop k bytes)
@@ -80,8 +82,10 @@ outside range b inner out =
     let low : 0x80 ≤ range.0 = leb-true 0x80 range.0 p.0 in
     let high : range.1 ≤ 0xBF = leb-true range.1 0xBF p.1 in
     ⊎_elim
-    (λ e. let below : b < 0x80 = leb-false 0x80 b e in and_left _ _ (lt-leb range.0 b (omega arith)))
-    (λ e. let above : 0xBF < b = leb-false b 0xBF e in and_right _ _ (lt-leb b range.1 (omega arith)))
+    (λ e. let below : b < 0x80 = leb-false 0x80 b e in
+    and_left _ _ (lt-leb range.0 b (omega arith)))
+    (λ e. let above : 0xBF < b = leb-false b 0xBF e in
+    and_right _ _ (lt-leb b range.1 (omega arith)))
     (and_cases (leb 0x80 b) (leb b 0xBF) out)
 
 -- what follows a byte that begins no character does not fit
@@ -89,8 +93,11 @@ fitting_stops : (ranges : List ByteRange) (xs ys : List ℕ) → list_all is_inn
     → begins_within ys ≡ false → fitting ranges (xs ++ ys) ≡ fitting ranges xs
 fitting_stops [] xs ys inner out = refl
 fitting_stops (range ∷ ranges) [] [] inner out = refl
-fitting_stops (range ∷ ranges) [] (b ∷ ys) inner out = cond-false _ _ _ (outside range b (and_parts (is_inner range) _ inner).0 out)
-fitting_stops (range ∷ ranges) (x ∷ xs) ys inner out = ap (λ n. cond (is_within range x) (suc n) 0) (fitting_stops ranges xs ys (and_parts (is_inner range) _ inner).1 out)
+fitting_stops (range ∷ ranges) [] (b ∷ ys) inner out =
+    cond-false _ _ _ (outside range b (and_parts (is_inner range) _ inner).0 out)
+fitting_stops (range ∷ ranges) (x ∷ xs) ys inner out =
+    ap (λ n. cond (is_within range x) (suc n) 0)
+    (fitting_stops ranges xs ys (and_parts (is_inner range) _ inner).1 out)
 
 taken_stops : (row : Option (List ByteRange)) (xs ys : List ℕ) → are_inner row ≡ true
     → begins_within ys ≡ false → taken row (xs ++ ys) ≡ taken row xs
@@ -104,8 +111,10 @@ first_stays : (row : Option (List ByteRange)) (b : ℕ) (xs ys : List ℕ)
 first_stays None b xs ys same = refl
 first_stays (Some ranges) b xs ys same =
     let n = fitting ranges xs in
-    ap (λ m. cond (eqb m (length ranges)) (WellFormed (b ∷ take m (xs ++ ys))) (IllFormed (b ∷ take m (xs ++ ys)))) same
-    ∙ ap (λ t. cond (eqb n (length ranges)) (WellFormed (b ∷ t)) (IllFormed (b ∷ t))) (take-append-le n xs ys (fitting_le ranges xs))
+    ap (λ m. cond (eqb m (length ranges)) (WellFormed (b ∷ take m (xs ++ ys)))
+    (IllFormed (b ∷ take m (xs ++ ys)))) same
+    ∙ ap (λ t. cond (eqb n (length ranges)) (WellFormed (b ∷ t)) (IllFormed (b ∷ t)))
+    (take-append-le n xs ys (fitting_le ranges xs))
 
 -- where the first piece takes no byte of what follows, what is left decides
 pub first_parted : (x : ℕ) (xs ys : List ℕ)
@@ -128,7 +137,8 @@ pieces_parted (suc k) [] ys h out = absurd (omega arith)
 pieces_parted (suc k) (x ∷ xs) ys h out = pieces_parted k xs ys (omega arith) out
 pieces_parted zero (x ∷ xs) ys h out =
     let row = following x in
-    first_parted x xs ys (taken_stops row xs ys (following_inner x) out) (pieces_parted (taken row xs) xs ys (taken_le row xs) out)
+    first_parted x xs ys (taken_stops row xs ys (following_inner x) out)
+    (pieces_parted (taken row xs) xs ys (taken_le row xs) out)
 
 -- a byte that begins a character, or none at all, begins a piece
 pub utf8_pieces-append : (xs ys : List ℕ) → begins_within ys ≡ false
@@ -142,10 +152,12 @@ fitting_cut [] text m h = refl
 fitting_cut (range ∷ ranges) [] zero h = refl
 fitting_cut (range ∷ ranges) [] (suc m) h = refl
 fitting_cut (range ∷ ranges) (b ∷ rest) zero h = ⊎_elim
-    (λ e. let fits : suc (fitting ranges rest) ≤ 0 = subst (λ n. n ≤ 0) (cond-true _ _ _ e) h in absurd (omega arith))
+    (λ e. let fits : suc (fitting ranges rest) ≤ 0 = subst (λ n. n ≤ 0) (cond-true _ _ _ e) h in
+    absurd (omega arith))
     (λ e. sym (cond-false _ _ _ e)) (cases_Bool (is_within range b))
 fitting_cut (range ∷ ranges) (b ∷ rest) (suc m) h = ⊎_elim
-    (λ e. let fits : suc (fitting ranges rest) ≤ suc m = subst (λ n. n ≤ suc m) (cond-true _ _ _ e) h in
+    (λ e. let fits : suc (fitting ranges rest) ≤ suc m =
+    subst (λ n. n ≤ suc m) (cond-true _ _ _ e) h in
     rw e (ap suc (fitting_cut ranges rest m (omega arith))))
     (λ e. rw e refl) (cases_Bool (is_within range b))
 
@@ -159,8 +171,10 @@ first_cut : (row : Option (List ByteRange)) (b : ℕ) (rest : List ℕ) (m : ℕ
 first_cut None b rest m h = refl
 first_cut (Some ranges) b rest m h =
     let n = fitting ranges rest in
-    ap (λ j. cond (eqb j (length ranges)) (WellFormed (b ∷ take j (take m rest))) (IllFormed (b ∷ take j (take m rest)))) (fitting_cut ranges rest m h)
-    ∙ ap (λ t. cond (eqb n (length ranges)) (WellFormed (b ∷ t)) (IllFormed (b ∷ t))) (take-take n m rest h)
+    ap (λ j. cond (eqb j (length ranges)) (WellFormed (b ∷ take j (take m rest)))
+    (IllFormed (b ∷ take j (take m rest)))) (fitting_cut ranges rest m h)
+    ∙ ap (λ t. cond (eqb n (length ranges)) (WellFormed (b ∷ t)) (IllFormed (b ∷ t)))
+    (take-take n m rest h)
 
 take-nil : (n : ℕ) → take {A = ℕ} n [] ≡ []
 take-nil zero = refl
@@ -169,7 +183,8 @@ take-nil (suc n) = refl
 pub take_two : (n m : ℕ) (text : List ℕ) → take n text ++ take m (drop n text) ≡ take (n + m) text
 take_two zero m text = ap (λ k. take k text) (sym (zero-add m))
 take_two (suc n) m [] = take-nil m ∙ sym (take-nil (suc n + m))
-take_two (suc n) m (b ∷ rest) = let e : suc n + m ≡ suc (n + m) = omega arith in rw e (ap (λ t. b ∷ t) (take_two n m rest))
+take_two (suc n) m (b ∷ rest) = let e : suc n + m ≡ suc (n + m) = omega arith in
+    rw e (ap (λ t. b ∷ t) (take_two n m rest))
 
 -- the bytes of the first pieces are a front of the bytes
 front_bytes : (k j : ℕ) (bytes : List ℕ)
@@ -181,8 +196,12 @@ front_bytes (suc k) (suc j) [] = (0, refl)
 front_bytes (suc k) (suc j) (b ∷ rest) = front_bytes k (suc j) rest
 front_bytes zero (suc j) (b ∷ rest) =
     let n = taken (following b) rest in
-    let ih = front_bytes n j rest in
-    (suc (n + ih.0), ap (λ x. x ++ bytes_of_pieces (take j (pieces_from n rest))) (first_bytes (following b) b rest) ∙ ap (λ x. b ∷ (take n rest ++ x)) ih.1 ∙ ap (λ x. b ∷ x) (take_two n ih.0 rest))
+    let ih = front_bytes n j rest in (
+      suc (n + ih.0),
+      ap (λ x. x ++ bytes_of_pieces (take j (pieces_from n rest)))
+          (first_bytes (following b) b rest) ∙ ap (λ x. b ∷ (take n rest ++ x)) ih.1
+          ∙ ap (λ x. b ∷ x) (take_two n ih.0 rest),
+    )
 
 pieces_front : (k j : ℕ) (bytes : List ℕ)
     → utf8_pieces (bytes_of_pieces (take j (pieces_from k bytes))) ≡ take j (pieces_from k bytes)
@@ -201,8 +220,11 @@ pieces_front zero (suc j) (b ∷ rest) =
     ∙ ap (λ x. utf8_pieces (b ∷ (take n rest ++ x))) f.1
     ∙ ap (λ x. utf8_pieces (b ∷ x)) (take_two n f.0 rest)
     ∙ ap (λ p. p ∷ pieces_from (taken row kept) kept) (first_cut row b rest (n + f.0) (omega arith))
-    ∙ ap (λ m. first_piece row b rest ∷ pieces_from m kept) (taken_cut row rest (n + f.0) (omega arith))
-    ∙ ap (λ ps. first_piece row b rest ∷ ps) (pieces_from-drop n kept ∙ ap utf8_pieces (drop-take n f.0 rest ∙ sym f.1) ∙ pieces_front n j rest)
+    ∙ ap (λ m. first_piece row b rest ∷ pieces_from m kept)
+    (taken_cut row rest (n + f.0) (omega arith))
+    ∙ ap (λ ps. first_piece row b rest ∷ ps)
+    (pieces_from-drop n kept ∙ ap utf8_pieces (drop-take n f.0 rest ∙ sym f.1)
+    ∙ pieces_front n j rest)
 
 -- the pieces of their bytes are these
 abbrev pub AreCut : List Piece → Type 0
@@ -213,7 +235,8 @@ cut_whole bytes = ap utf8_pieces (bytes_of_pieces-utf8_pieces bytes)
 
 pub cut_front : (ps qs : List Piece) → AreCut (ps ++ qs) → AreCut ps
 cut_front ps qs cut =
-    let same : take (length ps) (utf8_pieces (bytes_of_pieces (ps ++ qs))) ≡ ps = ap (take (length ps)) cut
+    let same : take (length ps) (utf8_pieces (bytes_of_pieces (ps ++ qs))) ≡ ps =
+    ap (take (length ps)) cut
     ∙ take_at ps qs (length ps) refl in
     sym (ap (λ x. utf8_pieces (bytes_of_pieces x)) same)
     ∙ pieces_front 0 (length ps) (bytes_of_pieces (ps ++ qs)) ∙ same

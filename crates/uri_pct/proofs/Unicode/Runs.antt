@@ -25,7 +25,8 @@ no_pieces bytes e = ap utf8_pieces (nil_from_length bytes (eqb-true _ 0 e)) ∙ 
 pub utf8_pieces-text : (text rest : List ℕ) → IsUtf8 text
     → utf8_pieces (text ++ rest) ≡ utf8_pieces text ++ utf8_pieces rest
 utf8_pieces-text text rest u =
-    let alone : utf8_pieces text ≡ map of_char u.0 = ap utf8_pieces (sym (append-nil text) ∙ ap (λ x. x ++ []) (sym u.1.1))
+    let alone : utf8_pieces text ≡ map of_char u.0 =
+    ap utf8_pieces (sym (append-nil text) ∙ ap (λ x. x ++ []) (sym u.1.1))
     ∙ text_first u.0 [] u.1.0 ∙ ap (λ ps. map of_char u.0 ++ ps) nil_pieces
     ∙ append-nil (map of_char u.0) in
     ap (λ x. utf8_pieces (x ++ rest)) (sym u.1.1) ∙ text_first u.0 rest u.1.0
@@ -47,7 +48,8 @@ ill_formed_first bs invalid rest behind some long =
     let b = f.0 in
     let more = f.1 in
     let front : drop (utf8_valid_len bs) bs ≡ b ∷ more = behind ∙ f.2 in
-    let bad = fault_first bs b more (first_piece (following b) b more) front (refl {a = first_piece (following b) b more}) in
+    let bad = fault_first bs b more (first_piece (following b) b more) front
+    (refl {a = first_piece (following b) b more}) in
     let k = taken (following b) more in
     let size : suc k ≡ length invalid = ill_formed_len b more bad.0 bad.1
     ∙ ap utf8_invalid_len (sym front) ∙ sym long in
@@ -78,7 +80,8 @@ last_chunk : (bs valid rest : List ℕ) → bs ≡ valid ++ rest → length rest
 last_chunk bs valid rest same last =
     let no_rest : rest ≡ [] = nil_from_length rest last in
     ap utf8_pieces same
-    ∙ rw no_rest (ap utf8_pieces (append-nil valid) ∙ sym (append-nil (utf8_pieces valid)) ∙ ap (λ ps. utf8_pieces valid ++ ps) (sym nil_pieces))
+    ∙ rw no_rest (ap utf8_pieces (append-nil valid) ∙ sym (append-nil (utf8_pieces valid))
+    ∙ ap (λ ps. utf8_pieces valid ++ ps) (sym nil_pieces))
 
 -- the pieces of one of std's chunks, and those behind it
 pub chunk_pieces : (bs valid invalid rest : List ℕ) → bs ≡ valid ++ (invalid ++ rest)
@@ -86,7 +89,8 @@ pub chunk_pieces : (bs valid invalid rest : List ℕ) → bs ≡ valid ++ (inval
     → length invalid ≡ utf8_invalid_len (drop (utf8_valid_len bs) bs)
     → (length invalid ≡ 0 → length rest ≡ 0)
     → utf8_pieces bs ≡ (utf8_pieces valid ++ fault_pieces invalid) ++ utf8_pieces rest
-chunk_pieces bs valid [] rest same text_len fault_len last = last_chunk bs valid rest same (last refl)
+chunk_pieces bs valid [] rest same text_len fault_len last =
+    last_chunk bs valid rest same (last refl)
     ∙ ap (λ ps. ps ++ utf8_pieces rest) (sym (append-nil (utf8_pieces valid)))
 chunk_pieces bs valid (b ∷ bytes) rest same text_len fault_len last =
     faulty_chunk bs valid (b ∷ bytes) rest same text_len fault_len (omega arith)

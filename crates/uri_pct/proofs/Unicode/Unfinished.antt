@@ -1,5 +1,5 @@
--- Bytes at whose end no first byte calls for more are pieces by themselves, whatever follows, and so are those before
--- such an end.
+-- Bytes at whose end no first byte calls for more are pieces by themselves, whatever follows, and
+-- so are those before such an end.
 use Rattle.std.proofs.Common.{◌≡◌, ℕ, zero, suc, ◌-◌, ◌<◌, ◌≤◌, true, false, cond, leb, nat_lt}
 use Rattle.std.proofs.Common.{List, [], ◌∷◌, ◌++◌, length, take, drop, get_or, map, refl, sym, ap}
 use Rattle.std.proofs.Common.{◌∙◌, append_assoc, arith, ⊎_elim, Option, Some, None, option_map}
@@ -13,7 +13,7 @@ use Rattle.uri_pct.specs.Pieces.{ByteRange, Row, is_within, continuation, well_f
 use Rattle.uri_pct.specs.Pieces.{begins_within, following, fitting, taken, pieces_from, utf8_pieces}
 use Rattle.uri_pct.specs.Models.Unfinished.{range_count, called_for, unfinished_len, PartNoPiece}
 use Rattle.uri_pct.proofs.Unicode.Pieces.{taken_le, first_parted, utf8_pieces-append}
-use Rattle.uri_pct.proofs.Unicode.CharacterPieces.{row_1, row_2}
+use Rattle.uri_pct.proofs.Unicode.FirstBytes.{row_1, row_2}
 use Rattle.uri_pct.proofs.Unicode.Lossy.{no_row_low, no_row_high}
 
 -- what a first byte calls for
@@ -29,17 +29,20 @@ unfolding following
 called_for_3 b low high = grind (arith, nat_tests)
 
 pub called_for_none : (b : ℕ) → b < 0xC2 → called_for b ≡ 0
-called_for_none b high = ⊎_elim (λ h. ap range_count (row_1 b h)) (λ low. ap range_count (no_row_low b low high)) (cases_lt b 0x80)
+called_for_none b high = ⊎_elim (λ h. ap range_count (row_1 b h))
+    (λ low. ap range_count (no_row_low b low high)) (cases_lt b 0x80)
 
 pub called_for_past : (b : ℕ) → 0xF4 < b → called_for b ≡ 0
 called_for_past b low = ap range_count (no_row_high b low)
 
 count_found : (b : ℕ) (rows : List Row) → list_all (λ (row : Row). leb (length row.1) 3) rows ≡ true
-    → range_count (option_map (λ (row : Row). row.1) (find (λ (row : Row). is_within row.0 b) rows)) ≤ 3
+    → range_count (option_map (λ (row : Row). row.1) (find (λ (row : Row). is_within row.0 b) rows))
+    ≤ 3
 count_found b [] h = omega arith
 count_found b (row ∷ rows) h =
     let p = and_parts (leb (length row.1) 3) _ h in
-    ⊎_elim (λ e. rw e (leb-true (length row.1) 3 p.0)) (λ e. rw e (count_found b rows p.1)) (cases_Bool (is_within row.0 b))
+    ⊎_elim (λ e. rw e (leb-true (length row.1) 3 p.0)) (λ e. rw e (count_found b rows p.1))
+    (cases_Bool (is_within row.0 b))
 
 called_for_most : (b : ℕ) → called_for b ≤ 3
 unfolding following
@@ -47,11 +50,13 @@ called_for_most b = count_found b well_formed_rows refl
 
 -- the unfinished length, by what each of the last three bytes calls for
 unfoldable pub by_three : ℕ → ℕ → ℕ → ℕ
-by_three third second last = cond (nat_lt 2 third) 3 (cond (nat_lt 1 second) 2 (cond (nat_lt 0 last) 1 0))
+by_three third second last = cond (nat_lt 2 third) 3
+    (cond (nat_lt 1 second) 2 (cond (nat_lt 0 last) 1 0))
 
 of_last_three : (bytes : List ℕ) (n : ℕ) → length bytes ≡ suc (suc (suc n))
     → unfinished_len bytes
-    ≡ by_three (called_for (get_or bytes n 0)) (called_for (get_or bytes (suc n) 0)) (called_for (get_or bytes (suc (suc n)) 0))
+    ≡ by_three (called_for (get_or bytes n 0)) (called_for (get_or bytes (suc n) 0))
+    (called_for (get_or bytes (suc (suc n)) 0))
 unfolding unfinished_len by_three
 of_last_three [] n e = absurd (omega arith)
 of_last_three (a ∷ []) zero e = absurd (omega arith)
@@ -83,7 +88,8 @@ fitting_there : (ranges : List ByteRange) (xs ys : List ℕ) → length ranges �
     → fitting ranges (xs ++ ys) ≡ fitting ranges xs
 fitting_there [] xs ys h = refl
 fitting_there (range ∷ ranges) [] ys h = absurd (omega arith)
-fitting_there (range ∷ ranges) (x ∷ xs) ys h = ap (λ n. cond (is_within range x) (suc n) 0) (fitting_there ranges xs ys (omega arith))
+fitting_there (range ∷ ranges) (x ∷ xs) ys h =
+    ap (λ n. cond (is_within range x) (suc n) 0) (fitting_there ranges xs ys (omega arith))
 
 taken_there : (row : Option (List ByteRange)) (xs ys : List ℕ) → range_count row ≤ length xs
     → taken row (xs ++ ys) ≡ taken row xs
@@ -113,18 +119,21 @@ pieces_whole : (k : ℕ) (xs ys : List ℕ) → k ≤ length xs → unfinished_l
 unfolding pieces_from
 pieces_whole zero [] ys h none = refl
 pieces_whole (suc k) [] ys h none = absurd (omega arith)
-pieces_whole (suc k) (x ∷ xs) ys h none = pieces_whole k xs ys (omega arith) (none_unfinished x xs none).1
+pieces_whole (suc k) (x ∷ xs) ys h none =
+    pieces_whole k xs ys (omega arith) (none_unfinished x xs none).1
 pieces_whole zero (x ∷ xs) ys h none =
     let row = following x in
     let p = none_unfinished x xs none in
-    first_parted x xs ys (taken_there row xs ys p.0) (pieces_whole (taken row xs) xs ys (taken_le row xs) p.1)
+    first_parted x xs ys (taken_there row xs ys p.0)
+    (pieces_whole (taken row xs) xs ys (taken_le row xs) p.1)
 
 unfinished_le : (xs : List ℕ) → unfinished_len xs ≤ length xs
 unfolding unfinished_len
 unfinished_le [] = omega arith
 unfinished_le (x ∷ xs) =
     let h = unfinished_le xs in
-    ⊎_elim (λ e. rw e (omega arith)) (λ e. rw e (omega arith)) (cases_Bool (nat_lt (length xs) (called_for x)))
+    ⊎_elim (λ e. rw e (omega arith)) (λ e. rw e (omega arith))
+    (cases_Bool (nat_lt (length xs) (called_for x)))
 
 -- a byte that calls for others continues none
 lead_begins : (b : ℕ) → 0 < called_for b → is_within continuation b ≡ false
@@ -145,13 +154,15 @@ end_begins (x ∷ xs) ys some = ⊎_elim
     ap (λ n. begins_within (drop n (x ∷ xs) ++ ys)) whole ∙ lead_begins x calls)
     (λ e. let left = left_unfinished x xs e in
     let fits = unfinished_le xs in
-    let front : suc (length xs) - unfinished_len (x ∷ xs) ≡ suc (length xs - unfinished_len xs) = omega arith in
+    let front : suc (length xs) - unfinished_len (x ∷ xs) ≡ suc (length xs - unfinished_len xs) =
+    omega arith in
     ap (λ n. begins_within (drop n (x ∷ xs) ++ ys)) front ∙ end_begins xs ys (omega arith))
     (cases_Bool (nat_lt (length xs) (called_for x)))
 
 -- the cut before an unfinished end, or behind the bytes where there is none, parts no piece
 pub unfinished_parts : (bytes : List ℕ)
-    → PartNoPiece (take (length bytes - unfinished_len bytes) bytes) (drop (length bytes - unfinished_len bytes) bytes)
+    → PartNoPiece (take (length bytes - unfinished_len bytes) bytes)
+    (drop (length bytes - unfinished_len bytes) bytes)
 unfinished_parts bytes behind =
     let n = length bytes - unfinished_len bytes in
     ⊎_elim
@@ -159,7 +170,8 @@ unfinished_parts bytes behind =
     let front : take n bytes ≡ bytes = take_all n bytes (omega arith) in
     let end : drop n bytes ≡ [] = drop_all n bytes (omega arith) in
     rw (front, end) (pieces_whole 0 bytes behind (omega arith) none))
-    (λ some. utf8_pieces-append (take n bytes) (drop n bytes ++ behind) (end_begins bytes behind (omega arith)))
+    (λ some. utf8_pieces-append (take n bytes) (drop n bytes ++ behind)
+    (end_begins bytes behind (omega arith)))
     (cases_lt (unfinished_len bytes) 1)
 
 -- the parts of a run that is cut there
@@ -174,7 +186,8 @@ cut_run front end more (Byte value ∷ chunks) parted =
     append_assoc front (end ++ more) (value ∷ [])
     ∙ ap (λ x. front ++ x) (append_assoc end more (value ∷ [])) in
     ap (λ x. parts_from x chunks) longer ∙ cut_run front end (more ++ value ∷ []) chunks parted
-    ∙ ap (λ x. map Read (utf8_pieces front) ++ parts_from x chunks) (sym (append_assoc end more (value ∷ [])))
+    ∙ ap (λ x. map Read (utf8_pieces front) ++ parts_from x chunks)
+    (sym (append_assoc end more (value ∷ [])))
 cut_run front end more (Text text ∷ chunks) parted =
     let behind = Plain text ∷ parts_from [] chunks in
     ap (λ ps. map Read ps ++ behind) (parted more)
@@ -184,11 +197,13 @@ cut_run front end more (Text text ∷ chunks) parted =
 -- and of bytes that are cut before their unfinished end
 pub cut_unfinished : (bytes : List ℕ) (behind : List Chunk)
     → parts_from bytes behind
-    ≡ map Read (utf8_pieces (take (length bytes - unfinished_len bytes) bytes)) ++ parts_from (drop (length bytes - unfinished_len bytes) bytes) behind
+    ≡ map Read (utf8_pieces (take (length bytes - unfinished_len bytes) bytes))
+    ++ parts_from (drop (length bytes - unfinished_len bytes) bytes) behind
 cut_unfinished bytes behind =
     let n = length bytes - unfinished_len bytes in
     let front = take n bytes in
     let end = drop n bytes in
-    ap (λ x. parts_from x behind) (sym (take-append-drop n bytes) ∙ ap (λ x. front ++ x) (sym (append-nil end)))
+    ap (λ x. parts_from x behind) (sym (take-append-drop n bytes)
+    ∙ ap (λ x. front ++ x) (sym (append-nil end)))
     ∙ cut_run front end [] behind (unfinished_parts bytes)
     ∙ ap (λ x. map Read (utf8_pieces front) ++ parts_from x behind) (append-nil end)

@@ -44,7 +44,9 @@ pub printable_allowed : (set : TableSet) (c : ℕ) → LacksPercent set → allo
     → is_printable (Char c) ≡ true
 printable_allowed set c lacks e = ⊎_elim
     (λ h. let low : set.ascii c ≡ true = sym (cond-true _ _ _ (lt-ltb c 128 h)) ∙ e in
-    printable_char c (low_scalar c (omega arith)) (false_from_ne_true _ (λ p. false≢true (sym lacks ∙ ap set.ascii (sym (eqb-true c 37 p)) ∙ low))))
+    printable_char c (low_scalar c (omega arith))
+    (false_from_ne_true _
+    (λ p. false≢true (sym lacks ∙ ap set.ascii (sym (eqb-true c 37 p)) ∙ low))))
     (λ h. let p = past_ascii_scalar set c (sym (cond-false _ _ _ (le-ltb c 128 h)) ∙ e) in
     printable_char c p.1 (ne_eqb c 37 (λ q. omega arith)))
     (cases_lt c 128)
@@ -56,8 +58,10 @@ pub printable_readable : (set : TableSet) (c : ℕ) → is_readable set c ≡ tr
     → is_printable (Char c) ≡ true
 unfolding is_readable
 printable_readable set c e = ⊎_elim
-    (λ u. let below = unreserved_below c u in printable_char c (low_scalar c (omega arith)) (unreserved_printable c u))
-    (λ p. let h = past_ascii_scalar set c p in printable_char c h.1 (ne_eqb c 37 (λ q. omega arith)))
+    (λ u. let below = unreserved_below c u in
+    printable_char c (low_scalar c (omega arith)) (unreserved_printable c u))
+    (λ p. let h = past_ascii_scalar set c p in
+    printable_char c h.1 (ne_eqb c 37 (λ q. omega arith)))
     (or_cases (is_unreserved c) (allows_past_ascii set c) e)
 
 -- a readable character is one of the set
@@ -74,7 +78,7 @@ is_byte : Token → Bool
 is_byte (Char c) = true
 is_byte (Octet value) = ltb value 256
 
-hexdigit_below : (h : ℕ) → is_ascii_hexdigit h ≡ true → digit_value h < 16
+pub hexdigit_below : (h : ℕ) → is_ascii_hexdigit h ≡ true → digit_value h < 16
 hexdigit_below h e = grind (arith, nat_tests)
 
 bytes_first : (c high low : ℕ) (rest : List ℕ) → list_all is_byte (tokens_of rest) ≡ true
@@ -82,7 +86,8 @@ bytes_first : (c high low : ℕ) (rest : List ℕ) → list_all is_byte (tokens_
     → list_all is_byte (tokens_of (c ∷ high ∷ low ∷ rest)) ≡ true
 unfolding tokens_of is_byte is_pct_encoded
 bytes_first c high low rest behind next = ⊎_elim
-    (λ e. let p = and_parts (is_ascii_hexdigit high) (is_ascii_hexdigit low) (and_parts (eqb c 37) _ e).1 in
+    (λ e. let p = and_parts (is_ascii_hexdigit high) (is_ascii_hexdigit low)
+    (and_parts (eqb c 37) _ e).1 in
     let h = hexdigit_below high p.0 in
     let l = hexdigit_below low p.1 in
     rw e (and_from _ _ (lt-ltb (16 * digit_value high + digit_value low) 256 (omega arith)) behind))
@@ -94,7 +99,8 @@ unfolding tokens_of is_byte
 octets_are_bytes [] = refl
 octets_are_bytes (c ∷ []) = refl
 octets_are_bytes (c ∷ d ∷ []) = refl
-octets_are_bytes (c ∷ high ∷ low ∷ rest) = bytes_first c high low rest (octets_are_bytes rest) (octets_are_bytes (high ∷ low ∷ rest))
+octets_are_bytes (c ∷ high ∷ low ∷ rest) =
+    bytes_first c high low rest (octets_are_bytes rest) (octets_are_bytes (high ∷ low ∷ rest))
 
 printable_token : (set : TableSet) (t : Token) → LacksPercent set → allows_token set t ≡ true
     → is_byte t ≡ true → is_printable t ≡ true
@@ -115,7 +121,8 @@ printable_tokens set (t ∷ ts) lacks e b =
 pub printable_valid : (set : TableSet) (text : List ℕ) → LacksPercent set → IsValidFor set text
     → list_all is_printable (tokens text) ≡ true
 unfolding is_valid_for
-printable_valid set text lacks valid = printable_tokens set (tokens text) lacks valid (octets_are_bytes (chars text))
+printable_valid set text lacks valid =
+    printable_tokens set (tokens text) lacks valid (octets_are_bytes (chars text))
 
 -- so may they with their letters lowered
 lower_printable : (c : ℕ) → all_scalars (c ∷ []) ≡ true → eqb c 37 ≡ false
@@ -131,7 +138,9 @@ printable_lowered (Octet value) e = e
 -- a letter in lower case is unreserved, and every other character stays
 lower_cases : (c : ℕ) → (to_ascii_lowercase c ≡ c) ⊎ (is_unreserved (to_ascii_lowercase c) ≡ true)
 lower_cases c = ⊎_elim (λ h. inl (cond-true _ _ _ (lt-ltb c 65 h))) (λ l.
-    ⊎_elim (λ h. inr (grind (arith, nat_tests))) (λ k. inl (cond-false _ _ _ (le-ltb c 65 l) ∙ cond-false _ _ _ (le-ltb c 91 k))) (cases_lt c 91))
+    ⊎_elim (λ h. inr (grind (arith, nat_tests)))
+    (λ k. inl (cond-false _ _ _ (le-ltb c 65 l) ∙ cond-false _ _ _ (le-ltb c 91 k)))
+    (cases_lt c 91))
     (cases_lt c 65)
 
 allows_lowered : (set : TableSet) (t : Token) → IsSubset unreserved_set set
@@ -139,14 +148,16 @@ allows_lowered : (set : TableSet) (t : Token) → IsSubset unreserved_set set
 allows_lowered set (Octet value) wide e = e
 allows_lowered set (Char c) wide e = ⊎_elim
     (λ same. ap (allows set) same ∙ e)
-    (λ u. cond-true _ _ _ (lt-ltb (to_ascii_lowercase c) 128 (unreserved_below (to_ascii_lowercase c) u)) ∙ wide.ascii (to_ascii_lowercase c) u)
+    (λ u. cond-true _ _ _ (lt-ltb (to_ascii_lowercase c) 128
+    (unreserved_below (to_ascii_lowercase c) u)) ∙ wide.ascii (to_ascii_lowercase c) u)
     (lower_cases c)
 
 -- a test of tokens that their lowering keeps
 list_lowered : (test : Token → Bool) → ((t : Token) → test t ≡ true → test (lower_token t) ≡ true)
     → (ts : List Token) → list_all test ts ≡ true → list_all test (map lower_token ts) ≡ true
 list_lowered test keeps [] e = refl
-list_lowered test keeps (t ∷ ts) e = let p = and_parts (test t) _ e in and_from _ _ (keeps t p.0) (list_lowered test keeps ts p.1)
+list_lowered test keeps (t ∷ ts) e = let p = and_parts (test t) _ e in
+    and_from _ _ (keeps t p.0) (list_lowered test keeps ts p.1)
 
 pub printable-lower : (ts : List Token) → list_all is_printable ts ≡ true
     → list_all is_printable (map lower_token ts) ≡ true
@@ -155,11 +166,13 @@ printable-lower ts e = list_lowered is_printable printable_lowered ts e
 pub allows-lower : (set : TableSet) (ts : List Token) → IsSubset unreserved_set set
     → list_all (allows_token set) ts ≡ true
     → list_all (allows_token set) (map lower_token ts) ≡ true
-allows-lower set ts wide e = list_lowered (allows_token set) (λ t h. allows_lowered set t wide h) ts e
+allows-lower set ts wide e = list_lowered (allows_token set) (λ t h. allows_lowered set t wide h) ts
+    e
 
 -- lowering twice is lowering once
 pub lower-lower : (ts : List Token) → map lower_token (map lower_token ts) ≡ map lower_token ts
 lower-lower [] = refl
-lower-lower (Char c ∷ ts) = ap (λ d. Char d ∷ map lower_token (map lower_token ts)) (lowercase-lowercase c)
+lower-lower (Char c ∷ ts) = ap (λ d. Char d ∷ map lower_token (map lower_token ts))
+    (lowercase-lowercase c)
     ∙ ap (λ x. Char (to_ascii_lowercase c) ∷ x) (lower-lower ts)
 lower-lower (Octet value ∷ ts) = ap (λ x. Octet value ∷ x) (lower-lower ts)

@@ -1,4 +1,5 @@
--- What a set allows to its end, and what is cut at a mark: the two agree where the set excludes the marks.
+-- What a set allows to its end, and what is cut at a mark: the two agree where the set excludes the
+-- marks.
 use Rattle.std.proofs.Common.{◌≡◌, ℕ, zero, suc, ◌+◌, ◌-◌, ◌*◌, ◌<◌, ◌≤◌, Bool, true, false, cond}
 use Rattle.std.proofs.Common.{eqb, not, List, [], ◌∷◌, ◌++◌, length, get_or, take, drop, refl, sym}
 use Rattle.std.proofs.Common.{subst, ap, ◌∙◌, arith, ◌&&◌, ⊎_elim}
@@ -28,7 +29,8 @@ to_mark marks text = prefix_len (λ c. not (is_one_of marks c)) text
 
 -- an ASCII character that is not of the set, and begins and spells no octet
 abbrev is_excluded : TableSet → ℕ → Bool
-is_excluded set mark = nat_lt mark 128 && (not (set.ascii mark) && (not (is_ascii_hexdigit mark) && not (eqb mark 37)))
+is_excluded set mark = nat_lt mark 128
+    && (not (set.ascii mark) && (not (is_ascii_hexdigit mark) && not (eqb mark 37)))
 
 abbrev pub excludes : TableSet → List ℕ → Bool
 excludes set marks = list_all (is_excluded set) marks
@@ -39,7 +41,8 @@ pub of_each : (P : ℕ → Bool) (marks : List ℕ) → list_all P marks ≡ tru
 of_each P [] h b m = absurd (false≢true m)
 of_each P (mark ∷ marks) h b m =
     let p = and_parts (P mark) (list_all P marks) h in
-    ⊎_elim (λ e. ap P (sym (eqb-true mark b e)) ∙ p.0) (λ e. of_each P marks p.1 b e) (or_cases (eqb mark b) (is_one_of marks b) m)
+    ⊎_elim (λ e. ap P (sym (eqb-true mark b e)) ∙ p.0) (λ e. of_each P marks p.1 b e)
+    (or_cases (eqb mark b) (is_one_of marks b) m)
 
 four : (a b c d : Bool) → (a && (not b && (not c && not d))) ≡ true
     → (a ≡ true) × (b ≡ false) × (c ≡ false) × (d ≡ false)
@@ -87,7 +90,8 @@ cond_le false x y m f g = g refl
 
 pub front_cons : (set : TableSet) (b : ℕ) (bs : List ℕ)
     → front_from set 0 (b ∷ bs)
-    ≡ cond (set.pct_encoded && eqb b 37) (cond (begins_hex bs) (front_from set 2 bs + 1) 0) (cond (allows_first set b bs) (front_from set (continuation_len b) bs + 1) 0)
+    ≡ cond (set.pct_encoded && eqb b 37) (cond (begins_hex bs) (front_from set 2 bs + 1) 0)
+    (cond (allows_first set b bs) (front_from set (continuation_len b) bs + 1) 0)
 unfolding front_from
 front_cons set b bs = refl
 
@@ -113,7 +117,8 @@ not_high : (b : ℕ) → is_high b ≡ true → b < 128 → ⊥
 not_high b h l = grind (arith, nat_tests)
 
 no_mark : (marks : List ℕ) → AreAscii marks → (b : ℕ) → is_high b ≡ true → is_one_of marks b ≡ false
-no_mark marks ascii b h = ⊎_elim (λ m. let l = ascii b m in absurd (not_high b h l)) (λ m. m) (cases_Bool (is_one_of marks b))
+no_mark marks ascii b h = ⊎_elim (λ m. let l = ascii b m in absurd (not_high b h l)) (λ m. m)
+    (cases_Bool (is_one_of marks b))
 
 skips_more : (marks : List ℕ) → AreAscii marks → (more rest : List ℕ) → list_all is_high more ≡ true
     → skips marks 0 rest ≡ true → skips marks (length more) (more ++ rest) ≡ true
@@ -121,7 +126,8 @@ unfolding skips
 skips_more marks ascii [] rest h e = e
 skips_more marks ascii (b ∷ more) rest h e =
     let p = and_parts _ _ h in
-    and_from _ _ (not_from_false _ (no_mark marks ascii b p.0)) (skips_more marks ascii more rest p.1 e)
+    and_from _ _ (not_from_false _ (no_mark marks ascii b p.0))
+    (skips_more marks ascii more rest p.1 e)
 
 skips_chars : (marks : List ℕ) → AreAscii marks → (cs : List ℕ)
     → skips marks 0 (encode_utf8_all cs) ≡ true
@@ -158,7 +164,8 @@ head_after marks zero c (b ∷ bs) s = ⊎_elim
     (cases_Bool (is_one_of marks b))
 head_after marks (suc k) c (b ∷ bs) s =
     let p = and_parts _ _ s in
-    ap (λ n. slice_index (chars_after (suc k) c (take n (b ∷ bs))) 0) (other_len marks b bs (not-true _ p.0))
+    ap (λ n. slice_index (chars_after (suc k) c (take n (b ∷ bs))) 0)
+    (other_len marks b bs (not-true _ p.0))
     ∙ head_after marks k (c * 64 + (b - 128)) bs p.1
 
 first_before : (set : TableSet) (marks : List ℕ) (b : ℕ) (bs : List ℕ)
@@ -169,7 +176,8 @@ first_before set marks b bs s = rw (head_after marks (continuation_len b) (lead_
 
 percent_rest : (marks : List ℕ) (b : ℕ) (bs : List ℕ) → eqb b 37 ≡ true
     → skips marks (continuation_len b) bs ≡ true → skips marks 0 bs ≡ true
-percent_rest marks b bs e s = let d = eqb-true b 37 e in ap (λ n. skips marks n bs) (sym (len_ascii b (omega arith)))
+percent_rest marks b bs e s = let d = eqb-true b 37 e in
+    ap (λ n. skips marks n bs) (sym (len_ascii b (omega arith)))
     ∙ s
 
 at_mark : (marks bs : List ℕ) → to_mark marks bs < length bs
@@ -180,7 +188,9 @@ pub mark_boundary : (marks : List ℕ) → AreAscii marks → (bs : List ℕ)
     → IsCharBoundary bs (to_mark marks bs)
 mark_boundary marks ascii bs = ⊎_elim
     (λ h. IsCharBoundary-before_ascii bs (to_mark marks bs) h (ascii _ (at_mark marks bs h)))
-    (λ h. let e : length bs ≡ to_mark marks bs = omega (arith, prefix_len-le-length (λ c. not (is_one_of marks c)) bs) in subst (λ n. IsCharBoundary bs n) e (IsCharBoundary-end bs))
+    (λ h. let e : length bs ≡ to_mark marks bs =
+    omega (arith, prefix_len-le-length (λ c. not (is_one_of marks c)) bs) in
+    subst (λ n. IsCharBoundary bs n) e (IsCharBoundary-end bs))
     (cases_lt (to_mark marks bs) (length bs))
 
 -- what is left behind a cut begins with a mark, or is nothing
@@ -204,15 +214,20 @@ module _ (marks : List ℕ) (set : TableSet) (lacks : LacksPercent set)
       → is_ascii_hexdigit (get_or (take (to_mark marks bs) bs) 0 0)
       ≡ is_ascii_hexdigit (get_or bs 0 0)
   hex_one [] = refl
-  hex_one (b ∷ bs) = ⊎_elim (λ e. rw (mark_len marks b bs e) (sym (mark_hex set marks outside b e))) (λ e. rw (other_len marks b bs e) refl) (cases_Bool (is_one_of marks b))
+  hex_one (b ∷ bs) = ⊎_elim (λ e. rw (mark_len marks b bs e) (sym (mark_hex set marks outside b e)))
+      (λ e. rw (other_len marks b bs e) refl) (cases_Bool (is_one_of marks b))
 
   hex_two : (bs : List ℕ) → begins_hex (take (to_mark marks bs) bs) ≡ begins_hex bs
   unfolding begins_hex
   hex_two [] = refl
-  hex_two (b ∷ bs) = ⊎_elim (λ e. rw (mark_len marks b bs e) (sym (and_left _ _ (mark_hex set marks outside b e)))) (λ e. rw (other_len marks b bs e) (ap (λ t. is_ascii_hexdigit b && t) (hex_one bs))) (cases_Bool (is_one_of marks b))
+  hex_two (b ∷ bs) =
+      ⊎_elim (λ e. rw (mark_len marks b bs e) (sym (and_left _ _ (mark_hex set marks outside b e))))
+      (λ e. rw (other_len marks b bs e) (ap (λ t. is_ascii_hexdigit b && t) (hex_one bs)))
+      (cases_Bool (is_one_of marks b))
 
   hex_no_mark : (b : ℕ) → is_ascii_hexdigit b ≡ true → is_one_of marks b ≡ false
-  hex_no_mark b h = ⊎_elim (λ m. absurd (both_ways _ (mark_hex set marks outside b m) h)) (λ m. m) (cases_Bool (is_one_of marks b))
+  hex_no_mark b h = ⊎_elim (λ m. absurd (both_ways _ (mark_hex set marks outside b m) h)) (λ m. m)
+      (cases_Bool (is_one_of marks b))
 
   -- two digits are no marks
   two_digits : (bs : List ℕ) → begins_hex bs ≡ true → skips marks 0 bs ≡ true
@@ -224,7 +239,8 @@ module _ (marks : List ℕ) (set : TableSet) (lacks : LacksPercent set)
       let p = and_parts _ _ e in
       let t = sym (skips_ascii marks b bs (hex_ascii b p.1))
       ∙ sym (skips_ascii marks a (b ∷ bs) (hex_ascii a p.0)) ∙ s in
-      and_from _ _ (not_from_false _ (hex_no_mark a p.0)) (and_from _ _ (not_from_false _ (hex_no_mark b p.1)) t)
+      and_from _ _ (not_from_false _ (hex_no_mark a p.0))
+      (and_from _ _ (not_from_false _ (hex_no_mark b p.1)) t)
 
   cut_octet : (b : ℕ) (bs : List ℕ) → (set.pct_encoded && eqb b 37) ≡ true
       → valid_from set 2 (take (to_mark marks bs) bs) ≡ eqb (front_from set 2 bs) (to_mark marks bs)
@@ -234,7 +250,8 @@ module _ (marks : List ℕ) (set : TableSet) (lacks : LacksPercent set)
   cut_octet b bs o ih h =
       valid_cons set b _ ∙ cond-true _ _ _ (and_from _ _ o (hex_two bs ∙ h)) ∙ ih
       ∙ sym (eqb_step (front_from set 2 bs) (to_mark marks bs))
-      ∙ sym (ap (λ n. eqb n (suc (to_mark marks bs))) (front_cons set b bs ∙ cond-true _ _ _ o ∙ cond-true _ _ _ h))
+      ∙ sym (ap (λ n. eqb n (suc (to_mark marks bs)))
+      (front_cons set b bs ∙ cond-true _ _ _ o ∙ cond-true _ _ _ h))
 
   percent_first : (b : ℕ) (bs : List ℕ) → eqb b 37 ≡ true → allows_first set b bs ≡ false
   percent_first b bs e = let d = eqb-true b 37 e in allows_first-ascii set b bs (omega arith)
@@ -246,7 +263,8 @@ module _ (marks : List ℕ) (set : TableSet) (lacks : LacksPercent set)
   cut_stray b bs o h =
       valid_cons set b _ ∙ cond-false _ _ _ (and_right _ _ (hex_two bs ∙ h))
       ∙ and_left _ _ (percent_first b _ (and_parts _ _ o).1) ∙ sym (eqb_zero (to_mark marks bs))
-      ∙ sym (ap (λ n. eqb n (suc (to_mark marks bs))) (front_cons set b bs ∙ cond-true _ _ _ o ∙ cond-false _ _ _ h))
+      ∙ sym (ap (λ n. eqb n (suc (to_mark marks bs)))
+      (front_cons set b bs ∙ cond-true _ _ _ o ∙ cond-false _ _ _ h))
 
   cut_char : (b : ℕ) (bs : List ℕ) → (set.pct_encoded && eqb b 37) ≡ false
       → skips marks (continuation_len b) bs ≡ true
@@ -259,7 +277,9 @@ module _ (marks : List ℕ) (set : TableSet) (lacks : LacksPercent set)
       let k = continuation_len b in
       valid_cons set b _ ∙ cond-false _ _ _ (and_left _ _ o)
       ∙ ap (λ t. t && valid_from set k (take m bs)) (first_before set marks b bs s)
-      ∙ ⊎_elim (λ a. ap (λ t. t && valid_from set k (take m bs)) a ∙ ih ∙ sym (eqb_step (front_from set k bs) m) ∙ sym (ap (λ n. eqb n (suc m)) (cond-true _ _ _ a)))
+      ∙ ⊎_elim (λ a. ap (λ t. t && valid_from set k (take m bs)) a ∙ ih
+      ∙ sym (eqb_step (front_from set k bs) m)
+      ∙ sym (ap (λ n. eqb n (suc m)) (cond-true _ _ _ a)))
       (λ a. and_left _ _ a ∙ sym (eqb_zero m) ∙ sym (ap (λ n. eqb n (suc m)) (cond-false _ _ _ a)))
       (cases_Bool (allows_first set b bs))
       ∙ sym (ap (λ n. eqb n (suc m)) (front_cons set b bs ∙ cond-false _ _ _ o))
@@ -278,26 +298,33 @@ module _ (marks : List ℕ) (set : TableSet) (lacks : LacksPercent set)
   cut_from (suc k) (b ∷ bs) s =
       let p = and_parts _ _ s in
       let e = not-true _ p.0 in
-      rw (other_len marks b bs e) (cut_from k bs p.1 ∙ sym (eqb_step (front_from set k bs) (to_mark marks bs)))
+      rw (other_len marks b bs e) (cut_from k bs p.1
+      ∙ sym (eqb_step (front_from set k bs) (to_mark marks bs)))
   cut_from zero (b ∷ bs) s = ⊎_elim
       (λ e. rw (mark_len marks b bs e) (sym (ap (λ n. eqb n 0) (front_zero_mark b bs e))))
       (λ e. rw (other_len marks b bs e) (⊎_elim
       (λ o. let t = percent_rest marks b bs (and_parts _ _ o).1 s in
-      ⊎_elim (λ h. cut_octet b bs o (cut_from 2 bs (two_digits bs h t)) h) (λ h. cut_stray b bs o h) (cases_Bool (begins_hex bs)))
+      ⊎_elim (λ h. cut_octet b bs o (cut_from 2 bs (two_digits bs h t)) h) (λ h. cut_stray b bs o h)
+      (cases_Bool (begins_hex bs)))
       (λ o. cut_char b bs o s (cut_from (continuation_len b) bs s))
       (cases_Bool (set.pct_encoded && eqb b 37))))
       (cases_Bool (is_one_of marks b))
 
   front_le_any : (b : ℕ) (bs : List ℕ)
-      → ((set.pct_encoded && eqb b 37) ≡ true → begins_hex bs ≡ true → front_from set 2 bs ≤ to_mark marks bs)
+      → ((set.pct_encoded && eqb b 37) ≡ true → begins_hex bs ≡ true
+      → front_from set 2 bs ≤ to_mark marks bs)
       → front_from set (continuation_len b) bs ≤ to_mark marks bs
       → front_from set 0 (b ∷ bs) ≤ suc (to_mark marks bs)
   front_le_any b bs two one =
       let m = to_mark marks bs in
       let k = continuation_len b in
-      rw (front_cons set b bs) (cond_le (set.pct_encoded && eqb b 37) (cond (begins_hex bs) (front_from set 2 bs + 1) 0) (cond (allows_first set b bs) (front_from set k bs + 1) 0) (suc m)
-      (λ o. cond_le (begins_hex bs) (front_from set 2 bs + 1) 0 (suc m) (λ h. let l = two o h in omega arith) (λ _. omega arith))
-      (λ _. cond_le (allows_first set b bs) (front_from set k bs + 1) 0 (suc m) (λ _. omega arith) (λ _. omega arith)))
+      rw (front_cons set b bs) (cond_le (set.pct_encoded && eqb b 37)
+      (cond (begins_hex bs) (front_from set 2 bs + 1) 0)
+      (cond (allows_first set b bs) (front_from set k bs + 1) 0) (suc m)
+      (λ o. cond_le (begins_hex bs) (front_from set 2 bs + 1) 0 (suc m)
+      (λ h. let l = two o h in omega arith) (λ _. omega arith))
+      (λ _. cond_le (allows_first set b bs) (front_from set k bs + 1) 0 (suc m) (λ _. omega arith)
+      (λ _. omega arith)))
 
   front_le : (k : ℕ) (bs : List ℕ) → skips marks k bs ≡ true
       → front_from set k bs ≤ to_mark marks bs
@@ -327,11 +354,13 @@ module _ (marks : List ℕ) (set : TableSet) (lacks : LacksPercent set)
   front_le_mark text u = front_le 0 text (skips_text marks ascii text u)
 
 none_len : (text : List ℕ) → to_mark [] text ≡ length text
-none_len text = prefix_len_is (λ c. not (is_one_of [] c)) text (length text) 0 (omega arith) (λ k h. refl) (λ h. absurd (omega arith))
+none_len text = prefix_len_is (λ c. not (is_one_of [] c)) text (length text) 0 (omega arith)
+    (λ k h. refl) (λ h. absurd (omega arith))
 
 -- a text is valid where it is read to its end
 pub valid_where_read : (set : TableSet) (text : List ℕ) → LacksPercent set → IsUtf8 text
     → is_valid_for set text ≡ eqb (front set text) (length text)
 valid_where_read set text lacks u =
-    ap (is_valid_for set) (sym (take_all (length text) text (omega arith)) ∙ ap (λ n. take n text) (sym (none_len text)))
+    ap (is_valid_for set) (sym (take_all (length text) text (omega arith))
+    ∙ ap (λ n. take n text) (sym (none_len text)))
     ∙ cut [] set lacks refl text u ∙ ap (eqb (front set text)) (none_len text)

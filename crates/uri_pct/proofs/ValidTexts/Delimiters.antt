@@ -17,7 +17,8 @@ pub lacks_from : (d : ℕ) (bs : List ℕ) → ((i : ℕ) → i < length bs → 
     → lacks d bs ≡ true
 lacks_from d [] h = refl
 lacks_from d (b ∷ bs) h =
-    and_from _ _ (not_from_false _ (ne_eqb b d (h 0 (omega arith)))) (lacks_from d bs (λ i l. h (suc i) (omega arith)))
+    and_from _ _ (not_from_false _ (ne_eqb b d (h 0 (omega arith))))
+    (lacks_from d bs (λ i l. h (suc i) (omega arith)))
 
 eqb-refl : (d : ℕ) → eqb d d ≡ true
 eqb-refl d = eq-eqb d d refl
@@ -27,10 +28,12 @@ pub first_cut : (d : ℕ) (bs : List ℕ) (r : Option (Bor (List ℕ) × Bor (Li
     → IsSplitOnceResult d bs r → d < 128
     → MatchOption r (lacks d bs ≡ true) (λ x. IsFirstCut d bs x.0.now x.1.now)
 first_cut d bs None h small = lacks_from d bs (split_parts d bs None h small)
-first_cut d bs (Some x) h small = let p = split_parts d bs (Some x) h small in (p.0, lacks_from d x.0.now p.1)
+first_cut d bs (Some x) h small = let p = split_parts d bs (Some x) h small in
+    (p.0, lacks_from d x.0.now p.1)
 
 pub last_cut : (d : ℕ) (bs : List ℕ) (r : Option (Bor (List ℕ) × Bor (List ℕ)))
-    → MatchOption r (RFindsChar d bs None) (λ x. SplitsAroundMatch (RFindsChar d) bs x.0.now x.1.now)
+    → MatchOption r (RFindsChar d bs None)
+    (λ x. SplitsAroundMatch (RFindsChar d) bs x.0.now x.1.now)
     → d < 128
     → MatchOption r (lacks d bs ≡ true) (λ x. IsLastCut d bs x.0.now x.1.now)
 last_cut d bs None h small = lacks_from d bs (λ i l. NoCharPasses-char d bs i h small l)
@@ -49,7 +52,8 @@ first_piece_of : (p : ℕ → Bool) (xs : List ℕ)
 first_piece_of p [] = ([], [], refl)
 first_piece_of p (x ∷ xs) =
     let f = first_piece_of p xs in
-    ⊎_elim (λ e. ([], slice_split p xs, cond-true _ _ _ e)) (λ e. (x ∷ f.0, f.1, cond-false _ _ _ e ∙ ap (onto_first x) f.2)) (cases_Bool (p x))
+    ⊎_elim (λ e. ([], slice_split p xs, cond-true _ _ _ e))
+    (λ e. (x ∷ f.0, f.1, cond-false _ _ _ e ∙ ap (onto_first x) f.2)) (cases_Bool (p x))
 
 onto_append : (x : ℕ) (piece : List ℕ) (pieces more all : List (List ℕ)) → all ≡ piece ∷ pieces
     → onto_first x (all ++ more) ≡ onto_first x all ++ more
@@ -65,7 +69,8 @@ slice_split-cut d (x ∷ xs) after =
     let f = first_piece_of p xs in
     ⊎_elim
     (λ e. rw e (ap (λ ps. [] ∷ ps) (slice_split-cut d xs after)))
-    (λ e. rw e (ap (onto_first x) (slice_split-cut d xs after) ∙ onto_append x f.0 f.1 (slice_split p after) (slice_split p xs) f.2))
+    (λ e. rw e (ap (onto_first x) (slice_split-cut d xs after)
+    ∙ onto_append x f.0 f.1 (slice_split p after) (slice_split p xs) f.2))
     (cases_Bool (eqb x d))
 
 -- a text without the delimiter is its one piece
@@ -102,7 +107,9 @@ pieces_lack d [] = refl
 pieces_lack d (x ∷ xs) =
     let p = λ (b : ℕ). eqb b d in
     let f = first_piece_of p xs in
-    ⊎_elim (λ e. rw e (pieces_lack d xs)) (λ e. rw e (onto_lacks d x f.0 f.1 (slice_split p xs) f.2 e (pieces_lack d xs))) (cases_Bool (eqb x d))
+    ⊎_elim (λ e. rw e (pieces_lack d xs))
+    (λ e. rw e (onto_lacks d x f.0 f.1 (slice_split p xs) f.2 e (pieces_lack d xs)))
+    (cases_Bool (eqb x d))
 
 -- a path that begins with `/`
 pub absolute_text : (text : List ℕ) → is_absolute text ≡ true → text ≡ 47 ∷ drop 1 text

@@ -20,8 +20,10 @@ past_in_more : (s t : TableSet) (c : ℕ) → IsSubset s t → allows_past_ascii
     → allows_past_ascii t c ≡ true
 unfolding allows_past_ascii
 past_in_more s t c subset e = ⊎_elim
-    (λ u. let p = and_parts s.ucschar (is_ucschar c) u in or_left _ _ (and_from _ _ (subset.ucschar p.0) p.1))
-    (λ u. let p = and_parts s.iprivate (is_iprivate c) u in or_right _ _ (and_from _ _ (subset.iprivate p.0) p.1))
+    (λ u. let p = and_parts s.ucschar (is_ucschar c) u in
+    or_left _ _ (and_from _ _ (subset.ucschar p.0) p.1))
+    (λ u. let p = and_parts s.iprivate (is_iprivate c) u in
+    or_right _ _ (and_from _ _ (subset.iprivate p.0) p.1))
     (or_cases (s.ucschar && is_ucschar c) (s.iprivate && is_iprivate c) e)
 
 char_in_more : (s t : TableSet) (c : ℕ) → IsSubset s t → allows s c ≡ true → allows t c ≡ true

@@ -12,7 +12,7 @@ use Rattle.std.proofs.lemmas.Bool.{or_parts, eq-eqb, eqb-true, ne_eqb, lt-ltb, l
 use Rattle.uri_pct.specs.Sets.{TableSet, LacksPercent, IsSubset, allows_past_ascii}
 use Rattle.uri_pct.specs.Models.Fronts.{begins_hex, first_char, allows_first, front_from, front}
 use Rattle.uri_pct.specs.Models.Fronts.{after, may_go_on}
-use Rattle.uri_pct.specs.PercentSigns.{has_digits}
+use Rattle.uri_pct.specs.Texts.{has_digits}
 use Rattle.uri_pct.proofs.Unicode.Characters.{bytes_of_char, hex_ascii}
 use Rattle.uri_pct.proofs.ValidTexts.Validity.{allows_first-ascii, allows_first-past}
 use Rattle.uri_pct.proofs.ValidTexts.Cuts.{front_cons}
@@ -26,15 +26,20 @@ front_after_from : (set : TableSet) (k : ℕ) (bs : List ℕ)
 unfolding front_from
 front_after_from set zero [] = refl
 front_after_from set (suc k) [] = refl
-front_after_from set (suc k) (b ∷ bs) = rw (drop_one (front_from set k bs) b bs) (front_after_from set k bs)
+front_after_from set (suc k) (b ∷ bs) =
+    rw (drop_one (front_from set k bs) b bs) (front_after_from set k bs)
 front_after_from set zero (b ∷ bs) = ⊎_elim
     (λ o. ⊎_elim
-    (λ h. ap (λ n. front_from set 0 (drop n (b ∷ bs))) (cond-true _ _ _ o ∙ cond-true _ _ _ h) ∙ ap (front_from set 0) (drop_one _ b bs) ∙ front_after_from set 2 bs)
-    (λ h. ap (λ n. front_from set 0 (drop n (b ∷ bs))) (cond-true _ _ _ o ∙ cond-false _ _ _ h) ∙ cond-true _ _ _ o ∙ cond-false _ _ _ h)
+    (λ h. ap (λ n. front_from set 0 (drop n (b ∷ bs))) (cond-true _ _ _ o ∙ cond-true _ _ _ h)
+    ∙ ap (front_from set 0) (drop_one _ b bs) ∙ front_after_from set 2 bs)
+    (λ h. ap (λ n. front_from set 0 (drop n (b ∷ bs))) (cond-true _ _ _ o ∙ cond-false _ _ _ h)
+    ∙ cond-true _ _ _ o ∙ cond-false _ _ _ h)
     (cases_Bool (begins_hex bs)))
     (λ o. ⊎_elim
-    (λ a. ap (λ n. front_from set 0 (drop n (b ∷ bs))) (cond-false _ _ _ o ∙ cond-true _ _ _ a) ∙ ap (front_from set 0) (drop_one _ b bs) ∙ front_after_from set (continuation_len b) bs)
-    (λ a. ap (λ n. front_from set 0 (drop n (b ∷ bs))) (cond-false _ _ _ o ∙ cond-false _ _ _ a) ∙ cond-false _ _ _ o ∙ cond-false _ _ _ a)
+    (λ a. ap (λ n. front_from set 0 (drop n (b ∷ bs))) (cond-false _ _ _ o ∙ cond-true _ _ _ a)
+    ∙ ap (front_from set 0) (drop_one _ b bs) ∙ front_after_from set (continuation_len b) bs)
+    (λ a. ap (λ n. front_from set 0 (drop n (b ∷ bs))) (cond-false _ _ _ o ∙ cond-false _ _ _ a)
+    ∙ cond-false _ _ _ o ∙ cond-false _ _ _ a)
     (cases_Bool (allows_first set b bs)))
     (cases_Bool (set.pct_encoded && eqb b 37))
 
@@ -48,12 +53,22 @@ front_from_le set (suc k) [] = omega arith
 front_from_le set (suc k) (b ∷ bs) = let h = front_from_le set k bs in omega arith
 front_from_le set zero (b ∷ bs) = ⊎_elim
     (λ o. ⊎_elim
-    (λ h. rw (cond-true (set.pct_encoded && eqb b 37) _ _ o, cond-true (begins_hex bs) _ _ h) (let l = front_from_le set 2 bs in omega arith))
-    (λ h. rw (cond-true (set.pct_encoded && eqb b 37) _ _ o, cond-false (begins_hex bs) _ _ h) (omega arith))
+    (λ h. rw (cond-true (set.pct_encoded && eqb b 37) _ _ o, cond-true (begins_hex bs) _ _ h)
+    (let l = front_from_le set 2 bs in omega arith))
+    (λ h. rw (cond-true (set.pct_encoded && eqb b 37) _ _ o, cond-false (begins_hex bs) _ _ h)
+    (omega arith))
     (cases_Bool (begins_hex bs)))
     (λ o. ⊎_elim
-    (λ a. rw (cond-false (set.pct_encoded && eqb b 37) _ _ o, cond-true (allows_first set b bs) _ _ a) (let l = front_from_le set (continuation_len b) bs in omega arith))
-    (λ a. rw (cond-false (set.pct_encoded && eqb b 37) _ _ o, cond-false (allows_first set b bs) _ _ a) (omega arith))
+    (λ a. rw (
+      cond-false (set.pct_encoded && eqb b 37) _ _ o,
+      cond-true (allows_first set b bs) _ _
+          a,
+    ) (let l = front_from_le set (continuation_len b) bs in omega arith))
+    (λ a. rw (
+      cond-false (set.pct_encoded && eqb b 37) _ _ o,
+      cond-false (allows_first set b bs) _ _
+          a,
+    ) (omega arith))
     (cases_Bool (allows_first set b bs)))
     (cases_Bool (set.pct_encoded && eqb b 37))
 
@@ -74,7 +89,8 @@ first_subset : (small great : TableSet) → IsSubset small great → (b : ℕ) (
 unfolding allows_first
 first_subset small great w b bs e = ⊎_elim
     (λ h. let l = lt-ltb b 128 h in cond-true _ _ _ l ∙ w.ascii b (sym (cond-true _ _ _ l) ∙ e))
-    (λ h. let l = le-ltb b 128 h in cond-false _ _ _ l ∙ past_subset small great w _ (sym (cond-false _ _ _ l) ∙ e))
+    (λ h. let l = le-ltb b 128 h in cond-false _ _ _ l
+    ∙ past_subset small great w _ (sym (cond-false _ _ _ l) ∙ e))
     (cases_lt b 128)
 
 none_within : (small great : TableSet) (bs : List ℕ) → front small bs ≡ 0
@@ -96,16 +112,24 @@ front_from_within : (small great : TableSet) → IsSubset small great → LacksP
 unfolding front_from
 front_from_within small great w lacks zero [] = refl
 front_from_within small great w lacks (suc k) [] = refl
-front_from_within small great w lacks (suc k) (b ∷ bs) = more_within great b _ _ bs (front_from_within small great w lacks k bs)
+front_from_within small great w lacks (suc k) (b ∷ bs) =
+    more_within great b _ _ bs (front_from_within small great w lacks k bs)
 front_from_within small great w lacks zero (b ∷ bs) = ⊎_elim
-    (λ o. let g : (great.pct_encoded && eqb b 37) ≡ true = and_from _ _ (w.pct_encoded (and_parts small.pct_encoded (eqb b 37) o).0) (and_parts small.pct_encoded (eqb b 37) o).1 in
+    (λ o. let g : (great.pct_encoded && eqb b 37) ≡ true =
+    and_from _ _ (w.pct_encoded (and_parts small.pct_encoded (eqb b 37) o).0)
+    (and_parts small.pct_encoded (eqb b 37) o).1 in
     ⊎_elim
-    (λ h. cond-true _ _ _ g ∙ cond-true _ _ _ h ∙ more_within great b _ _ bs (front_from_within small great w lacks 2 bs) ∙ sym (ap (λ n. n + front great (drop n (b ∷ bs))) (cond-true _ _ _ o ∙ cond-true _ _ _ h)))
+    (λ h. cond-true _ _ _ g ∙ cond-true _ _ _ h
+    ∙ more_within great b _ _ bs (front_from_within small great w lacks 2 bs)
+    ∙ sym (ap (λ n. n + front great (drop n (b ∷ bs)))
+    (cond-true _ _ _ o ∙ cond-true _ _ _ h)))
     (λ h. none_within small great (b ∷ bs) (cond-true _ _ _ o ∙ cond-false _ _ _ h))
     (cases_Bool (begins_hex bs)))
     (λ o. ⊎_elim
     (λ a.
-    let other : eqb b 37 ≡ false = ⊎_elim (λ x. absurd (both_ways _ (percent_out small lacks b bs x) a)) (λ x. x) (cases_Bool (eqb b 37)) in
+    let other : eqb b 37 ≡ false =
+    ⊎_elim (λ x. absurd (both_ways _ (percent_out small lacks b bs x) a)) (λ x. x)
+    (cases_Bool (eqb b 37)) in
     cond-false _ _ _ (and_right _ _ other) ∙ cond-true _ _ _ (first_subset small great w b bs a)
     ∙ more_within great b _ _ bs (front_from_within small great w lacks (continuation_len b) bs)
     ∙ sym (ap (λ n. n + front great (drop n (b ∷ bs))) (cond-false _ _ _ o ∙ cond-true _ _ _ a)))
@@ -120,7 +144,10 @@ front-within small great w lacks bs = front_from_within small great w lacks 0 bs
 -- one step of reading at a place in a text
 front_at : (set : TableSet) (bs : List ℕ) (i : ℕ) → i < length bs
     → front set (drop i bs)
-    ≡ cond (set.pct_encoded && eqb (get_or bs i 0) 37) (cond (begins_hex (drop (i + 1) bs)) (front_from set 2 (drop (i + 1) bs) + 1) 0) (cond (allows_first set (get_or bs i 0) (drop (i + 1) bs)) (front_from set (continuation_len (get_or bs i 0)) (drop (i + 1) bs) + 1) 0)
+    ≡ cond (set.pct_encoded && eqb (get_or bs i 0) 37)
+    (cond (begins_hex (drop (i + 1) bs)) (front_from set 2 (drop (i + 1) bs) + 1) 0)
+    (cond (allows_first set (get_or bs i 0) (drop (i + 1) bs))
+    (front_from set (continuation_len (get_or bs i 0)) (drop (i + 1) bs) + 1) 0)
 unfolding front_from
 front_at set bs i h = at_drop_more (front set) bs i 0 h
 
@@ -135,7 +162,9 @@ front-end set bs i h = rw (drop_all i bs h)
 
 digits_at : (bs : List ℕ) (i : ℕ) → begins_hex (drop (i + 1) bs) ≡ has_digits bs i
 unfolding has_digits begins_hex
-digits_at bs i = rw (get_or-drop (i + 1) bs 0 0, get_or-drop (i + 1) bs 1 0) (let e : i + 1 + 0 ≡ i + 1 = omega arith in let f : i + 1 + 1 ≡ i + 2 = omega arith in rw (e, f))
+digits_at bs i = rw (get_or-drop (i + 1) bs 0 0, get_or-drop (i + 1) bs 1 0)
+    (let e : i + 1 + 0 ≡ i + 1 = omega arith in let f : i + 1 + 1 ≡ i + 2 = omega arith in
+    rw (e, f))
 
 pub front-octet : (set : TableSet) (bs : List ℕ) (i : ℕ) → i + 2 < length bs
     → set.pct_encoded ≡ true → get_or bs i 0 ≡ 37 → has_digits bs i ≡ true
@@ -144,18 +173,23 @@ front-octet set bs i h o p e =
     let f : i + 1 + 1 + 1 ≡ i + 3 = omega arith in
     front_at set bs i (omega arith) ∙ cond-true _ _ _ (and_from _ _ o (eq-eqb _ _ p))
     ∙ cond-true _ _ _ (digits_at bs i ∙ e)
-    ∙ ap (λ n. n + 1) (skip_at set 1 bs (i + 1) (omega arith) ∙ ap (λ n. n + 1) (skip_at set 0 bs (i + 1 + 1) (omega arith)))
+    ∙ ap (λ n. n + 1) (skip_at set 1 bs (i + 1) (omega arith)
+    ∙ ap (λ n. n + 1) (skip_at set 0 bs (i + 1 + 1) (omega arith)))
     ∙ (rw f (omega arith))
 
 pub front-stray : (set : TableSet) → LacksPercent set → (bs : List ℕ) (i : ℕ) → i < length bs
     → get_or bs i 0 ≡ 37 → (set.pct_encoded && has_digits bs i) ≡ false → front set (drop i bs) ≡ 0
 front-stray set lacks bs i h p e = front_at set bs i h ∙ ⊎_elim
-    (λ o. cond-true _ _ _ (and_from _ _ o (eq-eqb _ _ p)) ∙ cond-false _ _ _ (digits_at bs i ∙ sym (ap (λ t. t && has_digits bs i) o) ∙ e))
-    (λ o. cond-false _ _ _ (and_left _ _ o) ∙ cond-false _ _ _ (percent_out set lacks _ _ (eq-eqb _ _ p)))
+    (λ o. cond-true _ _ _ (and_from _ _ o (eq-eqb _ _ p))
+    ∙ cond-false _ _ _ (digits_at bs i ∙ sym (ap (λ t. t && has_digits bs i) o) ∙ e))
+    (λ o. cond-false _ _ _ (and_left _ _ o)
+    ∙ cond-false _ _ _ (percent_out set lacks _ _ (eq-eqb _ _ p)))
     (cases_Bool set.pct_encoded)
 
 not_percent : (set : TableSet) → LacksPercent set → (b : ℕ) → set.ascii b ≡ true → eqb b 37 ≡ false
-not_percent set lacks b a = ⊎_elim (λ x. absurd (both_ways _ (ap set.ascii (eqb-true b 37 x) ∙ lacks) a)) (λ x. x) (cases_Bool (eqb b 37))
+not_percent set lacks b a = ⊎_elim
+    (λ x. absurd (both_ways _ (ap set.ascii (eqb-true b 37 x) ∙ lacks) a)) (λ x. x)
+    (cases_Bool (eqb b 37))
 
 pub front-char : (set : TableSet) → LacksPercent set → (bs : List ℕ) (i : ℕ) → i < length bs
     → get_or bs i 0 < 128 → set.ascii (get_or bs i 0) ≡ true
@@ -193,12 +227,15 @@ front-past set bs rest c u e h =
     let l : 128 ≤ w.first = subst (λ n. 128 ≤ n) (ap (λ t. get_or t 0 0) s) h in
     let n : len_utf8 c ≡ length w.more + 1 = sym (length-encode c) ∙ ap length w.spelt
     ∙ omega arith in
-    let f : allows_first set w.first (w.more ++ rest) ≡ allows_past_ascii set c = allows_first-past set w.first _ l
+    let f : allows_first set w.first (w.more ++ rest) ≡ allows_past_ascii set c =
+    allows_first-past set w.first _ l
     ∙ ap (allows_past_ascii set) (ap first_char (sym s) ∙ first_is bs rest c u e) in
     ap (front set) s ∙ front_cons set w.first (w.more ++ rest)
     ∙ cond-false _ _ _ (and_right _ _ (ne_eqb w.first 37 (λ d. too_big w.first l d)))
     ∙ ap (λ t. cond t (front_from set (continuation_len w.first) (w.more ++ rest) + 1) 0) f
-    ∙ ap (λ t. cond (allows_past_ascii set c) t 0) (ap (λ k. front_from set k (w.more ++ rest) + 1) w.len ∙ ap (λ k. k + 1) (skip_more set w.more rest) ∙ omega arith)
+    ∙ ap (λ t. cond (allows_past_ascii set c) t 0)
+    (ap (λ k. front_from set k (w.more ++ rest) + 1) w.len
+    ∙ ap (λ k. k + 1) (skip_more set w.more rest) ∙ omega arith)
 
 pub front-past-at : (set : TableSet) (bs : List ℕ) (i c : ℕ) → IsUtf8 bs → IsCharBoundary bs i
     → drop i bs ≡ encode_utf8 c ++ drop (i + len_utf8 c) bs → 128 ≤ get_or bs i 0
@@ -208,7 +245,8 @@ front-past-at set bs i c u b e h =
     let z : i + 0 ≡ i = omega arith in
     let g : get_or (drop i bs) 0 0 ≡ get_or bs i 0 = get_or-drop i bs 0 0
     ∙ ap (λ n. get_or bs n 0) z in
-    front-past set (drop i bs) (drop (i + len_utf8 c) bs) c (IsUtf8-drop bs i u b) e (subst (λ n. 128 ≤ n) (sym g) h)
+    front-past set (drop i bs) (drop (i + len_utf8 c) bs) c (IsUtf8-drop bs i u b) e
+    (subst (λ n. 128 ≤ n) (sym g) h)
 
 pub digits-ascii : (bs : List ℕ) (i : ℕ) → has_digits bs i ≡ true → get_or bs (i + 2) 0 < 128
 unfolding has_digits
@@ -221,7 +259,10 @@ none_read n e = omega arith
 pub stray-digits : (set : TableSet) (bs : List ℕ) (i : ℕ) → i < length bs → set.pct_encoded ≡ true
     → get_or bs i 0 ≡ 37 → front set (drop i bs) ≡ 0 → has_digits bs i ≡ false
 stray-digits set bs i h o p z = ⊎_elim
-    (λ e. absurd (none_read _ (sym (cond-true _ _ _ (digits_at bs i ∙ e)) ∙ sym (cond-true _ _ _ (and_from _ _ o (eq-eqb _ _ p))) ∙ sym (front_at set bs i h) ∙ z)))
+    (λ e.
+    absurd (none_read _ (sym (cond-true _ _ _ (digits_at bs i ∙ e))
+    ∙ sym (cond-true _ _ _ (and_from _ _ o (eq-eqb _ _ p))) ∙ sym (front_at set bs i h)
+    ∙ z)))
     (λ e. e)
     (cases_Bool (has_digits bs i))
 
@@ -229,7 +270,8 @@ stray-digits set bs i h o p z = ⊎_elim
 flags_off : (set : TableSet) → (set.ucschar || set.iprivate) ≡ false → (c : ℕ)
     → allows_past_ascii set c ≡ false
 unfolding allows_past_ascii
-flags_off set e c = or_from _ _ (and_left _ _ (or_parts set.ucschar set.iprivate e).0) (and_left _ _ (or_parts set.ucschar set.iprivate e).1)
+flags_off set e c = or_from _ _ (and_left _ _ (or_parts set.ucschar set.iprivate e).0)
+    (and_left _ _ (or_parts set.ucschar set.iprivate e).1)
 
 front-past-none : (set : TableSet) (bs : List ℕ) (i : ℕ) → i < length bs → 128 ≤ get_or bs i 0
     → (set.ucschar || set.iprivate) ≡ false → front set (drop i bs) ≡ 0
@@ -243,9 +285,12 @@ pub front-done : (set : TableSet) → LacksPercent set → (bs : List ℕ) (i : 
     → front set (drop i bs) ≡ 0
 unfolding may_go_on
 front-done set lacks bs i h a e = ⊎_elim
-    (λ p. front-stray set lacks bs i h (eqb-true _ _ p) (and_left _ _ (sym (cond-true _ _ _ p) ∙ e)))
+    (λ p. front-stray set lacks bs i h (eqb-true _ _ p)
+    (and_left _ _ (sym (cond-true _ _ _ p) ∙ e)))
     (λ p. ⊎_elim
     (λ (below : get_or bs i 0 < 128). front-stop set bs i h below p a)
-    (λ (past : 128 ≤ get_or bs i 0). front-past-none set bs i h past (sym (ap (λ b. not b && (set.ucschar || set.iprivate)) (le-ltb (get_or bs i 0) 128 past)) ∙ sym (cond-false _ _ _ p) ∙ e))
+    (λ (past : 128 ≤ get_or bs i 0). front-past-none set bs i h past
+    (sym (ap (λ b. not b && (set.ucschar || set.iprivate)) (le-ltb (get_or bs i 0) 128 past))
+    ∙ sym (cond-false _ _ _ p) ∙ e))
     (cases_lt (get_or bs i 0) 128))
     (cases_Bool (eqb (get_or bs i 0) 37))

@@ -32,25 +32,32 @@ by_tokens set old new ts lacks u valid p a e = record {
 }
 
 fewer_lack : (sub set : TableSet) → IsSubset sub set → LacksPercent set → LacksPercent sub
-fewer_lack sub set subset lacks = false_from_ne_true _ (λ p. false≢true (sym lacks ∙ subset.ascii 37 p))
+fewer_lack sub set subset lacks =
+    false_from_ne_true _ (λ p. false≢true (sym lacks ∙ subset.ascii 37 p))
 
 pub by_text : (set sub : TableSet) (old new text : List ℕ) → LacksPercent set → IsSubset sub set
     → sub.pct_encoded ≡ true → IsUtf8 old → IsUtf8 text → IsValidFor set old
     → new ≡ old ++ print (encode_text sub text) → Grows set old (encode_text sub text) new
 by_text set sub old new text lacks subset o u v valid e =
-    by_tokens set old new (encode_text sub text) lacks u valid (printable-encode_text sub text (fewer_lack sub set subset lacks) v) (allowed-encode_text sub set text subset o) e
+    by_tokens set old new (encode_text sub text) lacks u valid
+    (printable-encode_text sub text (fewer_lack sub set subset lacks) v)
+    (allowed-encode_text sub set text subset o) e
 
 pub by_bytes : (set sub : TableSet) (old new bytes : List ℕ) → LacksPercent set → IsSubset sub set
     → sub.pct_encoded ≡ true → IsUtf8 old → list_all is_small bytes ≡ true → IsValidFor set old
     → new ≡ old ++ print (encode_bytes sub bytes) → Grows set old (encode_bytes sub bytes) new
 by_bytes set sub old new bytes lacks subset o u small valid e =
-    by_tokens set old new (encode_bytes sub bytes) lacks u valid (printable-encode_bytes sub bytes (fewer_lack sub set subset lacks) small) (allowed-encode_bytes sub set bytes subset o) e
+    by_tokens set old new (encode_bytes sub bytes) lacks u valid
+    (printable-encode_bytes sub bytes (fewer_lack sub set subset lacks) small)
+    (allowed-encode_bytes sub set bytes subset o) e
 
 pub by_char : (set : TableSet) (old new : List ℕ) (c : ℕ) → LacksPercent set → IsUtf8 old
     → IsValidFor set old → allows set c ≡ true → new ≡ old ++ encode_utf8 c
     → Grows set old (Char c ∷ []) new
 by_char set old new c lacks u valid a e =
-    by_tokens set old new (Char c ∷ []) lacks u valid (and_from _ true (printable_allowed set c lacks a) refl) (and_from _ true a refl) (e ∙ ap (λ x. old ++ x) (sym (append-nil (encode_utf8 c))))
+    by_tokens set old new (Char c ∷ []) lacks u valid
+    (and_from _ true (printable_allowed set c lacks a) refl) (and_from _ true a refl)
+    (e ∙ ap (λ x. old ++ x) (sym (append-nil (encode_utf8 c))))
 
 pub by_valid : (set : TableSet) (old new text : List ℕ) → LacksPercent set → IsUtf8 old
     → IsValidFor set old → IsValidFor set text → new ≡ old ++ text → Grows set old (tokens text) new

@@ -33,7 +33,8 @@ ascii_front : (set : TableSet) (rest : List ℕ) (c : ℕ) → c < 128
 ascii_front set rest c h =
     let plain = plain_set set in
     front_cons plain c rest
-    ∙ ap (λ t. cond t (front_from plain (continuation_len c) rest + 1) 0) (allows_first-ascii plain c rest h ∙ sym (allows-ascii set c h))
+    ∙ ap (λ t. cond t (front_from plain (continuation_len c) rest + 1) 0)
+    (allows_first-ascii plain c rest h ∙ sym (allows-ascii set c h))
     ∙ ap (λ k. cond (allows set c) (front_from plain k rest + 1) 0) (len_ascii c h)
     ∙ ap (λ k. cond (allows set c) (front plain rest + k) 0) (sym (one_byte c h))
 
@@ -46,14 +47,18 @@ pub front_first : (set : TableSet) (text rest : List ℕ) (c : ℕ) → IsUtf8 t
     → text ≡ encode_utf8 c ++ rest
     → front (plain_set set) text ≡ cond (allows set c) (front (plain_set set) rest + len_utf8 c) 0
 front_first set text rest c u e = ⊎_elim
-    (λ h. ap (front (plain_set set)) (e ∙ ap (λ t. t ++ rest) (encode_ascii c h)) ∙ ascii_front set rest c h)
-    (λ h. front-past (plain_set set) text rest c u e (subst (λ t. 128 ≤ get_or t 0 0) (sym e) (lead c rest h))
-    ∙ ap (λ t. cond t (front (plain_set set) rest + len_utf8 c) 0) (same_past set c ∙ sym (allows-past set c h)))
+    (λ h. ap (front (plain_set set)) (e ∙ ap (λ t. t ++ rest) (encode_ascii c h))
+    ∙ ascii_front set rest c h)
+    (λ h. front-past (plain_set set) text rest c u e
+    (subst (λ t. 128 ≤ get_or t 0 0) (sym e) (lead c rest h))
+    ∙ ap (λ t. cond t (front (plain_set set) rest + len_utf8 c) 0)
+    (same_past set c ∙ sym (allows-past set c h)))
     (cases_lt c 128)
 
 -- so many bytes are encoded as they stand
 abbrev IsKept : TableSet → List ℕ → ℕ → Type 0
-IsKept set text n = print (encode_text set text) ≡ take n text ++ print (encode_text set (drop n text))
+IsKept set text n = print (encode_text set text)
+    ≡ take n text ++ print (encode_text set (drop n text))
 
 some_kept : (set : TableSet) (c n : ℕ) (rest : List ℕ) → IsUtf8 (encode_utf8 c ++ rest)
     → allows set c ≡ true → IsKept set rest n → IsKept set (encode_utf8 c ++ rest) (n + len_utf8 c)
@@ -66,7 +71,8 @@ some_kept set c n rest u allowed kept =
     ∙ ap (λ x. x ++ print (encode_text set rest)) (encode_char-kept set c allowed)
     ∙ ap (λ x. encode_utf8 c ++ x) kept ∙ sym (append_assoc (encode_utf8 c) (take n rest) behind)
     ∙ ap (λ x. x ++ behind) (sym (take-append-add (encode_utf8 c) rest n))
-    ∙ ap (λ x. take (length (encode_utf8 c) + n) text ++ print (encode_text set x)) (sym (drop-append-add (encode_utf8 c) rest n))
+    ∙ ap (λ x. take (length (encode_utf8 c) + n) text ++ print (encode_text set x))
+    (sym (drop-append-add (encode_utf8 c) rest n))
     ∙ ap (λ k. take k text ++ print (encode_text set (drop k text))) (sym size)
 
 kept_chars : (set : TableSet) (cs : List ℕ) → all_scalars cs ≡ true
@@ -79,14 +85,17 @@ kept_chars set (c ∷ cs) s =
     let u : IsUtf8 text = (c ∷ cs, (s, refl)) in
     let first = front_first set text rest c u refl in
     ⊎_elim
-    (λ a. subst (IsKept set text) (sym (first ∙ cond-true _ _ _ a)) (some_kept set c (front (plain_set set) rest) rest u a (kept_chars set cs (and_parts _ (all_scalars cs) s).1)))
+    (λ a. subst (IsKept set text) (sym (first ∙ cond-true _ _ _ a))
+    (some_kept set c (front (plain_set set) rest) rest u a
+    (kept_chars set cs (and_parts _ (all_scalars cs) s).1)))
     (λ a. subst (IsKept set text) (sym (first ∙ cond-false _ _ _ a)) refl)
     (cases_Bool (allows set c))
 
 -- what is read of a text stands for itself
 pub front_kept : (set : TableSet) (text : List ℕ) → IsUtf8 text
     → IsKept set text (front (plain_set set) text)
-front_kept set text u = subst (λ t. IsKept set t (front (plain_set set) t)) u.1.1 (kept_chars set u.0 u.1.0)
+front_kept set text u = subst (λ t. IsKept set t (front (plain_set set) t)) u.1.1
+    (kept_chars set u.0 u.1.0)
 
 -- the same at a place of a text
 pub kept_from : (set : TableSet) (text : List ℕ) (start end : ℕ) → IsUtf8 text
@@ -96,7 +105,8 @@ kept_from set text start end u here e =
     let n = front (plain_set set) (drop start text) in
     let size : n ≡ end - start = omega (arith, e) in
     front_kept set (drop start text) (IsUtf8-drop text start u here)
-    ∙ ap (λ x. take n (drop start text) ++ print (encode_text set x)) (drop-drop n start text ∙ ap (λ k. drop k text) (sym e))
+    ∙ ap (λ x. take n (drop start text) ++ print (encode_text set x))
+    (drop-drop n start text ∙ ap (λ k. drop k text) (sym e))
     ∙ ap (λ k. take k (drop start text) ++ print (encode_text set (drop end text))) size
 
 len_some : (c : ℕ) → 0 < len_utf8 c
@@ -115,11 +125,14 @@ pub refused_behind : (set : TableSet) (text rest : List ℕ) (start end c : ℕ)
     → drop end text ≡ encode_utf8 c ++ rest → allows set c ≡ false
 refused_behind set text rest start end c u here e spelt =
     let n = front (plain_set set) (drop start text) in
-    let none : front (plain_set set) (drop end text) ≡ 0 = ap (λ k. front (plain_set set) (drop k text)) e
+    let none : front (plain_set set) (drop end text) ≡ 0 =
+    ap (λ k. front (plain_set set) (drop k text)) e
     ∙ ap (front (plain_set set)) (sym (drop-drop n start text))
     ∙ front-after (plain_set set) (drop start text) in
     ⊎_elim
-    (λ a. absurd (none_more (front (plain_set set) rest) (len_utf8 c) (len_some c) (sym (cond-true _ _ _ a) ∙ sym (front_first set (drop end text) rest c (IsUtf8-drop text end u here) spelt) ∙ none)))
+    (λ a. absurd (none_more (front (plain_set set) rest) (len_utf8 c) (len_some c)
+    (sym (cond-true _ _ _ a) ∙ sym
+    (front_first set (drop end text) rest c (IsUtf8-drop text end u here) spelt) ∙ none)))
     (λ a. a)
     (cases_Bool (allows set c))
 
@@ -151,8 +164,10 @@ refused_more set text start end next c u ordered spelt place refused before =
     ∙ ap (λ ts. print ts ++ rest) (encode_char-octets set c refused) in
     before ∙ ap (λ x. octets part ++ x) one
     ∙ sym (append_assoc (octets part) (octets (encode_utf8 c)) rest)
-    ∙ ap (λ x. x ++ rest) (sym (octets_more part (encode_utf8 c)) ∙ ap octets (sym (part_longer text start end c ordered spelt)))
-    ∙ ap (λ k. octets (take (k - start) (drop start text)) ++ print (encode_text set (drop k text))) (sym place)
+    ∙ ap (λ x. x ++ rest) (sym (octets_more part (encode_utf8 c))
+    ∙ ap octets (sym (part_longer text start end c ordered spelt)))
+    ∙ ap (λ k. octets (take (k - start) (drop start text)) ++ print (encode_text set (drop k text)))
+    (sym place)
 
 -- the first character is refused, so that some is
 pub some_refused : (set : TableSet) (text : List ℕ) (start end c : ℕ) → start ≤ end
@@ -163,7 +178,9 @@ some_refused set text start end c ordered spelt allowed first = ⊎_elim
     (λ h. h)
     (λ h.
     let same : end ≡ start = omega arith in
-    absurd (both_ways _ (first c (drop (end + len_utf8 c) text) (ap (λ k. drop k text) (sym same) ∙ spelt)) allowed))
+    absurd
+    (both_ways _ (first c (drop (end + len_utf8 c) text)
+    (ap (λ k. drop k text) (sym same) ∙ spelt)) allowed))
     (cases_lt start end)
 
 -- what is written behind a run that is kept and one that is refused
@@ -186,6 +203,7 @@ run_step set out mid new text all start end next kept refused copied written who
 pub whole_written : (set : TableSet) (out text all : List ℕ) (done : ℕ) → length text ≤ done
     → out ++ print (encode_text set (drop done text)) ≡ all → out ≡ all
 whole_written set out text all done past whole =
-    let none : print (encode_text set (drop done text)) ≡ [] = ap (λ x. print (encode_text set x)) (drop_all done text past)
+    let none : print (encode_text set (drop done text)) ≡ [] =
+    ap (λ x. print (encode_text set x)) (drop_all done text past)
     ∙ encode_none set in
     sym (append-nil out) ∙ ap (λ x. out ++ x) (sym none) ∙ whole

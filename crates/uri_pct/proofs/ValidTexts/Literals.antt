@@ -1,5 +1,5 @@
 -- A test of texts that computes at a literal, and what it tells.
-use Rattle.std.proofs.Common.{◌≡◌, ℕ, Bool, true, false, List, [], ◌∷◌, ◌&&◌, ap, sym, refl, ◌∙◌}
+use Rattle.std.proofs.Common.{◌≡◌, ℕ, Bool, true, List, [], ◌∷◌, ◌&&◌, ap, sym, refl, ◌∙◌}
 use Rattle.std.proofs.Common.{⊎_elim}
 use Rattle.std.specs.Prelude.{◌==◌, not, nat_lt, if◌then◌else◌}
 use Rattle.std.specs.Char.{is_ascii_hexdigit}
@@ -19,13 +19,15 @@ letter_is_allowed set c flag range = rw (flag, range) refl
 
 -- the set allows the character, where it is ASCII or in that range
 abbrev pub is_literal_char : TableSet → ℕ → Bool
-is_literal_char set c = if nat_lt c 128 then set.ascii c else set.ucschar && is_in_range 0xA0 0xD7FF c
+is_literal_char set c = if nat_lt c 128 then set.ascii c else set.ucschar
+    && is_in_range 0xA0 0xD7FF c
 
 literal_char : (set : TableSet) (c : ℕ) → is_literal_char set c ≡ true → allows set c ≡ true
 literal_char set c e = ⊎_elim
     (λ low. cond-true _ _ _ low ∙ sym (cond-true _ _ _ low) ∙ e)
     (λ high.
-    let parts = and_parts set.ucschar (is_in_range 0xA0 0xD7FF c) (sym (cond-false _ _ _ high) ∙ e) in
+    let parts = and_parts set.ucschar (is_in_range 0xA0 0xD7FF c)
+    (sym (cond-false _ _ _ high) ∙ e) in
     cond-false _ _ _ high ∙ letter_is_allowed set c parts.0 parts.1)
     (cases_Bool (nat_lt c 128))
 
@@ -33,17 +35,20 @@ literal_char set c e = ⊎_elim
 abbrev pub are_literal_chars : TableSet → List ℕ → Bool
 are_literal_chars set [] = true
 are_literal_chars set (c ∷ []) = not (c == 37) && is_literal_char set c
-are_literal_chars set (c ∷ d ∷ []) = not (c == 37) && (is_literal_char set c && are_literal_chars set (d ∷ []))
+are_literal_chars set (c ∷ d ∷ []) =
+    not (c == 37) && (is_literal_char set c && are_literal_chars set (d ∷ []))
 are_literal_chars set (c ∷ high ∷ low ∷ rest) =
     if c == 37
-    then is_ascii_hexdigit high && (is_ascii_hexdigit low && (set.pct_encoded && are_literal_chars set rest))
+    then is_ascii_hexdigit high
+    && (is_ascii_hexdigit low && (set.pct_encoded && are_literal_chars set rest))
     else is_literal_char set c && are_literal_chars set (high ∷ low ∷ rest)
 
 literal_chars : (set : TableSet) (cs : List ℕ) → are_literal_chars set cs ≡ true
     → list_all (allows_token set) (tokens_of cs) ≡ true
 unfolding tokens_of is_pct_encoded
 literal_chars set [] e = refl
-literal_chars set (c ∷ []) e = and_from (allows set c) true (literal_char set c (and_parts (not (c == 37)) _ e).1) refl
+literal_chars set (c ∷ []) e =
+    and_from (allows set c) true (literal_char set c (and_parts (not (c == 37)) _ e).1) refl
 literal_chars set (c ∷ d ∷ []) e =
     let parts = and_parts (is_literal_char set c) _ (and_parts (not (c == 37)) _ e).1 in
     and_from (allows set c) _ (literal_char set c parts.0) (literal_chars set (d ∷ []) parts.1)
@@ -52,12 +57,14 @@ literal_chars set (c ∷ high ∷ low ∷ rest) e = ⊎_elim
     let first = and_parts (is_ascii_hexdigit high) _ (sym (cond-true _ _ _ percent) ∙ e) in
     let second = and_parts (is_ascii_hexdigit low) _ first.1 in
     let third = and_parts set.pct_encoded (are_literal_chars set rest) second.1 in
-    ap (list_all (allows_token set)) (cond-true _ _ _ (and_from (c == 37) _ percent (and_from _ _ first.0 second.0)))
+    ap (list_all (allows_token set))
+    (cond-true _ _ _ (and_from (c == 37) _ percent (and_from _ _ first.0 second.0)))
     ∙ and_from set.pct_encoded _ third.0 (literal_chars set rest third.1))
     (λ other.
     let parts = and_parts (is_literal_char set c) _ (sym (cond-false _ _ _ other) ∙ e) in
     ap (list_all (allows_token set)) (char_first c (high ∷ low ∷ rest) other)
-    ∙ and_from (allows set c) _ (literal_char set c parts.0) (literal_chars set (high ∷ low ∷ rest) parts.1))
+    ∙ and_from (allows set c) _ (literal_char set c parts.0)
+    (literal_chars set (high ∷ low ∷ rest) parts.1))
     (cases_Bool (c == 37))
 
 -- the characters of a text, which std's `chars` does not compute
@@ -73,5 +80,6 @@ same_chars (b ∷ rest) = refl
 pub literal_text_is_valid : (set : TableSet) (text : List ℕ)
     → are_literal_chars set (literal_text_chars text) ≡ true → IsValidFor set text
 unfolding is_valid_for
-literal_text_is_valid set text e = ap (λ cs. list_all (allows_token set) (tokens_of cs)) (same_chars text)
+literal_text_is_valid set text e =
+    ap (λ cs. list_all (allows_token set) (tokens_of cs)) (same_chars text)
     ∙ literal_chars set (literal_text_chars text) e

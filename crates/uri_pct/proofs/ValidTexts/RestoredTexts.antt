@@ -11,6 +11,8 @@ pub split_kept : {Z : Type 0} (old new : String Z)
     → IsSplitPoint (string_bytes new) (length (string_bytes old))
 split_kept old new e =
     let n = length (string_bytes old) in
-    let long : n ≤ length (string_bytes new) = omega (arith, length-take n (string_bytes new), ap length e) in
-    let b = IsCharBoundary-from_take (string_bytes new) n (IsUtf8-string_bytes new) long (subst IsUtf8 (sym e) (IsUtf8-string_bytes old)) in
+    let long : n ≤ length (string_bytes new) =
+    omega (arith, length-take n (string_bytes new), ap length e) in
+    let b = IsCharBoundary-from_take (string_bytes new) n (IsUtf8-string_bytes new) long
+    (subst IsUtf8 (sym e) (IsUtf8-string_bytes old)) in
     (b.0, λ _. b.1)

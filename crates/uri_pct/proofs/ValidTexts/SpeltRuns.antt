@@ -7,7 +7,7 @@ use Rattle.std.proofs.lemmas.Str.{IsCharBoundary-after_ascii}
 use Rattle.std.proofs.lemmas.Bool.{cases_Bool, cases_lt, and_parts, both_ways, false_from_ne_true}
 use Rattle.uri_pct.specs.Sets.{TableSet, LacksPercent}
 use Rattle.uri_pct.specs.Models.Fronts.{front}
-use Rattle.uri_pct.specs.PercentSigns.{has_digits}
+use Rattle.uri_pct.specs.Texts.{has_digits}
 use Rattle.uri_pct.specs.Models.ByteRuns.{AreSpelt}
 use Rattle.uri_pct.proofs.ValidTexts.Fronts.{front-char, front-octet, digits-ascii}
 
@@ -15,7 +15,8 @@ use Rattle.uri_pct.proofs.ValidTexts.Fronts.{front-char, front-octet, digits-asc
 module _ (set : TableSet) (lacks : LacksPercent set) (pct : set.pct_encoded ≡ true)
     (ascii : (b : ℕ) → set.ascii b ≡ true → b < 128) (bs : List ℕ) (i n : ℕ)
     (room : i + n ≤ length bs) (oct : ℕ → Bool)
-    (held : (k : ℕ) → k < n → oct k ≡ false → ((j : ℕ) → j < k → k ≤ j + 2 → oct j ≡ false) → set.ascii (get_or bs (i + k) 0) ≡ true)
+    (held : (k : ℕ) → k < n → oct k ≡ false → ((j : ℕ) → j < k → k ≤ j + 2 → oct j ≡ false)
+    → set.ascii (get_or bs (i + k) 0) ≡ true)
     (percent : (k : ℕ) → oct k ≡ true → get_or bs (i + k) 0 ≡ 37)
     (digits : (k : ℕ) → oct k ≡ true → has_digits bs (i + k) ≡ true)
     (whole : (k : ℕ) → k < n → oct k ≡ true → k + 3 ≤ n)
@@ -25,7 +26,8 @@ module _ (set : TableSet) (lacks : LacksPercent set) (pct : set.pct_encoded ≡ 
   IsFresh k = (j : ℕ) → j < k → k ≤ j + 2 → oct j ≡ false
 
   abbrev IsRead : ℕ → Type 0
-  IsRead k = (i + n + front set (drop (i + n) bs) ≡ i + k + front set (drop (i + k) bs)) × IsCharBoundary bs (i + n)
+  IsRead k = (i + n + front set (drop (i + n) bs) ≡ i + k + front set (drop (i + k) bs))
+      × IsCharBoundary bs (i + n)
 
   plain : (k : ℕ) → (get_or bs (i + k) 0 ≡ 37 → ⊥) → oct k ≡ false
   plain k none = false_from_ne_true _ (λ o. none (percent k o))
@@ -35,22 +37,32 @@ module _ (set : TableSet) (lacks : LacksPercent set) (pct : set.pct_encoded ≡ 
   unfolding has_digits
   no_percent k o =
       let both = and_parts _ _ (digits k o) in
-      let none : (c : ℕ) → is_ascii_hexdigit c ≡ true → c ≡ 37 → ⊥ = λ c h e. both_ways _ (refl {a = is_ascii_hexdigit 37}) (ap is_ascii_hexdigit (sym e) ∙ h) in
+      let none : (c : ℕ) → is_ascii_hexdigit c ≡ true → c ≡ 37
+      → ⊥ = λ c h e. both_ways _ (refl {a = is_ascii_hexdigit 37})
+      (ap is_ascii_hexdigit (sym e) ∙ h) in
       (none _ both.0, none _ both.1)
 
   fresh_1 : (k : ℕ) → IsFresh k → oct k ≡ false → IsFresh (k + 1)
-  fresh_1 k fresh none j l h = ⊎_elim (λ (below : j < k). fresh j below (omega arith)) (λ (past : k ≤ j). let e : k ≡ j = omega arith in subst (λ m. oct m ≡ false) e none) (cases_lt j k)
+  fresh_1 k fresh none j l h = ⊎_elim (λ (below : j < k). fresh j below (omega arith))
+      (λ (past : k ≤ j). let e : k ≡ j = omega arith in subst (λ m. oct m ≡ false) e none)
+      (cases_lt j k)
 
   fresh_3 : (k : ℕ) → oct k ≡ true → IsFresh (k + 3)
   fresh_3 k o j l h =
       let none = no_percent k o in
       ⊎_elim
-      (λ (first : j < k + 2). let e : j ≡ k + 1 = omega arith in plain j (λ p. none.0 (ap (λ m. get_or bs m 0) (omega arith) ∙ p)))
-      (λ (second : k + 2 ≤ j). let e : j ≡ k + 2 = omega arith in plain j (λ p. none.1 (ap (λ m. get_or bs m 0) (omega arith) ∙ p)))
+      (λ (first : j < k + 2). let e : j ≡ k + 1 = omega arith in
+      plain j (λ p. none.0 (ap (λ m. get_or bs m 0) (omega arith) ∙ p)))
+      (λ (second : k + 2 ≤ j). let e : j ≡ k + 2 = omega arith in
+      plain j (λ p. none.1 (ap (λ m. get_or bs m 0) (omega arith) ∙ p)))
       (cases_lt j (k + 2))
 
   stay : (k : ℕ) → n ≡ k → IsCharBoundary bs (i + k) → IsRead k
-  stay k e b = (ap (λ m. i + m + front set (drop (i + m) bs)) e, subst (λ m. IsCharBoundary bs (i + m)) (sym e) b)
+  stay k e b = (
+    ap (λ m. i + m + front set (drop (i + m) bs)) e,
+    subst (λ m. IsCharBoundary bs (i + m))
+        (sym e) b,
+  )
 
   walk : (steps k : ℕ) → n ≤ k + steps → k ≤ n → IsFresh k → IsCharBoundary bs (i + k) → IsRead k
   walk zero k far near fresh b = stay k (omega arith) b
@@ -62,8 +74,10 @@ module _ (set : TableSet) (lacks : LacksPercent set) (pct : set.pct_encoded ≡ 
       let e = front-octet set bs (i + k) (omega arith) pct p (digits k o) in
       let next : i + k + 3 ≡ i + (k + 3) = omega arith in
       let last : i + k + 2 + 1 ≡ i + (k + 3) = omega arith in
-      let behind = IsCharBoundary-after_ascii bs (i + k + 2) u (omega arith) (digits-ascii bs (i + k) (digits k o)) in
-      let r : IsRead (k + 3) = walk steps (k + 3) (omega arith) w (fresh_3 k o) (subst (IsCharBoundary bs) last behind) in
+      let behind = IsCharBoundary-after_ascii bs (i + k + 2) u (omega arith)
+      (digits-ascii bs (i + k) (digits k o)) in
+      let r : IsRead (k + 3) = walk steps (k + 3) (omega arith) w (fresh_3 k o)
+      (subst (IsCharBoundary bs) last behind) in
       let f : front set (drop (i + k) bs) ≡ front set (drop (i + (k + 3)) bs) + 3 = e
       ∙ ap (λ m. front set (drop m bs) + 3) next in
       (omega (arith, r.0, f), r.1))
@@ -72,7 +86,8 @@ module _ (set : TableSet) (lacks : LacksPercent set) (pct : set.pct_encoded ≡ 
       let e = front-char set lacks bs (i + k) (omega arith) (ascii _ a) a in
       let next : i + k + 1 ≡ i + (k + 1) = omega arith in
       let behind = IsCharBoundary-after_ascii bs (i + k) u (omega arith) (ascii _ a) in
-      let r : IsRead (k + 1) = walk steps (k + 1) (omega arith) (omega arith) (fresh_1 k fresh o) (subst (IsCharBoundary bs) next behind) in
+      let r : IsRead (k + 1) = walk steps (k + 1) (omega arith) (omega arith) (fresh_1 k fresh o)
+      (subst (IsCharBoundary bs) next behind) in
       let f : front set (drop (i + k) bs) ≡ front set (drop (i + (k + 1)) bs) + 1 = e
       ∙ ap (λ m. front set (drop m bs) + 1) next in
       (omega (arith, r.0, f), r.1))
@@ -84,14 +99,17 @@ module _ (set : TableSet) (lacks : LacksPercent set) (pct : set.pct_encoded ≡ 
       × IsCharBoundary bs (i + n)
   all_read =
       let z : i + 0 ≡ i = omega arith in
-      let r = walk n 0 (omega arith) (omega arith) (λ j l h. absurd (omega arith)) (subst (IsCharBoundary bs) (sym z) here) in
+      let r = walk n 0 (omega arith) (omega arith) (λ j l h. absurd (omega arith))
+      (subst (IsCharBoundary bs) (sym z) here) in
       (r.0 ∙ ap (λ m. m + front set (drop m bs)) z, r.1)
 
 pub spelt_read : (set : TableSet) → LacksPercent set → set.pct_encoded ≡ true
     → ((b : ℕ) → set.ascii b ≡ true → b < 128) → (bs : List ℕ) (i n : ℕ) → i + n ≤ length bs
     → IsUtf8 bs → IsCharBoundary bs i → AreSpelt set.ascii bs i n
     → (i + n + front set (drop (i + n) bs) ≡ i + front set (drop i bs)) × IsCharBoundary bs (i + n)
-spelt_read set lacks pct ascii bs i n room u here are = all_read set lacks pct ascii bs i n room are.octet are.pass are.percent are.digits are.whole u here
+spelt_read set lacks pct ascii bs i n room u here are =
+    all_read set lacks pct ascii bs i n room are.octet are.pass are.percent are.digits are.whole u
+    here
 
 -- an octet is read
 pub octet_read : (set : TableSet) (bs : List ℕ) (i : ℕ) → IsUtf8 bs → set.pct_encoded ≡ true
@@ -99,5 +117,8 @@ pub octet_read : (set : TableSet) (bs : List ℕ) (i : ℕ) → IsUtf8 bs → se
     → (i + 3 + front set (drop (i + 3) bs) ≡ i + front set (drop i bs)) × IsCharBoundary bs (i + 3)
 octet_read set bs i u pct within percent digits =
     let e = front-octet set bs i within pct percent digits in
-    let f : i + 2 + 1 ≡ i + 3 = omega arith in
-    (omega arith, subst (IsCharBoundary bs) f (IsCharBoundary-after_ascii bs (i + 2) u within (digits-ascii bs i digits)))
+    let f : i + 2 + 1 ≡ i + 3 = omega arith in (
+      omega arith,
+      subst (IsCharBoundary bs) f
+          (IsCharBoundary-after_ascii bs (i + 2) u within (digits-ascii bs i digits)),
+    )

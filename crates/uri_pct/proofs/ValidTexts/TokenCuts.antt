@@ -23,7 +23,12 @@ pub record IsMark (c : ℕ) : Type 0 where
 
 -- each reserved character is one
 pub reserved_mark : (c : ℕ) → is_reserved c ≡ true → IsMark c
-reserved_mark c e = record { ascii = grind (arith, nat_tests); no_digit = grind (arith, nat_tests); no_percent = grind (arith, nat_tests) }
+reserved_mark c e = record {
+  ascii = grind (arith, nat_tests);
+  no_digit =
+      grind (arith, nat_tests);
+  no_percent = grind (arith, nat_tests);
+}
 
 pub slash_reserved : is_reserved 47 ≡ true
 slash_reserved = refl
@@ -53,7 +58,8 @@ tokens_of-cut (c ∷ []) ds mark m = one_before c mark ds m
 tokens_of-cut (c ∷ d ∷ []) ds mark m = cond-false _ _ _ (no_octet_3 c d mark m.no_digit)
     ∙ ap (λ ts. Char c ∷ ts) (one_before d mark ds m)
 tokens_of-cut (c ∷ high ∷ low ∷ cs) ds mark m = ⊎_elim
-    (λ e. rw e (ap (λ ts. Octet (16 * digit_value high + digit_value low) ∷ ts) (tokens_of-cut cs ds mark m)))
+    (λ e. rw e (ap (λ ts. Octet (16 * digit_value high + digit_value low) ∷ ts)
+    (tokens_of-cut cs ds mark m)))
     (λ e. rw e (ap (λ ts. Char c ∷ ts) (tokens_of-cut (high ∷ low ∷ cs) ds mark m)))
     (cases_Bool (is_pct_encoded c high low))
 
@@ -71,7 +77,8 @@ chars-ascii c rest h = let low = lt-ltb c 128 h in rw low (after_ascii c rest)
 pub tokens-cut : (before after : List ℕ) (mark : ℕ) → IsMark mark → IsUtf8 before
     → tokens (before ++ mark ∷ after) ≡ tokens before ++ Char mark ∷ tokens after
 tokens-cut before after mark m u =
-    ap tokens_of (chars-append before (mark ∷ after) u ∙ ap (λ x. chars before ++ x) (chars-ascii mark after m.ascii))
+    ap tokens_of (chars-append before (mark ∷ after) u
+    ∙ ap (λ x. chars before ++ x) (chars-ascii mark after m.ascii))
     ∙ tokens_of-cut (chars before) (chars after) mark m
 
 valid_parts : (set : TableSet) (before after : List ℕ) (mark : ℕ) → IsMark mark → IsUtf8 before
@@ -79,7 +86,10 @@ valid_parts : (set : TableSet) (before after : List ℕ) (mark : ℕ) → IsMark
     → (is_valid_for set before ≡ true) × (is_valid_for set after ≡ true)
 unfolding is_valid_for
 valid_parts set before after mark m u e =
-    let both = and_parts _ _ (sym (list_all-append (allows_token set) (tokens before) (Char mark ∷ tokens after)) ∙ sym (ap (list_all (allows_token set)) (tokens-cut before after mark m u)) ∙ e) in
+    let both =
+    and_parts _ _
+    (sym (list_all-append (allows_token set) (tokens before) (Char mark ∷ tokens after))
+    ∙ sym (ap (list_all (allows_token set)) (tokens-cut before after mark m u)) ∙ e) in
     (both.0, (and_parts _ _ both.1).1)
 
 -- what stands before an ASCII byte is text
@@ -92,18 +102,21 @@ IsUtf8-before text before after mark small u same =
     ∙ get_or-append_seam before mark after 0 in
     let front : take (length before) text ≡ before = ap (take (length before)) same
     ∙ take-append_seam before (mark ∷ after) in
-    subst IsUtf8 front (IsUtf8-take text (length before) u (IsCharBoundary-before_ascii text (length before) (omega arith) (omega arith)))
+    subst IsUtf8 front (IsUtf8-take text (length before) u
+    (IsCharBoundary-before_ascii text (length before) (omega arith) (omega arith)))
 
 -- what stands before a mark of a valid text is valid, whether or not the set holds the mark
 pub valid_before : (set : TableSet) (text before after : List ℕ) (mark : ℕ)
     → is_valid_for set text ≡ true → text ≡ before ++ mark ∷ after → IsMark mark → IsUtf8 text
     → is_valid_for set before ≡ true
 valid_before set text before after mark e same m u =
-    (valid_parts set before after mark m (IsUtf8-before text before after mark m.ascii u same) (sym (ap (is_valid_for set) same) ∙ e)).0
+    (valid_parts set before after mark m (IsUtf8-before text before after mark m.ascii u same)
+    (sym (ap (is_valid_for set) same) ∙ e)).0
 
 -- and so is what stands behind it
 pub valid_after : (set : TableSet) (text before after : List ℕ) (mark : ℕ)
     → is_valid_for set text ≡ true → text ≡ before ++ mark ∷ after → IsMark mark → IsUtf8 text
     → is_valid_for set after ≡ true
 valid_after set text before after mark e same m u =
-    (valid_parts set before after mark m (IsUtf8-before text before after mark m.ascii u same) (sym (ap (is_valid_for set) same) ∙ e)).1
+    (valid_parts set before after mark m (IsUtf8-before text before after mark m.ascii u same)
+    (sym (ap (is_valid_for set) same) ∙ e)).1

@@ -17,12 +17,15 @@ use Rattle.uri_pct.proofs.Unicode.Characters.{hex_ascii, begins_hex-encodes}
 -- the bytes are valid, of which so many are still to pass
 unfoldable pub valid_from : TableSet → ℕ → List ℕ → Bool
 valid_from set skip [] = true
-valid_from set zero (b ∷ rest) = cond ((set.pct_encoded && eqb b 37) && begins_hex rest) (valid_from set 2 rest) (allows_first set b rest && valid_from set (continuation_len b) rest)
+valid_from set zero (b ∷ rest) =
+    cond ((set.pct_encoded && eqb b 37) && begins_hex rest) (valid_from set 2 rest)
+    (allows_first set b rest && valid_from set (continuation_len b) rest)
 valid_from set (suc k) (b ∷ rest) = valid_from set k rest
 
 pub valid_cons : (set : TableSet) (b : ℕ) (rest : List ℕ)
     → valid_from set 0 (b ∷ rest)
-    ≡ cond ((set.pct_encoded && eqb b 37) && begins_hex rest) (valid_from set 2 rest) (allows_first set b rest && valid_from set (continuation_len b) rest)
+    ≡ cond ((set.pct_encoded && eqb b 37) && begins_hex rest) (valid_from set 2 rest)
+    (allows_first set b rest && valid_from set (continuation_len b) rest)
 unfolding valid_from
 valid_cons set b rest = refl
 
@@ -79,8 +82,10 @@ no_octet set c cs w e = ⊎_elim
     let f = first_ascii c w h in
     ap (λ t. (set.pct_encoded && eqb t 37) && begins_hex (w.more ++ encode_utf8_all cs)) f.0
     ∙ ap (λ t. (set.pct_encoded && eqb c 37) && begins_hex (t ++ encode_utf8_all cs)) f.1
-    ∙ regroup set.pct_encoded (eqb c 37) (begins_hex (encode_utf8_all cs)) (ap (λ t. eqb c 37 && t) (begins_hex-encodes cs) ∙ e))
-    (λ h. and_left _ _ (and_right _ _ (ne_eqb w.first 37 (λ d. big w.first refl (first_past c w h) d))))
+    ∙ regroup set.pct_encoded (eqb c 37) (begins_hex (encode_utf8_all cs))
+    (ap (λ t. eqb c 37 && t) (begins_hex-encodes cs) ∙ e))
+    (λ h. and_left _ _
+    (and_right _ _ (ne_eqb w.first 37 (λ d. big w.first refl (first_past c w h) d))))
     (cases_lt c 128)
 
 allows_char : (set : TableSet) (c : ℕ) (cs : List ℕ) (w : IsSpelt c) → all_scalars (c ∷ cs) ≡ true
@@ -90,7 +95,9 @@ allows_char set c cs w s = ⊎_elim
     let f = first_ascii c w h in
     ap (λ t. allows_first set t (w.more ++ encode_utf8_all cs)) f.0 ∙ allows_first-ascii set c _ h
     ∙ sym (allows-ascii set c h))
-    (λ h. allows_first-past set w.first _ (first_past c w h) ∙ ap (allows_past_ascii set) (ap first_char (sym (first_of c cs w)) ∙ first_char-encodes c cs s) ∙ sym (allows-past set c h))
+    (λ h. allows_first-past set w.first _ (first_past c w h)
+    ∙ ap (allows_past_ascii set) (ap first_char (sym (first_of c cs w))
+    ∙ first_char-encodes c cs s) ∙ sym (allows-past set c h))
     (cases_lt c 128)
 
 -- one character that begins no octet
@@ -103,8 +110,10 @@ char_step set c cs s e =
     let X = encode_utf8_all cs in
     ap (valid_from set 0) (first_of c cs w) ∙ valid_cons set w.first (w.more ++ X)
     ∙ cond-false _ _ _ (no_octet set c cs w e)
-    ∙ ap (λ t. t && valid_from set (continuation_len w.first) (w.more ++ X)) (allows_char set c cs w s)
-    ∙ ap (λ t. allows set c && t) (ap (λ n. valid_from set n (w.more ++ X)) w.len ∙ skip_all set w.more X)
+    ∙ ap (λ t. t && valid_from set (continuation_len w.first) (w.more ++ X))
+    (allows_char set c cs w s)
+    ∙ ap (λ t. allows set c && t) (ap (λ n. valid_from set n (w.more ++ X)) w.len
+    ∙ skip_all set w.more X)
 
 skip_two : (set : TableSet) (h l : ℕ) (rest : List ℕ) → is_ascii_hexdigit h ≡ true
     → is_ascii_hexdigit l ≡ true
@@ -118,7 +127,8 @@ escape_step : (set : TableSet) (c : ℕ) (cs : List ℕ) → c ≡ 37 → begins
 escape_step set c cs d b o =
     ap (λ t. valid_from set 0 (t ++ encode_utf8_all cs)) (encode_ascii c (omega arith))
     ∙ valid_cons set c (encode_utf8_all cs)
-    ∙ cond-true _ _ _ (and_from _ _ (and_from _ _ o (ap (λ t. eqb t 37) d)) (begins_hex-encodes cs ∙ b))
+    ∙ cond-true _ _ _
+    (and_from _ _ (and_from _ _ o (ap (λ t. eqb t 37) d)) (begins_hex-encodes cs ∙ b))
 
 -- a `%` is allowed nowhere but in an octet
 percent_step : (set : TableSet) (c : ℕ) (cs : List ℕ) → LacksPercent set → c ≡ 37
@@ -138,7 +148,8 @@ escape set c h l cs p e =
     let q = and_parts _ _ a.1 in
     let d = eqb-true c 37 a.0 in
     ⊎_elim
-    (λ o. escape_step set c (h ∷ l ∷ cs) d a.1 o ∙ skip_two set h l cs q.0 q.1 ∙ sym (ap (λ b. b && valid_from set 0 (encode_utf8_all cs)) o))
+    (λ o. escape_step set c (h ∷ l ∷ cs) d a.1 o ∙ skip_two set h l cs q.0 q.1
+    ∙ sym (ap (λ b. b && valid_from set 0 (encode_utf8_all cs)) o))
     (λ o. percent_step set c (h ∷ l ∷ cs) p d o ∙ sym (and_left _ _ o))
     (cases_Bool set.pct_encoded)
 
@@ -158,8 +169,14 @@ valid_chars set p (c ∷ []) s = char_step set c [] s (and_right _ _ refl)
 valid_chars set p (c ∷ d ∷ []) s = char_step set c (d ∷ []) s (and_right _ _ (and_right _ _ refl))
     ∙ ap (λ b. allows set c && b) (valid_chars set p (d ∷ []) (tail_scalars c (d ∷ []) s))
 valid_chars set p (c ∷ h ∷ l ∷ cs) s = ⊎_elim
-    (λ e. escape set c h l cs p e ∙ ap (λ b. set.pct_encoded && b) (valid_chars set p cs (tail_scalars l cs (tail_scalars h (l ∷ cs) (tail_scalars c (h ∷ l ∷ cs) s)))) ∙ sym (ap (list_all (allows_token set)) (cond-true _ _ _ e)))
-    (λ e. char_step set c (h ∷ l ∷ cs) s (not_escape c h l cs e) ∙ ap (λ b. allows set c && b) (valid_chars set p (h ∷ l ∷ cs) (tail_scalars c (h ∷ l ∷ cs) s)) ∙ sym (ap (list_all (allows_token set)) (cond-false _ _ _ e)))
+    (λ e. escape set c h l cs p e ∙ ap (λ b. set.pct_encoded && b)
+    (valid_chars set p cs (tail_scalars l cs
+    (tail_scalars h (l ∷ cs) (tail_scalars c (h ∷ l ∷ cs) s))))
+    ∙ sym (ap (list_all (allows_token set)) (cond-true _ _ _ e)))
+    (λ e. char_step set c (h ∷ l ∷ cs) s (not_escape c h l cs e)
+    ∙ ap (λ b. allows set c && b) (valid_chars set p (h ∷ l ∷ cs)
+    (tail_scalars c (h ∷ l ∷ cs) s))
+    ∙ sym (ap (list_all (allows_token set)) (cond-false _ _ _ e)))
     (cases_Bool (is_pct_encoded c h l))
 
 -- the bytes of a text
@@ -167,5 +184,6 @@ pub is_valid_for-bytes : (set : TableSet) → LacksPercent set → (text : List 
     → is_valid_for set text ≡ valid_from set 0 text
 unfolding is_valid_for
 is_valid_for-bytes set p text u =
-    ap (λ cs. list_all (allows_token set) (tokens_of cs)) (ap chars (sym u.1.1) ∙ chars-encodes u.0 u.1.0)
+    ap (λ cs. list_all (allows_token set) (tokens_of cs))
+    (ap chars (sym u.1.1) ∙ chars-encodes u.0 u.1.0)
     ∙ sym (valid_chars set p u.0 u.1.0) ∙ ap (valid_from set 0) u.1.1

@@ -1,6 +1,6 @@
 -- Runs of bytes that pass a test, and of such bytes and octets.
 use Rattle.std.specs.Prelude.{◌≡◌, ◌≤◌, ◌<◌, ℕ, Bool, true, false, List, ◌+◌, length, slice_index}
-use Rattle.uri_pct.specs.PercentSigns.{has_digits}
+use Rattle.uri_pct.specs.Texts.{has_digits}
 use Rattle.uri_pct.specs.Delimiters.{percent_sign}
 
 -- from start to end is the longest run of bytes that pass the test

@@ -1,9 +1,9 @@
 use Rattle.std.proofs.Common.{ap, subst}
 use Rattle.std.specs.Str.{IsUtf8}
 use Rattle.fluent_uri.specs.Grammar.{iri, iri_ref}
-use Rattle.fluent_uri.specs.IriRefs.{iri_ref_text}
+use Rattle.fluent_uri.specs.Iris.{iri_ref_text}
 use Rattle.fluent_uri.specs.Iris.{iri_text}
-use Rattle.fluent_uri.specs.Resolvers.{base_of}
+use Rattle.fluent_uri.specs.Resolving.{base_of}
 use Rattle.fluent_uri.specs.SchemePorts.{default_port}
 use Rattle.caller_laws.proofs.NormalOutcomes.{normal_form_of_target}
 use Rattle.caller_laws.proofs.swapping.normal_target.Goals as goal

@@ -1,9 +1,9 @@
 use Rattle.std.proofs.Common.{◌≡◌, rules, ap}
 use Rattle.std.proofs.lemmas.Str.{IsUtf8-string_bytes}
 use Rattle.fluent_uri.specs.Grammar.{iri, iri_ref}
-use Rattle.fluent_uri.specs.IriRefs.{iri_ref_text}
+use Rattle.fluent_uri.specs.Iris.{iri_ref_text}
 use Rattle.fluent_uri.specs.Iris.{iri_text}
-use Rattle.fluent_uri.specs.Resolvers.{base_of}
+use Rattle.fluent_uri.specs.Resolving.{base_of}
 use Rattle.fluent_uri.specs.SchemePorts.{default_port}
 use Rattle.caller_laws.proofs.NormalOutcomes.{same_normal_form}
 use Rattle.caller_laws.proofs.swapping.same_normal_target.Goals as goal

@@ -1,8 +1,8 @@
-use Rattle.fluent_uri.specs.UriRefs.{uri_ref_text}
+use Rattle.fluent_uri.specs.Uris.{uri_ref_text}
 use Rattle.fluent_uri.specs.Uris.{uri_text}
 use Rattle.calling.specs.Refusals.{IsRefusedLink}
 use Rattle.calling.proofs.Pages.{page_of_target}
-use Rattle.calling.proofs.Refused.{refused_with}
+use Rattle.fluent_uri.proofs.Outcomes.{refused_with}
 use Rattle.calling.proofs.links.page.Goals as goal
 
 pub returns-in_err-parse-clause-refused : goal.returns-in_err-parse-clause-refused

@@ -1,6 +1,6 @@
 use Rattle.fluent_uri.specs.Grammar.{uri}
 use Rattle.calling.specs.Refusals.{IsRefusedText}
-use Rattle.calling.proofs.Refused.{refused_with}
+use Rattle.fluent_uri.proofs.Outcomes.{refused_with}
 use Rattle.calling.proofs.normal.normal_form.Goals as goal
 
 pub returns-in_err-parse-clause-refused : goal.returns-in_err-parse-clause-refused

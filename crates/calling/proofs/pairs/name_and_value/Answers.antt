@@ -1,5 +1,5 @@
 use Rattle.std.proofs.Common.{◌∙◌}
-use Rattle.fluent_uri.specs.EStrs.{text_of}
+use Rattle.fluent_uri.specs.EncodedTexts.{text_of}
 use Rattle.calling.proofs.Cuts.{value_of_whole}
 use Rattle.calling.proofs.pairs.name_and_value.Goals as goal
 

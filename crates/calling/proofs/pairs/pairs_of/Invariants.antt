@@ -1,6 +1,6 @@
 use Rattle.std.proofs.Common.{◌≡◌, ◌++◌, map}
-use Rattle.fluent_uri.specs.EStrs.{text_of}
-use Rattle.fluent_uri.specs.Splits.{pieces_left}
+use Rattle.fluent_uri.specs.EncodedTexts.{text_of}
+use Rattle.fluent_uri.specs.EncodedTexts.{pieces_left}
 use Rattle.calling.specs.Pairs.{pair_texts, read_pairs, read_pieces}
 use Rattle.calling.proofs.pairs.pairs_of.Given as goal
 

@@ -7,7 +7,7 @@ use Rattle.fluent_uri.specs.BuilderParts.{with_authority, with_path, with_query,
 use Rattle.fluent_uri.specs.BuilderStates.{held_of, parts_at}
 use Rattle.fluent_uri.specs.Built.{IsTextOfParts}
 use Rattle.fluent_uri.specs.Components.{Components, components}
-use Rattle.fluent_uri.specs.EStrs.{text_of}
+use Rattle.fluent_uri.specs.EncodedTexts.{text_of}
 use Rattle.fluent_uri.specs.Grammar.{uri}
 use Rattle.fluent_uri.specs.Schemes.{scheme_text}
 use Rattle.fluent_uri.specs.Uris.{uri_text}

@@ -1,6 +1,6 @@
 use Rattle.std.proofs.Common.{rules, ◌≡◌, ◌∷◌, map}
 use Rattle.fluent_uri.specs.Grammar.{uri}
-use Rattle.fluent_uri.specs.UriRefs.{uri_ref_text}
+use Rattle.fluent_uri.specs.Uris.{uri_ref_text}
 use Rattle.fluent_uri.specs.Uris.{uri_text}
 use Rattle.uri_commands.specs.Commands.{Links, texts}
 use Rattle.uri_commands.specs.Refusals.{IsRefusalOf}
@@ -11,11 +11,16 @@ use Rattle.uri_commands.proofs.links.noted.Goals as goal
 
 pub returns-in_err-base-clause-refused : goal.returns-in_err-base-clause-refused
 returns-in_err-base-clause-refused c =
-    mapped_refused (IsRefusalOf (Links c.args.base.now c.args.reference.now (texts c.args.others.now))) Base uri c.args.base.now c.parse.result c.map_err.result c.from_residual.result _
-    (λ e is. is) c.parse.ensures.accepts c.parse.ensures.err c.map_err.ensures.cases c.in_err-base.was c.from_residual.ensures.1
+    mapped_refused
+    (IsRefusalOf (Links c.args.base.now c.args.reference.now (texts c.args.others.now))) Base
+    uri c.args.base.now c.parse.result c.map_err.result c.from_residual.result _
+    (λ e is. is) c.parse.ensures.accepts c.parse.ensures.err c.map_err.ensures.cases
+    c.in_err-base.was c.from_residual.ensures.1
 
 pub returns-clause-lines : goal.returns-clause-lines
 returns-clause-lines c =
     let base : uri_text c.in_ok-base.base ≡ c.args.base.now = search rules in
-    let references : map uri_ref_text c.as_slice.result.now ≡ c.args.reference.now ∷ texts c.args.others.now = search rules in
-    lines_noted _ _ _ _ _ _ _ _ c.new-register.ensures.ports base c.new-register.ensures.empty references c.in_ok-outcomes.ensures.noted
+    let references : map uri_ref_text c.as_slice.result.now
+    ≡ c.args.reference.now ∷ texts c.args.others.now = search rules in
+    lines_noted _ _ _ _ _ _ _ _ c.new-register.ensures.ports base c.new-register.ensures.empty
+    references c.in_ok-outcomes.ensures.noted

@@ -1,6 +1,6 @@
 use Rattle.std.proofs.Common.{◌≡◌, ◌∷◌, true, false, map, take}
 use Rattle.fluent_uri.specs.Grammar.{uri_ref}
-use Rattle.fluent_uri.specs.UriRefs.{uri_ref_text}
+use Rattle.fluent_uri.specs.Uris.{uri_ref_text}
 use Rattle.uri_commands.specs.Commands.{are_of_kind, texts}
 use Rattle.uri_commands.proofs.links.read_references.Given as goal
 

@@ -7,11 +7,17 @@ use Rattle.uri_commands.proofs.run.answer.Goals as goal
 
 pub returns-in-Links-clause-answered : goal.returns-in-Links-clause-answered
 returns-in-Links-clause-answered g c =
-    subst (λ k. OnOk c.links.result (Prints (g.O.Write.contents c.args.out.now) (g.O.Write.contents c.links.new.out) (asked k))) (sym c.in-Links.is) c.links.ensures.answered
+    subst (λ k. OnOk c.links.result
+    (Prints (g.O.Write.contents c.args.out.now) (g.O.Write.contents c.links.new.out) (asked k)))
+    (sym c.in-Links.is) c.links.ensures.answered
 
 pub returns-in-Links-clause-refused : goal.returns-in-Links-clause-refused
-returns-in-Links-clause-refused g c = subst (λ k. IfErr c.links.result (IsRefusalOf (asked k))) (sym c.in-Links.is) c.links.ensures.refused
+returns-in-Links-clause-refused g c =
+    subst (λ k. IfErr c.links.result (IsRefusalOf (asked k))) (sym c.in-Links.is)
+    c.links.ensures.refused
 
 pub returns-in-Links-clause-keeps : goal.returns-in-Links-clause-keeps
 returns-in-Links-clause-keeps g c =
-    subst (λ k. output_of (asked k) ≡ None → Keeps (g.O.Write.contents c.args.out.now) (g.O.Write.contents c.links.new.out)) (sym c.in-Links.is) c.links.ensures.keeps
+    subst (λ k. output_of (asked k) ≡ None
+    → Keeps (g.O.Write.contents c.args.out.now) (g.O.Write.contents c.links.new.out))
+    (sym c.in-Links.is) c.links.ensures.keeps

@@ -5,7 +5,11 @@ use Rattle.uri_commands.proofs.run.execute.Goals as goal
 
 pub returns-in-Err-clause-refused : goal.returns-in-Err-clause-refused
 returns-in-Err-clause-refused g c =
-    λ command is none. (refl, c.answer.ensures.keeps (output_of_words (asked c.in-Some.command) command (sym c.in-Some.ensures ∙ is) ∙ none))
+    λ command is none. (
+      refl,
+      c.answer.ensures.keeps
+          (output_of_words (asked c.in-Some.command) command (sym c.in-Some.ensures ∙ is) ∙ none),
+    )
 
 pub returns-in-Ok-clause-answered : goal.returns-in-Ok-clause-answered
 returns-in-Ok-clause-answered g c = search rules

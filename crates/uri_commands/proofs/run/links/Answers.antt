@@ -5,7 +5,9 @@ use Rattle.uri_commands.proofs.run.links.Goals as goal
 
 pub returns-in_err-write_lines-clause-refused : goal.returns-in_err-write_lines-clause-refused
 returns-in_err-write_lines-clause-refused g c =
-    links_failed c.args.base.now c.args.reference.now (texts c.args.others.now) c.from_residual-in_err-write_lines.result c.in_ok-noted.ensures.base c.in_ok-noted.ensures.references c.from_residual-in_err-write_lines.ensures.1
+    links_failed c.args.base.now c.args.reference.now (texts c.args.others.now)
+    c.from_residual-in_err-write_lines.result c.in_ok-noted.ensures.base
+    c.in_ok-noted.ensures.references c.from_residual-in_err-write_lines.ensures.1
 
 pub returns-in_err-noted-clause-keeps : goal.returns-in_err-noted-clause-keeps
 returns-in_err-noted-clause-keeps g c = search rules

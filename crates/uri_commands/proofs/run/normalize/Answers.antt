@@ -3,4 +3,5 @@ use Rattle.uri_commands.proofs.run.normalize.Goals as goal
 
 pub returns-clause-refused : goal.returns-clause-refused
 returns-clause-refused g c =
-    normalize_failed c.args.kind c.args.text.now c.print_line.result c.in_ok-normal.ensures.of_kind c.print_line.ensures.failed
+    normalize_failed c.args.kind c.args.text.now c.print_line.result c.in_ok-normal.ensures.of_kind
+    c.print_line.ensures.failed

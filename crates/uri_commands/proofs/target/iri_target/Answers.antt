@@ -3,4 +3,5 @@ use Rattle.uri_commands.proofs.Targets.{target_answered}
 use Rattle.uri_commands.proofs.target.iri_target.Goals as goal
 
 pub returns-clause-target : goal.returns-clause-target
-returns-clause-target c = target_answered iri_text _ _ c.resolve_against.result c.resolve_against.ensures.target
+returns-clause-target c = target_answered iri_text _ _ c.resolve_against.result
+    c.resolve_against.ensures.target

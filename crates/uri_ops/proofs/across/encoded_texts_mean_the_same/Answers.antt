@@ -1,5 +1,5 @@
 use Rattle.std.proofs.Common.{refl}
-use Rattle.uri_ops.specs.Ports.{no_defaults}
+use Rattle.uri_parts.specs.Ports.{no_defaults}
 use Rattle.uri_ops.proofs.Theorems.{encoded_is_text, meaning_of-encoded}
 use Rattle.uri_ops.proofs.across.encoded_texts_mean_the_same.Goals as goal
 

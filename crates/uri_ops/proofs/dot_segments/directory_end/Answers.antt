@@ -6,12 +6,14 @@ use Rattle.uri_ops.proofs.Paths.LastSlashes.{behind_slash, open_dots, removed_do
 use Rattle.uri_ops.proofs.dot_segments.directory_end.Goals as goal
 
 pub range_from-requires : goal.range_from-requires
-range_from-requires c = λ _. behind_slash c.args.path.now c.last_slash-slash.result c.requires (search rules) c.utf8.path
+range_from-requires c = λ _. behind_slash c.args.path.now c.last_slash-slash.result c.requires
+    (search rules) c.utf8.path
 
 pub returns-then-is_double_dot-clause-text : goal.returns-then-is_double_dot-clause-text
 returns-then-is_double_dot-clause-text c =
     ap remove_dot_segments (take-length c.args.path.now)
-    ∙ removed_dots c.args.path.now c.last_slash-slash.result c.requires (search rules) (search rules) (search rules)
+    ∙ removed_dots c.args.path.now c.last_slash-slash.result c.requires (search rules)
+    (search rules) (search rules)
 
 pub returns-then-is_double_dot-clause-underflow : goal.returns-then-is_double_dot-clause-underflow
 returns-then-is_double_dot-clause-underflow c = ap underflows (take-length c.args.path.now)
@@ -20,16 +22,23 @@ returns-then-is_double_dot-clause-underflow c = ap underflows (take-length c.arg
 pub returns-then-is_double_dot-clause-closed : goal.returns-then-is_double_dot-clause-closed
 returns-then-is_double_dot-clause-closed c = λ ends.
     let path = c.args.path.now in
-    absurd (open_dots path c.last_slash-slash.result c.requires (search rules) (search rules) (search rules) (subst EndsInSlash (take-length path) ends))
+    absurd (open_dots path c.last_slash-slash.result c.requires (search rules) (search rules)
+    (search rules) (subst EndsInSlash (take-length path) ends))
 
 pub returns-clause-closed : goal.returns-clause-closed
-returns-clause-closed c = λ _. up_to_slash c.args.path.now c.last_slash-slash.result c.requires (search rules) (search rules) (search rules)
+returns-clause-closed c = λ _. up_to_slash c.args.path.now c.last_slash-slash.result c.requires
+    (search rules) (search rules) (search rules)
 
 pub returns-clause-text : goal.returns-clause-text
-returns-clause-text c = ap remove_dot_segments (up_to_slash c.args.path.now c.last_slash-slash.result c.requires (search rules) (search rules) (search rules))
+returns-clause-text c = ap remove_dot_segments
+    (up_to_slash c.args.path.now c.last_slash-slash.result c.requires (search rules) (search rules)
+    (search rules))
 
 pub returns-clause-underflow : goal.returns-clause-underflow
-returns-clause-underflow c = ap underflows (up_to_slash c.args.path.now c.last_slash-slash.result c.requires (search rules) (search rules) (search rules))
+returns-clause-underflow c = ap underflows
+    (up_to_slash c.args.path.now c.last_slash-slash.result c.requires (search rules) (search rules)
+    (search rules))
 
 pub returns-clause-place : goal.returns-clause-place
-returns-clause-place c = behind_slash c.args.path.now c.last_slash-slash.result c.requires (search rules) c.utf8.path
+returns-clause-place c = behind_slash c.args.path.now c.last_slash-slash.result c.requires
+    (search rules) c.utf8.path

@@ -22,7 +22,8 @@ loop-done-preserved c =
     let rest = c.range_from-rest.result.now in
     let next = c.plain_len-done.result in
     let is : rest ≡ drop done path = c.range_from-rest.ensures.value in
-    let some : 0 < length rest = omega (arith, c.range_from-rest.ensures.len, c.loop-done-test.true) in
+    let some : 0 < length rest =
+    omega (arith, c.range_from-rest.ensures.len, c.loop-done-test.true) in
     let held : IsLeft path (take done path) rest false
     = subst (λ r. IsLeft path (take done path) r false) (sym is) c.loop-done.invariant.left in
     let front = c.plain_len-done.ensures.plain in

@@ -6,6 +6,8 @@ use Rattle.uri_ops.proofs.dot_segments.is_plain_directory.Goals as goal
 pub returns-then-as_bytes-path-eq47 : goal.returns-then-as_bytes-path-eq47
 returns-then-as_bytes-path-eq47 c = λ e.
     let path = c.args.path.now in
-    let last : get_or path (length path - 1) 0 ≡ 47 = ap (λ t. get_or t (length path - 1) 0) (sym c.as_bytes.ensures.value)
+    let last : get_or path (length path - 1) 0 ≡ 47 =
+    ap (λ t. get_or t (length path - 1) 0) (sym c.as_bytes.ensures.value)
     ∙ c.if-as_bytes-path-eq47.true in
-    directory_told path c.plain_len.result c.requires last (eqb-true _ _ e) c.plain_len.ensures.plain.plain
+    directory_told path c.plain_len.result c.requires last (eqb-true _ _ e)
+    c.plain_len.ensures.plain.plain

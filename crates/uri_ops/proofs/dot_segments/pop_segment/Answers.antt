@@ -9,10 +9,13 @@ truncate-requires c =
     let all = take (c.len-end.result - 1) c.as_bytes.result.now in
     let end_is : c.len-end.result ≡ length text = c.len-end.ensures ∙ sym c.as_bytes.ensures.len
     ∙ ap length c.as_bytes.ensures.value in
-    let all_is : all ≡ take (length text - 1) text = ap (λ n. take (n - 1) c.as_bytes.result.now) end_is
+    let all_is : all ≡ take (length text - 1) text =
+    ap (λ n. take (n - 1) c.as_bytes.result.now) end_is
     ∙ ap (take (length text - 1)) c.as_bytes.ensures.value in
-    let slash = popped_slash text c.args.start c.requires all all_is c.near_slash-slash.result c.near_slash-slash.ensures.place in
-    let place = IsCharBoundary-after_ascii text c.near_slash-slash.result (IsUtf8-string_bytes c.args.out.now) slash.0 (omega (arith, slash.1)) in
+    let slash = popped_slash text c.args.start c.requires all all_is c.near_slash-slash.result
+    c.near_slash-slash.ensures.place in
+    let place = IsCharBoundary-after_ascii text c.near_slash-slash.result
+    (IsUtf8-string_bytes c.args.out.now) slash.0 (omega (arith, slash.1)) in
     λ _. (place.0, λ _. place.1)
 
 pub returns-clause-bytes : goal.returns-clause-bytes
@@ -21,10 +24,12 @@ returns-clause-bytes c =
     let all = take (c.len-end.result - 1) c.as_bytes.result.now in
     let end_is : c.len-end.result ≡ length text = c.len-end.ensures ∙ sym c.as_bytes.ensures.len
     ∙ ap length c.as_bytes.ensures.value in
-    let all_is : all ≡ take (length text - 1) text = ap (λ n. take (n - 1) c.as_bytes.result.now) end_is
+    let all_is : all ≡ take (length text - 1) text =
+    ap (λ n. take (n - 1) c.as_bytes.result.now) end_is
     ∙ ap (take (length text - 1)) c.as_bytes.ensures.value in
     c.truncate.ensures.bytes
-    ∙ popped text c.args.start c.requires all all_is c.near_slash-slash.result c.near_slash-slash.ensures.place c.near_slash-slash.ensures.front
+    ∙ popped text c.args.start c.requires all all_is c.near_slash-slash.result
+    c.near_slash-slash.ensures.place c.near_slash-slash.ensures.front
 
 pub returns-clause-none : goal.returns-clause-none
 returns-clause-none c =

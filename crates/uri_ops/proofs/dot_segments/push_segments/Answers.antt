@@ -84,7 +84,8 @@ push-requires c =
     (front_among (in_pieces pieces) (is_piece pieces)
     (piecewise pieces c.args.path.now c.requires.pieces) path _ rest
     c.loop-rest.underflowed c.loop-rest.invariant.left c.loop-rest.invariant.piece some
-    front (drop n rest) n c.plain_len-next.ensures.plain (front_of rest front n c.range.ensures.value)
+    front (drop n rest) n c.plain_len-next.ensures.plain
+    (front_of rest front n c.range.ensures.value)
     refl)
 
 pub loop-rest-preserved : goal.loop-rest-preserved

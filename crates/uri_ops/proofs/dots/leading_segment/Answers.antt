@@ -14,11 +14,15 @@ returns-then-end-eq0-clause-leading c =
     let second = c.dot_len-second.result in
     let value = c.as_bytes-bytes.ensures.value in
     let first_is : first ≡ dot_len path = c.dot_len-first.ensures.bytes ∙ ap dot_len value in
-    let second_is : second ≡ dot_len (drop first path) = dot_behind path c.as_bytes-bytes.result.now first value second c.dot_len-second.ensures.bytes in
-    let none : 0 < first + second → ends_segment (drop (first + second) path) ≡ false = λ some. elim c.then-end-eq0.branch [
+    let second_is : second ≡ dot_len (drop first path) =
+    dot_behind path c.as_bytes-bytes.result.now first value second
+    c.dot_len-second.ensures.bytes in
+    let none : 0 < first + second → ends_segment (drop (first + second) path) ≡ false =
+    λ some. elim c.then-end-eq0.branch [
       | then-end-eq0-via-then-end-eq0 w ↦ absurd (omega (arith, w.if-end-eq0.true, some))
       | then-end-eq0-via-else-end-eq0+then-not-ends_segment w ↦
-          end_behind path c.as_bytes-bytes.result.now (first + second) value w.ends_segment.result w.ends_segment.ensures
+          end_behind path c.as_bytes-bytes.result.now (first + second) value w.ends_segment.result
+          w.ends_segment.ensures
           ∙ w.if-not-ends_segment.true
     ] in
     none_told path first second first_is second_is none
@@ -30,12 +34,17 @@ returns-then-second-eq0-clause-leading c =
     let second = c.dot_len-second.result in
     let value = c.as_bytes-bytes.ensures.value in
     let first_is : first ≡ dot_len path = c.dot_len-first.ensures.bytes ∙ ap dot_len value in
-    let second_is : second ≡ dot_len (drop first path) = dot_behind path c.as_bytes-bytes.result.now first value second c.dot_len-second.ensures.bytes in
-    let told = single_told path first second first_is second_is c.if-second-eq0.true (omega (arith, c.if-end-eq0.false)) in
+    let second_is : second ≡ dot_len (drop first path) =
+    dot_behind path c.as_bytes-bytes.result.now first value second
+    c.dot_len-second.ensures.bytes in
+    let told = single_told path first second first_is second_is c.if-second-eq0.true
+    (omega (arith, c.if-end-eq0.false)) in
     record {
       end = first + second;
       segment = told.0;
-      behind = ends_rooted (drop (first + second) path) (end_behind path c.as_bytes-bytes.result.now (first + second) value c.ends_segment.result c.ends_segment.ensures ∙ c.if-not-ends_segment.false);
+      behind = ends_rooted (drop (first + second) path)
+          (end_behind path c.as_bytes-bytes.result.now (first + second) value c.ends_segment.result
+          c.ends_segment.ensures ∙ c.if-not-ends_segment.false);
       passes = told.1;
       rest = c.next_segment-next.ensures.rest;
     }
@@ -47,12 +56,17 @@ returns-clause-leading c =
     let second = c.dot_len-second.result in
     let value = c.as_bytes-bytes.ensures.value in
     let first_is : first ≡ dot_len path = c.dot_len-first.ensures.bytes ∙ ap dot_len value in
-    let second_is : second ≡ dot_len (drop first path) = dot_behind path c.as_bytes-bytes.result.now first value second c.dot_len-second.ensures.bytes in
-    let told = double_told path first second first_is second_is (omega (arith, c.if-second-eq0.false)) in
+    let second_is : second ≡ dot_len (drop first path) =
+    dot_behind path c.as_bytes-bytes.result.now first value second
+    c.dot_len-second.ensures.bytes in
+    let told = double_told path first second first_is second_is
+    (omega (arith, c.if-second-eq0.false)) in
     record {
       end = first + second;
       segment = told.0;
-      behind = ends_rooted (drop (first + second) path) (end_behind path c.as_bytes-bytes.result.now (first + second) value c.ends_segment.result c.ends_segment.ensures ∙ c.if-not-ends_segment.false);
+      behind = ends_rooted (drop (first + second) path)
+          (end_behind path c.as_bytes-bytes.result.now (first + second) value c.ends_segment.result
+          c.ends_segment.ensures ∙ c.if-not-ends_segment.false);
       passes = told.1;
       rest = c.next_segment-next.ensures.rest;
     }

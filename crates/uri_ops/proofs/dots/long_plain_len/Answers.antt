@@ -7,7 +7,8 @@ returns-then-plain-lt-LANES c =
     let bytes = c.args.bytes.now in
     let i = c.loop-i.i in
     let n = c.length_before_dots-plain.result in
-    let before = in_window bytes i i n (omega arith) c.loop-i.invariant.none c.length_before_dots-plain.ensures.none in
+    let before = in_window bytes i i n (omega arith) c.loop-i.invariant.none
+    c.length_before_dots-plain.ensures.none in
     let end : i + n + 1 - 1 ≡ i + n = omega arith in
     record {
       some = omega arith;
@@ -22,7 +23,8 @@ loop-i-preserved c =
     let bytes = c.args.bytes.now in
     let i = c.loop-i.i in
     let n = c.length_before_dots-plain.result in
-    let before = in_window bytes i i n (omega arith) c.loop-i.invariant.none c.length_before_dots-plain.ensures.none in
+    let before = in_window bytes i i n (omega arith) c.loop-i.invariant.none
+    c.length_before_dots-plain.ensures.none in
     record {
       within = omega (arith, c.loop-i-test.true);
       none = λ k h. before k (omega (arith, h, c.if-plain-lt-LANES.false));
@@ -33,7 +35,8 @@ returns c =
     let bytes = c.args.bytes.now in
     let last = length bytes - 16 - 1 in
     let n = c.length_before_dots-plain-2.result in
-    let before = in_window bytes c.loop-i.i last n (omega (arith, c.loop-i-test.false)) c.loop-i.invariant.none c.length_before_dots-plain-2.ensures.none in
+    let before = in_window bytes c.loop-i.i last n (omega (arith, c.loop-i-test.false))
+    c.loop-i.invariant.none c.length_before_dots-plain-2.ensures.none in
     let end : last + n + 1 - 1 ≡ last + n = omega arith in
     record {
       some = omega arith;

@@ -7,12 +7,14 @@ pub returns-clause-plain : goal.returns-clause-plain
 returns-clause-plain c =
     let path = c.args.path.now in
     let n = c.len_before_dots.result in
-    let before : IsBeforeDots path n = subst (λ t. IsBeforeDots t n) c.as_bytes.ensures.value c.len_before_dots.ensures in
+    let before : IsBeforeDots path n =
+    subst (λ t. IsBeforeDots t n) c.as_bytes.ensures.value c.len_before_dots.ensures in
     front_before path n before c.requires.first
 
 pub returns-clause-place : goal.returns-clause-place
 returns-clause-place c =
     let path = c.args.path.now in
     let n = c.len_before_dots.result in
-    let before : IsBeforeDots path n = subst (λ t. IsBeforeDots t n) c.as_bytes.ensures.value c.len_before_dots.ensures in
+    let before : IsBeforeDots path n =
+    subst (λ t. IsBeforeDots t n) c.as_bytes.ensures.value c.len_before_dots.ensures in
     boundary_before path n before c.utf8.path

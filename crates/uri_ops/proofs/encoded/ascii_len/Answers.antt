@@ -8,7 +8,8 @@ returns-then-bytes-ge-LANES-clause-inside c = c.ascii_end.ensures.within
 
 pub returns-then-bytes-ge-LANES-clause-plain : goal.returns-then-bytes-ge-LANES-clause-plain
 returns-then-bytes-ge-LANES-clause-plain c =
-    run_plain c.args.bytes.now c.ascii_end.result c.ascii_end.ensures.within (λ k h. ltb-true _ 128 (c.ascii_end.ensures.pass k (omega arith) h))
+    run_plain c.args.bytes.now c.ascii_end.result c.ascii_end.ensures.within
+    (λ k h. ltb-true _ 128 (c.ascii_end.ensures.pass k (omega arith) h))
 
 pub returns-then-bytes-ge-LANES-clause-stops : goal.returns-then-bytes-ge-LANES-clause-stops
 returns-then-bytes-ge-LANES-clause-stops c = λ h. ltb-false _ 128 (c.ascii_end.ensures.stop h)

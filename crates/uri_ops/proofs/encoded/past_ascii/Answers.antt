@@ -14,8 +14,17 @@ loop-byte-preserved c =
     elim c.if-byte-ge128.branch [
       | then-byte-ge128 w ↦
           let e = longer_by_three bytes i c.loop-byte-test.true w.if-byte-ge128.true in
-          record { few = omega (arith, before.few, w.count-is); total = omega (arith, e, before.total, w.count-is) }
+          record {
+            few = omega (arith, before.few, w.count-is);
+            total =
+                omega (arith, e, before.total, w.count-is);
+          }
       | else-byte-ge128 w ↦
-          let e = longer_by_one bytes i c.loop-byte-test.true (omega (arith, w.if-byte-ge128.false)) in
-          record { few = omega (arith, before.few, w.count-is); total = omega (arith, e, before.total, w.count-is) }
+          let e = longer_by_one bytes i c.loop-byte-test.true
+          (omega (arith, w.if-byte-ge128.false)) in
+          record {
+            few = omega (arith, before.few, w.count-is);
+            total =
+                omega (arith, e, before.total, w.count-is);
+          }
     ]

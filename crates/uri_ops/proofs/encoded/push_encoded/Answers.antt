@@ -16,11 +16,15 @@ loop-done-preserved-then-byte-ge128 c =
     ∙ ap (λ t. out ++ t) (c.as_bytes.ensures.value ∙ c.pct_encoded.ensures) in
     record {
       inside = omega arith;
-      total = octet_total c.args.out.now.items out c.extend_from_slice.new.self.items bytes i c.loop-done-test.true c.if-byte-ge128.true c.loop-done.invariant.total octet;
+      total = octet_total c.args.out.now.items out c.extend_from_slice.new.self.items bytes i
+          c.loop-done-test.true c.if-byte-ge128.true c.loop-done.invariant.total octet;
     }
 
 pub loop-done-preserved : goal.loop-done-preserved
 loop-done-preserved c = record {
-  inside = end_inside c.args.bytes.now c.loop-done.done c.ascii_len.result c.loop-done.invariant.inside c.ascii_len.ensures.inside;
-  total = run_total c.args.out.now.items c.loop-done.out.items c.push_run.new.out.items c.args.bytes.now c.loop-done.done c.ascii_len.result c.ascii_len.ensures.plain c.loop-done.invariant.total c.in_ok-push_run.ensures;
+  inside = end_inside c.args.bytes.now c.loop-done.done c.ascii_len.result
+      c.loop-done.invariant.inside c.ascii_len.ensures.inside;
+  total = run_total c.args.out.now.items c.loop-done.out.items c.push_run.new.out.items
+      c.args.bytes.now c.loop-done.done c.ascii_len.result c.ascii_len.ensures.plain
+      c.loop-done.invariant.total c.in_ok-push_run.ensures;
 }

@@ -6,4 +6,6 @@ use Rattle.uri_pct.specs.Reading.{is_bidi_formatting}
 use Rattle.uri_ops.proofs.formatting.is_any_formatting.Given as goal
 
 abbrev pub invariant-loop-ch : goal.invariant-loop-ch
-invariant-loop-ch l = IsUtf8 (chars_rest l.ch-iterator) × (list_any is_bidi_formatting (chars (chars_rest l.ch-iterator)) ≡ list_any is_bidi_formatting (chars l.fn.text))
+invariant-loop-ch l = IsUtf8 (chars_rest l.ch-iterator)
+    × (list_any is_bidi_formatting (chars (chars_rest l.ch-iterator))
+    ≡ list_any is_bidi_formatting (chars l.fn.text))

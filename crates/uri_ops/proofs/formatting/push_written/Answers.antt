@@ -2,7 +2,7 @@ use Rattle.std.proofs.Common.{◌++◌, sym, ap, ◌∙◌, append_assoc, append
 use Rattle.std.specs.List.{flat_map}
 use Rattle.std.specs.Str.Iter.{chars_rest}
 use Rattle.std.proofs.lemmas.Str.{IsUtf8-past_char, chars_past_char}
-use Rattle.uri_ops.specs.Formatting.{written_char, written_text}
+use Rattle.uri_pct.specs.Reading.{written_char, written_text}
 use Rattle.uri_ops.proofs.Meanings.WrittenFormatting.{no_chars}
 use Rattle.uri_ops.proofs.formatting.push_written.Goals as goal
 

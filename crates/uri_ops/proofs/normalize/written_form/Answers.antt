@@ -11,6 +11,12 @@ returns-clause-at g c =
     let ports = g.P.DefaultPort.port_of c.args.ports.now in
     let text = c.args.core.text.now in
     let empty : string_bytes c.in_ok-text.text ≡ [] = search rules in
-    normal_at kind c.requires ports text (string_bytes c.push_normal.new.out) c.in_ok-positions.positions
-    (record { utf8 = subst IsUtf8 c.as_str.ensures.text c.as_str.utf8; grammar = c.args.core.of_kind })
-    (c.in_ok-positions.ensures.text ∙ ap (λ t. t ++ normal_text (meaning_of kind ports text)) empty) (c.in_ok-positions.ensures.places empty)
+    normal_at kind c.requires ports text (string_bytes c.push_normal.new.out)
+    c.in_ok-positions.positions
+    (record {
+      utf8 = subst IsUtf8 c.as_str.ensures.text c.as_str.utf8;
+      grammar =
+          c.args.core.of_kind;
+    })
+    (c.in_ok-positions.ensures.text ∙ ap (λ t. t ++ normal_text (meaning_of kind ports text)) empty)
+    (c.in_ok-positions.ensures.places empty)

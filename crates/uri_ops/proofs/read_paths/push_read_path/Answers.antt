@@ -39,7 +39,8 @@ returns-clause-text c =
     let at : c.len-start.result ≡ length old = search rules in
     let root = c.in_ok-push.ensures.bytes ∙ ap (λ t. old ++ t) (encode_ascii 47 (lit< tt)) in
     let rest = c.range_from.result.now in
-    let kept = behind_old old c.len-start.result at (string_bytes c.push.new.self) (codes "/") root in
+    let kept = behind_old old c.len-start.result at (string_bytes c.push.new.self) (codes "/")
+    root in
     whole old c.len-start.result at (string_bytes c.push.new.self) (codes "/")
     (string_bytes c.push_segments.new.out) (print (read set (remove_dot_segments path))) root
     c.in_ok-underflowed.ensures.before
@@ -56,7 +57,8 @@ returns-clause-underflow c =
     let at : c.len-start.result ≡ length old = search rules in
     let root = c.in_ok-push.ensures.bytes ∙ ap (λ t. old ++ t) (encode_ascii 47 (lit< tt)) in
     let rest = c.range_from.result.now in
-    let kept = behind_old old c.len-start.result at (string_bytes c.push.new.self) (codes "/") root in
+    let kept = behind_old old c.len-start.result at (string_bytes c.push.new.self) (codes "/")
+    root in
     c.in_ok-underflowed.ensures.underflow
     ∙ ap (λ t. underflows (t ++ print (read set rest))) kept
     ∙ root_underflows set c.requires.set c.requires.slash path rest c.requires.absolute

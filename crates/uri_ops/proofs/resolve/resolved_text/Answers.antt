@@ -3,10 +3,10 @@ use Rattle.std.specs.Prelude.{is_some, string_bytes}
 use Rattle.std.proofs.lemmas.Result.{IfOk-weaker, IfErr-weaker}
 use Rattle.uri_ops.proofs.Targeting.ResolvedTexts.{target_of_kind, encoded_target, encoded_error}
 use Rattle.uri_ops.proofs.Targeting.ResolvedTexts.{alike_target, alike_error}
-use Rattle.uri_ops.specs.EncodedTargets.{IsTargetOfEncoded, IsErrorForEncoded}
+use Rattle.uri_ops.specs.Resolving.{IsTargetOfEncoded, IsErrorForEncoded}
 use Rattle.uri_ops.specs.NormalTargets.{IsTargetOfMeanings, IsErrorOfMeanings}
 use Rattle.uri_ops.specs.Resolving.{IsTarget, IsErrorFor, components_of}
-use Rattle.uri_ops.specs.Texts.{IsTextOf}
+use Rattle.uri_parts.specs.Grammar.{IsTextOf}
 use Rattle.uri_parts.specs.Components.{Components}
 use Rattle.uri_ops.proofs.Targeting.Swaps.{has_needed_scheme}
 use Rattle.uri_ops.proofs.resolve.resolved_text.Goals as goal
@@ -14,7 +14,9 @@ use Rattle.uri_ops.proofs.resolve.resolved_text.Goals as goal
 pub target_text-requires : goal.target_text-requires
 target_text-requires g c =
     subst (λ (p : Components). is_some p.scheme ≡ true) (sym c.of.ensures.components)
-    (has_needed_scheme g.B.RiMaybeRef.kind (g.B.RiMaybeRef.text c.args.base.now) g.met.B.Ri.needs_scheme (record { utf8 = c.of.ensures.utf8; grammar = c.of.ensures.of_kind }))
+    (has_needed_scheme g.B.RiMaybeRef.kind (g.B.RiMaybeRef.text c.args.base.now)
+    g.met.B.Ri.needs_scheme
+    (record { utf8 = c.of.ensures.utf8; grammar = c.of.ensures.of_kind }))
 
 pub returns-clause-of_kind : goal.returns-clause-of_kind
 returns-clause-of_kind g c =
@@ -23,9 +25,14 @@ returns-clause-of_kind g c =
     let q = components_of c.of-2.result in
     let base = g.B.RiMaybeRef.text c.args.base.now in
     let reference = g.Q.RiMaybeRef.text c.args.reference.now in
-    IfOk-weaker c.target_text.result (λ made. IsTarget c.args.allow_path_underflow p q (string_bytes made.text)) (λ made. IsTextOf kind (string_bytes made.text))
-    (λ made. target_of_kind kind g.Q.RiMaybeRef.kind g.met.B.RiMaybeRef.component_sets g.met.B.Ri.needs_scheme g.met.Q.RefOf.same_tables c.args.allow_path_underflow p q base reference
-    c.of.ensures.components c.of-2.ensures.components c.of.ensures.utf8 c.of-2.ensures.utf8 c.of.ensures.of_kind c.of-2.ensures.of_kind (string_bytes made.text))
+    IfOk-weaker c.target_text.result
+    (λ made. IsTarget c.args.allow_path_underflow p q (string_bytes made.text))
+    (λ made. IsTextOf kind (string_bytes made.text))
+    (λ made. target_of_kind kind g.Q.RiMaybeRef.kind g.met.B.RiMaybeRef.component_sets
+    g.met.B.Ri.needs_scheme g.met.Q.RefOf.same_tables c.args.allow_path_underflow p q base
+    reference
+    c.of.ensures.components c.of-2.ensures.components c.of.ensures.utf8 c.of-2.ensures.utf8
+    c.of.ensures.of_kind c.of-2.ensures.of_kind (string_bytes made.text))
     c.target_text.ensures.target
 
 pub returns-clause-encoded : goal.returns-clause-encoded
@@ -35,9 +42,15 @@ returns-clause-encoded g c =
     let q = components_of c.of-2.result in
     let base = g.B.RiMaybeRef.text c.args.base.now in
     let reference = g.Q.RiMaybeRef.text c.args.reference.now in
-    IfOk-weaker c.target_text.result (λ made. IsTarget c.args.allow_path_underflow p q (string_bytes made.text)) (λ made. IsTargetOfEncoded c.args.allow_path_underflow base reference (string_bytes made.text))
-    (λ made. encoded_target kind g.Q.RiMaybeRef.kind g.met.B.RiMaybeRef.component_sets g.met.B.Ri.needs_scheme g.met.Q.RefOf.same_tables c.args.allow_path_underflow p q base reference
-    c.of.ensures.components c.of-2.ensures.components c.of.ensures.utf8 c.of-2.ensures.utf8 c.of.ensures.of_kind c.of-2.ensures.of_kind (string_bytes made.text))
+    IfOk-weaker c.target_text.result
+    (λ made. IsTarget c.args.allow_path_underflow p q (string_bytes made.text))
+    (λ made. IsTargetOfEncoded c.args.allow_path_underflow base reference
+    (string_bytes made.text))
+    (λ made. encoded_target kind g.Q.RiMaybeRef.kind g.met.B.RiMaybeRef.component_sets
+    g.met.B.Ri.needs_scheme g.met.Q.RefOf.same_tables c.args.allow_path_underflow p q base
+    reference
+    c.of.ensures.components c.of-2.ensures.components c.of.ensures.utf8 c.of-2.ensures.utf8
+    c.of.ensures.of_kind c.of-2.ensures.of_kind (string_bytes made.text))
     c.target_text.ensures.target
 
 pub returns-clause-encoded_error : goal.returns-clause-encoded_error
@@ -47,9 +60,13 @@ returns-clause-encoded_error g c =
     let q = components_of c.of-2.result in
     let base = g.B.RiMaybeRef.text c.args.base.now in
     let reference = g.Q.RiMaybeRef.text c.args.reference.now in
-    IfErr-weaker c.target_text.result (IsErrorFor c.args.allow_path_underflow p q) (IsErrorForEncoded c.args.allow_path_underflow base reference)
-    (encoded_error kind g.Q.RiMaybeRef.kind g.met.B.RiMaybeRef.component_sets g.met.B.Ri.needs_scheme g.met.Q.RefOf.same_tables c.args.allow_path_underflow p q base reference
-    c.of.ensures.components c.of-2.ensures.components c.of.ensures.utf8 c.of-2.ensures.utf8 c.of.ensures.of_kind c.of-2.ensures.of_kind)
+    IfErr-weaker c.target_text.result (IsErrorFor c.args.allow_path_underflow p q)
+    (IsErrorForEncoded c.args.allow_path_underflow base reference)
+    (encoded_error kind g.Q.RiMaybeRef.kind g.met.B.RiMaybeRef.component_sets
+    g.met.B.Ri.needs_scheme g.met.Q.RefOf.same_tables c.args.allow_path_underflow p q base
+    reference
+    c.of.ensures.components c.of-2.ensures.components c.of.ensures.utf8 c.of-2.ensures.utf8
+    c.of.ensures.of_kind c.of-2.ensures.of_kind)
     c.target_text.ensures.error
 
 pub returns-clause-alike : goal.returns-clause-alike
@@ -59,9 +76,15 @@ returns-clause-alike g c =
     let q = components_of c.of-2.result in
     let base = g.B.RiMaybeRef.text c.args.base.now in
     let reference = g.Q.RiMaybeRef.text c.args.reference.now in
-    IfOk-weaker c.target_text.result (λ made. IsTarget c.args.allow_path_underflow p q (string_bytes made.text)) (λ made. IsTargetOfMeanings kind g.Q.RiMaybeRef.kind base reference (string_bytes made.text))
-    (λ made. alike_target kind g.Q.RiMaybeRef.kind g.met.B.RiMaybeRef.component_sets g.met.B.Ri.needs_scheme g.met.Q.RefOf.same_tables c.args.allow_path_underflow p q base reference
-    c.of.ensures.components c.of-2.ensures.components c.of.ensures.utf8 c.of-2.ensures.utf8 c.of.ensures.of_kind c.of-2.ensures.of_kind (string_bytes made.text))
+    IfOk-weaker c.target_text.result
+    (λ made. IsTarget c.args.allow_path_underflow p q (string_bytes made.text))
+    (λ made. IsTargetOfMeanings kind g.Q.RiMaybeRef.kind base reference
+    (string_bytes made.text))
+    (λ made. alike_target kind g.Q.RiMaybeRef.kind g.met.B.RiMaybeRef.component_sets
+    g.met.B.Ri.needs_scheme g.met.Q.RefOf.same_tables c.args.allow_path_underflow p q base
+    reference
+    c.of.ensures.components c.of-2.ensures.components c.of.ensures.utf8 c.of-2.ensures.utf8
+    c.of.ensures.of_kind c.of-2.ensures.of_kind (string_bytes made.text))
     c.target_text.ensures.target
 
 pub returns-clause-alike_error : goal.returns-clause-alike_error
@@ -71,7 +94,10 @@ returns-clause-alike_error g c =
     let q = components_of c.of-2.result in
     let base = g.B.RiMaybeRef.text c.args.base.now in
     let reference = g.Q.RiMaybeRef.text c.args.reference.now in
-    IfErr-weaker c.target_text.result (IsErrorFor c.args.allow_path_underflow p q) (IsErrorOfMeanings kind g.Q.RiMaybeRef.kind base reference)
-    (alike_error kind g.Q.RiMaybeRef.kind g.met.B.RiMaybeRef.component_sets g.met.B.Ri.needs_scheme g.met.Q.RefOf.same_tables c.args.allow_path_underflow p q base reference
-    c.of.ensures.components c.of-2.ensures.components c.of.ensures.utf8 c.of-2.ensures.utf8 c.of.ensures.of_kind c.of-2.ensures.of_kind)
+    IfErr-weaker c.target_text.result (IsErrorFor c.args.allow_path_underflow p q)
+    (IsErrorOfMeanings kind g.Q.RiMaybeRef.kind base reference)
+    (alike_error kind g.Q.RiMaybeRef.kind g.met.B.RiMaybeRef.component_sets g.met.B.Ri.needs_scheme
+    g.met.Q.RefOf.same_tables c.args.allow_path_underflow p q base reference
+    c.of.ensures.components c.of-2.ensures.components c.of.ensures.utf8 c.of-2.ensures.utf8
+    c.of.ensures.of_kind c.of-2.ensures.of_kind)
     c.target_text.ensures.error

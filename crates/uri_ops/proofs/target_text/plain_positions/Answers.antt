@@ -3,8 +3,9 @@ use Rattle.std.specs.Prelude.{Some}
 use Rattle.uri_parts.specs.Positions.{positions_of}
 use Rattle.uri_ops.specs.Resolving.{components_of}
 use Rattle.uri_ops.specs.Target.{is_fragment_only}
-use Rattle.uri_ops.proofs.Targeting.PlainTargets.{length_before_fragment, length_through_path, no_part}
+use Rattle.uri_ops.proofs.Targeting.PlainTargets.{length_before_fragment, length_through_path}
 use Rattle.uri_ops.proofs.target_text.plain_positions.Goals as goal
+use Rattle.uri_pct.proofs.Tests.{no_part}
 
 pub returns-then-has_query : goal.returns-then-has_query
 returns-then-has_query c =

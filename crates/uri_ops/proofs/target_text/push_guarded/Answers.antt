@@ -6,6 +6,6 @@ use Rattle.uri_ops.proofs.target_text.push_guarded.Goals as goal
 pub guard_path-requires : goal.guard_path-requires
 guard_path-requires c =
     let at : c.len-start.result ≡ length (string_bytes c.args.out.now) = search rules in
-    path_begins (string_bytes c.args.out.now) _ (string_bytes c.push_path.new.out)
+    path_begins (string_bytes c.args.out.now) _ (string_bytes c.push_target_path.new.out)
     c.len-start.result at c.in_ok-underflowed.ensures.text
-    (IsUtf8-string_bytes c.args.out.now) (IsUtf8-string_bytes c.push_path.new.out)
+    (IsUtf8-string_bytes c.args.out.now) (IsUtf8-string_bytes c.push_target_path.new.out)

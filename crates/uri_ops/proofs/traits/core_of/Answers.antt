@@ -5,7 +5,9 @@ use Rattle.uri_ops.proofs.traits.core_of.Goals as goal
 
 pub new-requires-clause-of_kind : goal.new-requires-clause-of_kind
 new-requires-clause-of_kind g c =
-    subst (λ k. IsOfKind k c.as_str.result.now) (sym g.met.R.RiMaybeRef.kind_is_its_own) c.as_str.ensures.of_kind
+    subst (λ k. IsOfKind k c.as_str.result.now) (sym g.met.R.RiMaybeRef.kind_is_its_own)
+    c.as_str.ensures.of_kind
 
 pub new-requires-clause-at : goal.new-requires-clause-at
-new-requires-clause-at g c = subst (λ t. AreAt t c.positions.result) (sym c.as_str.ensures.text) c.positions.ensures
+new-requires-clause-at g c = subst (λ t. AreAt t c.positions.result) (sym c.as_str.ensures.text)
+    c.positions.ensures

@@ -13,5 +13,7 @@ returns-else-digits-eq5 c =
     let rest = drop c.args.digits c.args.text.now in
     let few = c.if-digits-eq5.false in
     let most = c.requires.most in
-    let whole = take_all (length c.args.text.now - c.args.digits) rest (omega (arith, length-drop c.args.digits c.args.text.now)) in
-    rw (group_read c.args.text.now c.args.digits c.requires (omega arith) (omega arith)) (ap Some whole)
+    let whole = take_all (length c.args.text.now - c.args.digits) rest
+    (omega (arith, length-drop c.args.digits c.args.text.now)) in
+    rw (group_read c.args.text.now c.args.digits c.requires (omega arith) (omega arith))
+    (ap Some whole)

@@ -12,12 +12,24 @@ returns-else-fits c =
     let text = c.args.text.now in
     elim c.else-fits.branch [
       | else-fits-via-then-fits+then-digits-lt5+then-digits-text+else-text-digits-eq46 w ↦
-          rw (w.if-fits.true, undotted text c.args.digits c.requires w.if-digits-lt5.true w.if-text-digits-eq46.false)
+          rw (
+            w.if-fits.true,
+            undotted text c.args.digits c.requires w.if-digits-lt5.true
+                w.if-text-digits-eq46.false,
+          )
       | else-fits-via-then-fits+then-digits-lt5+else-digits-text w ↦
           let past = get_or_past text c.args.digits 0 w.if-digits-text.false in
-          rw (w.if-fits.true, undotted text c.args.digits c.requires w.if-digits-lt5.true (omega (arith, past)))
+          rw (
+            w.if-fits.true,
+            undotted text c.args.digits c.requires w.if-digits-lt5.true
+                (omega (arith, past)),
+          )
       | else-fits-via-then-fits+else-digits-lt5 w ↦
           let most = c.requires.most in
-          rw (w.if-fits.true, long_undotted text c.args.digits c.requires (omega (arith, w.if-digits-lt5.false)))
+          rw (
+            w.if-fits.true,
+            long_undotted text c.args.digits c.requires
+                (omega (arith, w.if-digits-lt5.false)),
+          )
       | else-fits-via-else-fits w ↦ rw w.if-fits.false
     ]

@@ -7,7 +7,8 @@ loop-count-preserved c =
     let i = c.loop-count.invariant in
     let digit = ltb-true _ _ (sym c.is_digit.ensures.value ∙ c.if-is_digit.true) in
     record {
-      digits = digits_more 16 c.args.text.now c.loop-count.count (omega arith) i.digits (rw c.from.ensures at digit);
+      digits = digits_more 16 c.args.text.now c.loop-count.count (omega arith) i.digits
+          (rw c.from.ensures at digit);
       most = omega arith;
       within = omega arith;
     }

@@ -9,16 +9,19 @@ returns-in_default-clause-found c =
 
 pub returns-in-Some-after_ipv4_if-clause-found : goal.returns-in-Some-after_ipv4_if-clause-found
 returns-in-Some-after_ipv4_if-clause-found c =
-    ends_in_ipv4 _ _ _ c.loop-i-test.true _ c.in-Some.ensures _ _ c.loop-i.invariant c.in-Some-after_ipv4_if.ensures
+    ends_in_ipv4 _ _ _ c.loop-i-test.true _ c.in-Some.ensures _ _ c.loop-i.invariant
+    c.in-Some-after_ipv4_if.ensures
 
 pub returns-in_default-after_group-clause-found : goal.returns-in_default-after_group-clause-found
 returns-in_default-after_group-clause-found c =
-    let left = no_group _ _ _ c.loop-i-test.true _ c.in-Some.ensures c.in_default-after_ipv4_if.ensures c.in_default-after_group.ensures in
+    let left = no_group _ _ _ c.loop-i-test.true _ c.in-Some.ensures
+    c.in_default-after_ipv4_if.ensures c.in_default-after_group.ensures in
     ended _ _ _ _ c.loop-i.invariant left
 
 pub loop-i-preserved : goal.loop-i-preserved
 loop-i-preserved c =
-    goes_on _ _ _ c.loop-i-test.true _ c.in-Some.ensures c.in_default-after_ipv4_if.ensures _ _ c.loop-i.invariant c.in-Some-after_group.ensures
+    goes_on _ _ _ c.loop-i-test.true _ c.in-Some.ensures c.in_default-after_ipv4_if.ensures _ _
+    c.loop-i.invariant c.in-Some-after_group.ensures
 
 pub returns-clause-found : goal.returns-clause-found
 returns-clause-found c =

@@ -17,8 +17,10 @@ more : (s : List ℕ) (i j value byte digit : ℕ) → i ≡ j → j < length s 
     → AllDigits 10 (take (i + 1) s) × (value * 10 + digit ≡ digits_value 10 (take (i + 1) s))
 more s i j value byte digit same within all is read h =
     let inside : i < length s = omega arith in
-    let at : byte ≡ get_or s i 0 = rw same read in
-    (digits_more 10 s i inside all (rw (← at) h.0), rw (digits_value_more 10 s i inside, ← at, ← is, h.1))
+    let at : byte ≡ get_or s i 0 = rw same read in (
+      digits_more 10 s i inside all (rw (← at) h.0),
+      rw (digits_value_more 10 s i inside, ← at, ← is, h.1),
+    )
 
 -- the loop ends at the end of the text or at a byte that is no digit
 past : (s : List ℕ) (i j : ℕ) → i ≡ j → length s ≤ j → 10 ≤ digit_value (get_or s i 0)
@@ -31,29 +33,36 @@ other s i j byte same read h = rw (same, ← read) (let d = digit_value byte in 
 pub returns-then-next-gt255-clause-value : goal.returns-then-next-gt255-clause-value
 returns-then-next-gt255-clause-value c =
     let i = c.loop-byte.invariant in
-    let h = more _ _ _ _ _ _ i.counted c.loop-byte-test.true i.digits i.value c.from.ensures c.in-Some.ensures.value in
+    let h = more _ _ _ _ _ _ i.counted c.loop-byte-test.true i.digits i.value c.from.ensures
+    c.in-Some.ensures.value in
     sym (read_number_large_at _ _ _ _ (omega arith) h.0 (rw (← h.1) c.if-next-gt255.true))
 
 pub loop-byte-preserved : goal.loop-byte-preserved
 loop-byte-preserved c =
     let i = c.loop-byte.invariant in
-    let h = more _ _ _ _ _ _ i.counted c.loop-byte-test.true i.digits i.value c.from.ensures c.in-Some.ensures.value in
+    let h = more _ _ _ _ _ _ i.counted c.loop-byte-test.true i.digits i.value c.from.ensures
+    c.in-Some.ensures.value in
     record { counted = omega arith; digits = h.0; value = h.1; small = c.if-next-gt255.false }
 
 pub returns-then-count-eq0-clause-value : goal.returns-then-count-eq0-clause-value
 returns-then-count-eq0-clause-value c =
-    let stop : 10 ≤ digit_value (get_or c.args.text.now c.loop-byte.count 0) = elim c.loop-byte-test.branch [
+    let stop : 10 ≤ digit_value (get_or c.args.text.now c.loop-byte.count 0) =
+    elim c.loop-byte-test.branch [
       | else-loop-byte-test w ↦ past _ _ _ c.loop-byte.invariant.counted w.loop-byte-test.false
-      | then-loop-byte-test+in_default w ↦ other _ _ _ _ c.loop-byte.invariant.counted w.from.ensures w.in_default.ensures.value
+      | then-loop-byte-test+in_default w ↦ other _ _ _ _ c.loop-byte.invariant.counted
+          w.from.ensures w.in_default.ensures.value
     ] in
     sym (read_number_empty _ _ c.args.text.now (rw c.if-count-eq0.true at stop))
 
 pub returns-else-count-eq0-clause-value : goal.returns-else-count-eq0-clause-value
 returns-else-count-eq0-clause-value c =
     let i = c.loop-byte.invariant in
-    let stop : 10 ≤ digit_value (get_or c.args.text.now c.loop-byte.count 0) = elim c.loop-byte-test.branch [
+    let stop : 10 ≤ digit_value (get_or c.args.text.now c.loop-byte.count 0) =
+    elim c.loop-byte-test.branch [
       | else-loop-byte-test w ↦ past _ _ _ i.counted w.loop-byte-test.false
-      | then-loop-byte-test+in_default w ↦ other _ _ _ _ i.counted w.from.ensures w.in_default.ensures.value
+      | then-loop-byte-test+in_default w ↦ other _ _ _ _ i.counted w.from.ensures
+          w.in_default.ensures.value
     ] in
-    let read = read_number_some_at 10 255 _ _ (omega arith) (omega arith) i.digits (rw (← i.value) i.small) stop in
+    let read = read_number_some_at 10 255 _ _ (omega arith) (omega arith) i.digits
+    (rw (← i.value) i.small) stop in
     rw i.value (sym read)

@@ -8,7 +8,8 @@ pub returns-in_err-port : goal.returns-in_err-port
 returns-in_err-port c =
     let name = c.args.name.now in
     let rows = c.args.rows.now in
-    let found = find_from_yields_List (is_named name) _ _ c.find.result c.find.ensures.ran (YieldsList-from_slice rows cc) (λ x b q k. search (rules, tests)) in
+    let found = find_from_yields_List (is_named name) _ _ c.find.result c.find.ensures.ran
+    (YieldsList-from_slice rows cc) (λ x b q k. search (rules, tests)) in
     c.from_residual.ensures ∙ ap (option_map (λ x. x.now.1)) (sym c.in_err-port.was)
     ∙ port_found name rows c.find.result found
 
@@ -16,5 +17,6 @@ pub returns : goal.returns
 returns c =
     let name = c.args.name.now in
     let rows = c.args.rows.now in
-    let found = find_from_yields_List (is_named name) _ _ c.find.result c.find.ensures.ran (YieldsList-from_slice rows cc) (λ x b q k. search (rules, tests)) in
+    let found = find_from_yields_List (is_named name) _ _ c.find.result c.find.ensures.ran
+    (YieldsList-from_slice rows cc) (λ x b q k. search (rules, tests)) in
     ap (option_map (λ x. x.now.1)) (sym c.in_ok-port.was) ∙ port_found name rows c.find.result found

@@ -1,6 +1,6 @@
 use Rattle.std.proofs.Common.{Some, None, ap, sym, subst, ◌∙◌, ◌++◌, ◌∷◌}
 use Rattle.std.specs.Prelude.{option_map, string_bytes}
-use Rattle.uri_pct.specs.EStrs.{text_of}
+use Rattle.uri_pct.specs.EncodedTexts.{text_of}
 use Rattle.uri_parts.specs.Fragments.{IsWithFragment}
 use Rattle.uri_parts.proofs.Splitting.Fragments.{added, stays_with, stays_without, same_places}
 use Rattle.uri_parts.proofs.fragment.with_fragment.Goals as goal
@@ -11,30 +11,40 @@ without : (g : _) (c : goal.In_ok-push_str g)
 without g c =
     let copied = c.in_ok-push_str.ensures.bytes
     ∙ ap (λ t. t ++ c.without_fragment-kept.result.now) c.new-made.ensures.bytes in
-    subst (IsWithFragment c.args.text.now None) (sym copied) c.without_fragment-kept.ensures.fragment
+    subst (IsWithFragment c.args.text.now None) (sym copied)
+    c.without_fragment-kept.ensures.fragment
 
 with : (g : _) (c : goal.In_ok-push_fragment g)
-    → IsWithFragment c.args.text.now (Some c.as_str.result.now) (string_bytes c.push_fragment.new.text)
+    → IsWithFragment c.args.text.now (Some c.as_str.result.now)
+    (string_bytes c.push_fragment.new.text)
 with g c =
     let kept = c.without_fragment-kept.result.now in
     let fragment = c.as_str.result.now in
     let start = c.in_ok-push_str-2.ensures.bytes
     ∙ ap (λ t. t ++ kept) (c.reserve.ensures.bytes ∙ c.new-made.ensures.bytes) in
-    added c.args.text.now kept (string_bytes c.push_fragment.new.text) fragment c.without_fragment-kept.ensures.fragment (c.in_ok-push_fragment.ensures.text ∙ ap (λ t. t ++ (35 ∷ fragment)) start)
+    added c.args.text.now kept (string_bytes c.push_fragment.new.text) fragment
+    c.without_fragment-kept.ensures.fragment
+    (c.in_ok-push_fragment.ensures.text ∙ ap (λ t. t ++ (35 ∷ fragment)) start)
 
 pub returns-in_default-clause-of_kind : goal.returns-in_default-clause-of_kind
-returns-in_default-clause-of_kind g c = stays_without g.E.Encoder.set c.args.text.now (string_bytes c.push_str.new.self) (without g c)
+returns-in_default-clause-of_kind g c =
+    stays_without g.E.Encoder.set c.args.text.now (string_bytes c.push_str.new.self) (without g c)
 
 pub returns-in_default-clause-at : goal.returns-in_default-clause-at
-returns-in_default-clause-at g c = same_places c.args.text.now (string_bytes c.push_str.new.self) None c.args.positions.now c.requires (without g c)
+returns-in_default-clause-at g c =
+    same_places c.args.text.now (string_bytes c.push_str.new.self) None c.args.positions.now
+    c.requires (without g c)
 
 pub returns-clause-fragment : goal.returns-clause-fragment
 returns-clause-fragment g c =
     let given = ap Some c.as_str.ensures.text ∙ sym (ap (option_map text_of) c.in-Some.is) in
-    subst (λ o. IsWithFragment c.args.text.now o (string_bytes c.push_fragment.new.text)) given (with g c)
+    subst (λ o. IsWithFragment c.args.text.now o (string_bytes c.push_fragment.new.text)) given
+    (with g c)
 
 pub returns-clause-of_kind : goal.returns-clause-of_kind
-returns-clause-of_kind g c = stays_with g.E.Encoder.set c.args.text.now (string_bytes c.push_fragment.new.text) c.as_str.result.now c.as_str.ensures.valid (with g c)
+returns-clause-of_kind g c = stays_with g.E.Encoder.set c.args.text.now
+    (string_bytes c.push_fragment.new.text) c.as_str.result.now c.as_str.ensures.valid (with g c)
 
 pub returns-clause-at : goal.returns-clause-at
-returns-clause-at g c = same_places c.args.text.now (string_bytes c.push_fragment.new.text) (Some c.as_str.result.now) c.args.positions.now c.requires (with g c)
+returns-clause-at g c = same_places c.args.text.now (string_bytes c.push_fragment.new.text)
+    (Some c.as_str.result.now) c.args.positions.now c.requires (with g c)

@@ -6,8 +6,11 @@ use Rattle.uri_parts.proofs.literal.digits_end.Goals as goal
 pub loop-end-preserved : goal.loop-end-preserved
 loop-end-preserved c =
     let bs = c.as_bytes-bytes.result.now in
-    let below : c.from.result < 128 = digit_ascii c.from.result c.args.radix c.requires.high (ltb-true _ _ (sym c.is_digit.ensures.value ∙ c.if-is_digit.true)) in
+    let below : c.from.result < 128 =
+    digit_ascii c.from.result c.args.radix c.requires.high
+    (ltb-true _ _ (sym c.is_digit.ensures.value ∙ c.if-is_digit.true)) in
     record {
-      boundary = IsCharBoundary-after_ascii bs c.loop-end.end c.as_bytes-bytes.ensures.utf8 (omega arith) (omega arith);
+      boundary = IsCharBoundary-after_ascii bs c.loop-end.end c.as_bytes-bytes.ensures.utf8
+          (omega arith) (omega arith);
       start = omega arith;
     }

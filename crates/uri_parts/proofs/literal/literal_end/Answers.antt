@@ -17,16 +17,19 @@ pub returns-then-is_lettered-clause-end : goal.returns-then-is_lettered-clause-e
 returns-then-is_lettered-clause-end c =
     let u = IsUtf8-drop c.args.text.now c.args.start c.utf8.text c.requires in
     let v = sym c.is_lettered.ensures.value ∙ c.if-is_lettered.true in
-    end_at c.args.text.now c.args.start u v c.future_end.result c.future_end.ensures.accepts c.future_end.ensures.end
+    end_at c.args.text.now c.args.start u v c.future_end.result c.future_end.ensures.accepts
+    c.future_end.ensures.end
 
 pub overflow_sub-end : goal.overflow_sub-end
 overflow_sub-end c =
-    let e = rw (c.as_bytes.ensures.value, c.range_from-address.ensures.value) at c.in-Some.ensures in
+    let e = rw (c.as_bytes.ensures.value, c.range_from-address.ensures.value) at
+    c.in-Some.ensures in
     omega (arith, (follows _ _ e).0, length-drop c.args.start c.args.text.now)
 
 pub returns-then-sees-clause-accepts : goal.returns-then-sees-clause-accepts
 returns-then-sees-clause-accepts c =
-    let e = rw (c.as_bytes.ensures.value, c.range_from-address.ensures.value) at c.in-Some.ensures in
+    let e = rw (c.as_bytes.ensures.value, c.range_from-address.ensures.value) at
+    c.in-Some.ensures in
     let within : c.args.start ≤ length c.args.text.now = c.requires.0 in
     let here : starts 93 c.in-Some.rest.now ≡ true = ap (starts 93) (place_behind _ _ _ within e)
     ∙ sym c.sees.ensures.value ∙ c.if-sees.true in
@@ -34,11 +37,18 @@ returns-then-sees-clause-accepts c =
 
 pub returns-then-sees-clause-end : goal.returns-then-sees-clause-end
 returns-then-sees-clause-end c =
-    let e = rw (c.as_bytes.ensures.value, c.range_from-address.ensures.value) at c.in-Some.ensures in
+    let e = rw (c.as_bytes.ensures.value, c.range_from-address.ensures.value) at
+    c.in-Some.ensures in
     let within : c.args.start ≤ length c.args.text.now = c.requires.0 in
     let here : starts 93 c.in-Some.rest.now ≡ true = ap (starts 93) (place_behind _ _ _ within e)
     ∙ sym c.sees.ensures.value ∙ c.if-sees.true in
-    omega (arith, (accepted _ _ e here).1, (follows _ _ e).0, length-drop c.args.start c.args.text.now)
+    omega (
+      arith,
+      (accepted _ _ e here).1,
+      (follows _ _ e).0,
+      length-drop c.args.start
+          c.args.text.now,
+    )
 
 pub returns-clause-accepts : goal.returns-clause-accepts
 returns-clause-accepts c =
@@ -46,11 +56,14 @@ returns-clause-accepts c =
     let within : c.args.start ≤ length c.args.text.now = c.requires.0 in
     elim c.match-after_ipv6.branch [
       | in-Some+else-sees w ↦
-          let e = rw (c.as_bytes.ensures.value, c.range_from-address.ensures.value) at w.in-Some.ensures in
-          let other : starts 93 w.in-Some.rest.now ≡ false = ap (starts 93) (place_behind _ _ _ within e)
+          let e = rw (c.as_bytes.ensures.value, c.range_from-address.ensures.value) at
+          w.in-Some.ensures in
+          let other : starts 93 w.in-Some.rest.now ≡ false =
+          ap (starts 93) (place_behind _ _ _ within e)
           ∙ sym w.sees.ensures.value ∙ w.if-sees.false in
           sym (unclosed _ _ plain e other)
       | in_default w ↦
-          let e = rw (c.as_bytes.ensures.value, c.range_from-address.ensures.value) at w.in_default.ensures in
+          let e = rw (c.as_bytes.ensures.value, c.range_from-address.ensures.value) at
+          w.in_default.ensures in
           sym (unread _ plain e)
     ]

@@ -7,5 +7,6 @@ pub split_at-requires : goal.split_at-requires
 split_at-requires c =
     let text = c.args.text.now in
     let marks = c.args.marks.now in
-    let same : to_mark marks text ≡ c.length_before.result = sym (c.length_before.ensures ∙ ap (to_mark marks) c.as_bytes.ensures.value) in
+    let same : to_mark marks text ≡ c.length_before.result =
+    sym (c.length_before.ensures ∙ ap (to_mark marks) c.as_bytes.ensures.value) in
     subst (IsCharBoundary text) same (mark_boundary marks (ascii_marks marks (search rules)) text)

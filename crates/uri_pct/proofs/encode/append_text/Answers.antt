@@ -6,4 +6,5 @@ use Rattle.uri_pct.proofs.encode.append_text.Goals as goal
 pub truncate-requires : goal.truncate-requires
 truncate-requires c = λ _.
     let new = c.push_text.new.out in
-    subst (IsSplitPoint (string_bytes new)) (sym (ap length c.as_str-len.ensures.value)) (split_kept c.args.out.now new c.in-Err.ensures.keeps)
+    subst (IsSplitPoint (string_bytes new)) (sym (ap length c.as_str-len.ensures.value))
+    (split_kept c.args.out.now new c.in-Err.ensures.keeps)

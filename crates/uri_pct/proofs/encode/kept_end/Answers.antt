@@ -8,10 +8,13 @@ read_to : (c : goal.After-read)
     → c.read.result
     ≡ c.args.start + front (plain_set (set_of c.args.table.now)) (drop c.args.start c.args.text.now)
 read_to c = c.read.ensures.end
-    ∙ ap (λ set. c.args.start + front set (drop c.args.start c.args.text.now)) c.without_octets.ensures
+    ∙ ap (λ set. c.args.start + front set (drop c.args.start c.args.text.now))
+    c.without_octets.ensures
 
 pub returns-clause-kept : goal.returns-clause-kept
-returns-clause-kept c = kept_from (set_of c.args.table.now) c.args.text.now c.args.start c.read.result c.utf8.text c.requires (read_to c)
+returns-clause-kept c = kept_from (set_of c.args.table.now) c.args.text.now c.args.start
+    c.read.result c.utf8.text c.requires (read_to c)
 
 pub returns-clause-stop : goal.returns-clause-stop
-returns-clause-stop c = λ ch rest spelt. refused_behind (set_of c.args.table.now) c.args.text.now rest c.args.start c.read.result ch c.utf8.text c.read.ensures.boundary (read_to c) spelt
+returns-clause-stop c = λ ch rest spelt. refused_behind (set_of c.args.table.now) c.args.text.now
+    rest c.args.start c.read.result ch c.utf8.text c.read.ensures.boundary (read_to c) spelt

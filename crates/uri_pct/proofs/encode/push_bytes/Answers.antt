@@ -23,11 +23,17 @@ loop-chunk-preserved c =
     ∙ ap (λ x. out ++ print (encode_text set x)) c.valid.ensures in
     let then : new ≡ mid ++ print (map Octet fault) = c.in_ok-push_octets.ensures.ok
     ∙ ap (λ x. mid ++ print (map Octet x)) c.invalid.ensures in
-    let pieces = chunk_pieces (utf8_chunks_rest c.loop-chunk.chunk-iterator) text fault rest steps.0 steps.3.0 steps.3.1 steps.2 in
+    let pieces = chunk_pieces (utf8_chunks_rest c.loop-chunk.chunk-iterator) text fault rest steps.0
+    steps.3.0 steps.3.1 steps.2 in
     record {
-      total = bytes_step set out mid new _ text fault rest _ (subst IsUtf8 c.valid.ensures c.valid.utf8) pieces first then c.loop-chunk.invariant.total;
-      keeps = kept_on old mid new (kept_on old out mid c.loop-chunk.invariant.keeps c.in_ok-push_text.ensures.keeps) c.in_ok-push_octets.ensures.keeps;
+      total = bytes_step set out mid new _ text fault rest _
+          (subst IsUtf8 c.valid.ensures c.valid.utf8) pieces first
+          then c.loop-chunk.invariant.total;
+      keeps = kept_on old mid new (kept_on old out mid c.loop-chunk.invariant.keeps
+          c.in_ok-push_text.ensures.keeps) c.in_ok-push_octets.ensures.keeps;
     }
 
 pub returns-clause-ok : goal.returns-clause-ok
-returns-clause-ok c = bytes_end (set_of c.args.table.now) (string_bytes c.loop-chunk.out) (utf8_chunks_rest c.loop-chunk.chunk-iterator) _ c.in-None.ensures.steps.0 c.loop-chunk.invariant.total
+returns-clause-ok c = bytes_end (set_of c.args.table.now) (string_bytes c.loop-chunk.out)
+    (utf8_chunks_rest c.loop-chunk.chunk-iterator) _ c.in-None.ensures.steps.0
+    c.loop-chunk.invariant.total

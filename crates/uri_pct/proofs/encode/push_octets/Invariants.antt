@@ -3,4 +3,5 @@ use Rattle.uri_pct.specs.Tokens.{Octet, print}
 use Rattle.uri_pct.proofs.encode.push_octets.Given as goal
 
 abbrev pub invariant-loop-byte : goal.invariant-loop-byte
-invariant-loop-byte l = string_bytes l.out ≡ string_bytes l.fn.out ++ print (map Octet (take l.byte-index l.bytes))
+invariant-loop-byte l = string_bytes l.out
+    ≡ string_bytes l.fn.out ++ print (map Octet (take l.byte-index l.bytes))

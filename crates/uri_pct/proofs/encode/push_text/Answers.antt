@@ -8,15 +8,22 @@ use Rattle.uri_pct.proofs.ValidTexts.KeptFronts.{run_step, whole_written}
 use Rattle.uri_pct.proofs.encode.push_text.Goals as goal
 
 pub loop-done-init : goal.loop-done-init
-loop-done-init c = record { boundary = IsCharBoundary-start c.args.text.now c.utf8.text; total = refl; keeps = take_all _ (string_bytes c.args.out.now) (omega arith) }
+loop-done-init c = record {
+  boundary = IsCharBoundary-start c.args.text.now c.utf8.text;
+  total =
+      refl;
+  keeps = take_all _ (string_bytes c.args.out.now) (omega arith);
+}
 
 pub returns-in_err-push_octets-clause-keeps : goal.returns-in_err-push_octets-clause-keeps
 returns-in_err-push_octets-clause-keeps c =
     let old = string_bytes c.args.out.now in
-    let copied : string_bytes c.push_str.new.self ≡ string_bytes c.loop-done.out ++ c.range.result.now = c.in_ok-push_str.ensures.bytes in
+    let copied : string_bytes c.push_str.new.self
+    ≡ string_bytes c.loop-done.out ++ c.range.result.now = c.in_ok-push_str.ensures.bytes in
     let mid = ap (take (length old)) copied
     ∙ kept_more old (string_bytes c.loop-done.out) c.range.result.now c.loop-done.invariant.keeps in
-    kept_on old (string_bytes c.push_str.new.self) (string_bytes c.push_octets.new.out) mid c.in_err-push_octets.ensures.keeps
+    kept_on old (string_bytes c.push_str.new.self) (string_bytes c.push_octets.new.out) mid
+    c.in_err-push_octets.ensures.keeps
 
 pub loop-done-preserved : goal.loop-done-preserved
 loop-done-preserved c =
@@ -33,12 +40,19 @@ loop-done-preserved c =
     ∙ ap (λ x. out ++ x) c.range.ensures.value in
     let octets : new ≡ mid ++ print (map Octet (take (next - end) (drop end text))) =
     c.in_ok-push_octets.ensures.ok
-    ∙ ap (λ x. mid ++ print (map Octet (take (next - end) (drop end x)))) c.as_bytes.ensures.value in
+    ∙ ap (λ x. mid ++ print (map Octet (take (next - end) (drop end x))))
+    c.as_bytes.ensures.value in
     record {
       boundary = c.refused_end-next.ensures.boundary;
-      total = run_step (set_of c.args.table.now) out mid new text _ done end next c.kept_end-end.ensures.kept c.refused_end-next.ensures.octets copied octets c.loop-done.invariant.total;
-      keeps = kept_on old mid new (ap (take (length old)) pushed ∙ kept_more old out c.range.result.now c.loop-done.invariant.keeps) c.in_ok-push_octets.ensures.keeps;
+      total = run_step (set_of c.args.table.now) out mid new text _ done end next
+          c.kept_end-end.ensures.kept c.refused_end-next.ensures.octets copied octets
+          c.loop-done.invariant.total;
+      keeps = kept_on old mid new (ap (take (length old)) pushed
+          ∙ kept_more old out c.range.result.now c.loop-done.invariant.keeps)
+          c.in_ok-push_octets.ensures.keeps;
     }
 
 pub returns-clause-ok : goal.returns-clause-ok
-returns-clause-ok c = whole_written (set_of c.args.table.now) (string_bytes c.loop-done.out) c.args.text.now _ c.loop-done.done (omega (arith, c.loop-done-test.false)) c.loop-done.invariant.total
+returns-clause-ok c = whole_written (set_of c.args.table.now) (string_bytes c.loop-done.out)
+    c.args.text.now _ c.loop-done.done (omega (arith, c.loop-done-test.false))
+    c.loop-done.invariant.total

@@ -7,7 +7,12 @@ use Rattle.uri_pct.proofs.ValidTexts.KeptFronts.{none_refused, refused_more, som
 use Rattle.uri_pct.proofs.encode.refused_end.Goals as goal
 
 pub loop-end-init : goal.loop-end-init
-loop-end-init c = record { from = omega arith; boundary = c.requires; octets = none_refused (set_of c.args.table.now) c.args.text.now c.args.start }
+loop-end-init c = record {
+  from = omega arith;
+  boundary = c.requires;
+  octets =
+      none_refused (set_of c.args.table.now) c.args.text.now c.args.start;
+}
 
 pub loop-end-preserved : goal.loop-end-preserved
 loop-end-preserved c =
@@ -16,13 +21,19 @@ loop-end-preserved c =
     let ch = c.char_at-ch.result in
     let before = c.loop-end.invariant in
     let u = IsUtf8-drop text end c.utf8.text before.boundary in
-    let place : end + c.len_utf8-end.result ≡ end + len_utf8 ch = ap (λ n. end + n) c.len_utf8-end.ensures.value in
+    let place : end + c.len_utf8-end.result ≡ end + len_utf8 ch =
+    ap (λ n. end + n) c.len_utf8-end.ensures.value in
     record {
       from = omega (arith, before.from);
-      boundary = subst (IsCharBoundary text) (sym place) (IsCharBoundary-past_char text (drop (end + len_utf8 ch) text) end ch (omega arith) u c.char_at-ch.ensures);
-      octets = refused_more (set_of c.args.table.now) text c.args.start end _ ch u before.from c.char_at-ch.ensures place (sym c.allows.ensures ∙ c.if-allows.false) before.octets;
+      boundary = subst (IsCharBoundary text) (sym place)
+          (IsCharBoundary-past_char text (drop (end + len_utf8 ch) text) end ch (omega arith) u
+          c.char_at-ch.ensures);
+      octets = refused_more (set_of c.args.table.now) text c.args.start end _ ch u before.from
+          c.char_at-ch.ensures place (sym c.allows.ensures ∙ c.if-allows.false) before.octets;
     }
 
 pub returns-then-allows-clause-goes : goal.returns-then-allows-clause-goes
 returns-then-allows-clause-goes c = λ inside first.
-    some_refused (set_of c.args.table.now) c.args.text.now c.args.start c.loop-end.end c.char_at-ch.result c.loop-end.invariant.from c.char_at-ch.ensures (sym c.allows.ensures ∙ c.if-allows.true) first
+    some_refused (set_of c.args.table.now) c.args.text.now c.args.start c.loop-end.end
+    c.char_at-ch.result c.loop-end.invariant.from c.char_at-ch.ensures
+    (sym c.allows.ensures ∙ c.if-allows.true) first

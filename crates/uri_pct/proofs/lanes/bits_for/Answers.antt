@@ -11,8 +11,11 @@ places : (v : List ℕ) → length v ≡ 16
 places v long = zip2_splat bit_and v 16 135 long
 
 pub swizzle : goal.swizzle
-swizzle c = subst (SwzOk w8 16 16 0) (sym (places c.args.lanes c.fits-lanes.0)) (swizzles bit_list c.args.lanes (λ b. bit_and b 135) bit_of c.fits-lanes.0 c.fits-lanes.1 bit_place)
+swizzle c = subst (SwzOk w8 16 16 0) (sym (places c.args.lanes c.fits-lanes.0))
+    (swizzles bit_list c.args.lanes (λ b. bit_and b 135) bit_of c.fits-lanes.0 c.fits-lanes.1
+    bit_place)
 
 pub returns : goal.returns
 returns c = ap (swz_l w8 16 bit_list 0) (places c.args.lanes c.fits-lanes.0)
-    ∙ looked_up bit_list c.args.lanes (λ b. bit_and b 135) bit_of c.fits-lanes.0 c.fits-lanes.1 bit_there
+    ∙ looked_up bit_list c.args.lanes (λ b. bit_and b 135) bit_of c.fits-lanes.0 c.fits-lanes.1
+    bit_there

@@ -20,10 +20,13 @@ places v long =
 pub swizzle : goal.swizzle
 swizzle c =
     let xs = bytes_of_masks c.args.low c.args.high in
-    subst (SwzOk w8 16 16 0) (sym (places c.args.lanes c.fits-lanes.0)) (swizzles xs c.args.lanes (λ b. b / 8 % 16) (λ b. get_or xs (b / 8 % 16) 0) c.fits-lanes.0 c.fits-lanes.1 byte_place)
+    subst (SwzOk w8 16 16 0) (sym (places c.args.lanes c.fits-lanes.0))
+    (swizzles xs c.args.lanes (λ b. b / 8 % 16) (λ b. get_or xs (b / 8 % 16) 0) c.fits-lanes.0
+    c.fits-lanes.1 byte_place)
 
 pub returns : goal.returns
 returns c =
     let xs = bytes_of_masks c.args.low c.args.high in
     ap (swz_l w8 16 xs 0) (places c.args.lanes c.fits-lanes.0)
-    ∙ looked_up xs c.args.lanes (λ b. b / 8 % 16) (λ b. get_or xs (b / 8 % 16) 0) c.fits-lanes.0 c.fits-lanes.1 (byte_there xs)
+    ∙ looked_up xs c.args.lanes (λ b. b / 8 % 16) (λ b. get_or xs (b / 8 % 16) 0) c.fits-lanes.0
+    c.fits-lanes.1 (byte_there xs)

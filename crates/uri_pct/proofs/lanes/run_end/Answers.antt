@@ -10,7 +10,9 @@ use Rattle.uri_pct.proofs.lanes.run_end.Goals as goal
 block : (low high : ℕ) (bs : List ℕ) (i mask : ℕ) → i + 16 ≤ length bs
     → mask ≡ mask_l (map (λ b. not (has_bit low high b)) (chunk i 16 bs))
     → LaneMarks (has_bit low high) bs i 16 mask
-block low high bs i mask room e = subst (LaneMarks (has_bit low high) bs i 16) (sym e) (marks_of_load (has_bit low high) bs i 16 room)
+block low high bs i mask room e =
+    subst (LaneMarks (has_bit low high) bs i 16) (sym e)
+    (marks_of_load (has_bit low high) bs i 16 room)
 
 behind : (low high : ℕ) (bs : List ℕ) (i mask : ℕ) → 16 ≤ length bs → i ≤ length bs
     → length bs ≤ i + 16
@@ -22,33 +24,44 @@ behind low high bs i mask long within near e =
     let here : length bs - 16 + s ≡ i = omega arith in
     subst (λ n. LaneMarks (has_bit low high) bs n (length bs - i) (mask / 2 ^ s)) here
     (marks_behind (has_bit low high) bs (length bs - 16) (length bs - i) s mask
-    (subst (λ n. LaneMarks (has_bit low high) bs (length bs - 16) n mask) (sym whole) (block low high bs (length bs - 16) mask (omega arith) e)))
+    (subst (λ n. LaneMarks (has_bit low high) bs (length bs - 16) n mask) (sym whole)
+    (block low high bs (length bs - 16) mask (omega arith) e)))
 
 pub returns-then-mask-ne0 : goal.returns-then-mask-ne0
 returns-then-mask-ne0 c =
     let bs = c.args.bytes.now in
-    let room : c.loop-i.i + 16 ≤ length bs = omega (arith, c.loop-i.invariant.within, c.loop-i-test.true) in
-    ends_there _ bs c.args.start c.loop-i.i 16 _ (block _ _ bs c.loop-i.i _ room c.outside-mask.ensures) c.loop-i.invariant.pass (omega (arith, c.if-mask-ne0.true)) (omega arith) c.loop-i.invariant.from room
+    let room : c.loop-i.i + 16 ≤ length bs =
+    omega (arith, c.loop-i.invariant.within, c.loop-i-test.true) in
+    ends_there _ bs c.args.start c.loop-i.i 16 _
+    (block _ _ bs c.loop-i.i _ room c.outside-mask.ensures) c.loop-i.invariant.pass
+    (omega (arith, c.if-mask-ne0.true)) (omega arith) c.loop-i.invariant.from room
 
 pub loop-i-preserved : goal.loop-i-preserved
 loop-i-preserved c =
     let bs = c.args.bytes.now in
-    let room : c.loop-i.i + 16 ≤ length bs = omega (arith, c.loop-i.invariant.within, c.loop-i-test.true) in
+    let room : c.loop-i.i + 16 ≤ length bs =
+    omega (arith, c.loop-i.invariant.within, c.loop-i-test.true) in
     record {
       from = omega (arith, c.loop-i.invariant.from);
       within = room;
-      pass = goes_on _ bs c.args.start c.loop-i.i 16 _ (block _ _ bs c.loop-i.i _ room c.outside-mask.ensures) c.loop-i.invariant.pass (omega (arith, c.if-mask-ne0.false));
+      pass = goes_on _ bs c.args.start c.loop-i.i 16 _
+          (block _ _ bs c.loop-i.i _ room c.outside-mask.ensures) c.loop-i.invariant.pass
+          (omega (arith, c.if-mask-ne0.false));
     }
 
 pub returns-then-mask-eq0 : goal.returns-then-mask-eq0
 returns-then-mask-eq0 c =
     let bs = c.args.bytes.now in
     let i = c.loop-i.i in
-    let m = behind c.args.low c.args.high bs i c.outside-tail.result (omega (arith, c.requires.long)) c.loop-i.invariant.within (omega (arith, c.loop-i.invariant.within, c.loop-i-test.false)) c.outside-tail.ensures in
+    let m = behind c.args.low c.args.high bs i c.outside-tail.result
+    (omega (arith, c.requires.long)) c.loop-i.invariant.within
+    (omega (arith, c.loop-i.invariant.within, c.loop-i-test.false))
+    c.outside-tail.ensures in
     record {
       from = omega (arith, c.requires.within);
       within = omega arith;
-      pass = λ k from to. goes_on _ bs c.args.start i (length bs - i) _ m c.loop-i.invariant.pass c.if-mask-eq0.true k from (omega (arith, c.loop-i.invariant.within));
+      pass = λ k from to. goes_on _ bs c.args.start i (length bs - i) _ m c.loop-i.invariant.pass
+          c.if-mask-eq0.true k from (omega (arith, c.loop-i.invariant.within));
       stop = λ h. absurd (omega arith);
     }
 
@@ -56,5 +69,10 @@ pub returns : goal.returns
 returns c =
     let bs = c.args.bytes.now in
     let i = c.loop-i.i in
-    let m = behind c.args.low c.args.high bs i c.outside-tail.result (omega (arith, c.requires.long)) c.loop-i.invariant.within (omega (arith, c.loop-i.invariant.within, c.loop-i-test.false)) c.outside-tail.ensures in
-    ends_there _ bs c.args.start i (length bs - i) _ m c.loop-i.invariant.pass (omega (arith, c.if-mask-eq0.false)) (omega (arith, c.loop-i-test.false)) c.loop-i.invariant.from (omega (arith, c.loop-i.invariant.within))
+    let m = behind c.args.low c.args.high bs i c.outside-tail.result
+    (omega (arith, c.requires.long)) c.loop-i.invariant.within
+    (omega (arith, c.loop-i.invariant.within, c.loop-i-test.false))
+    c.outside-tail.ensures in
+    ends_there _ bs c.args.start i (length bs - i) _ m c.loop-i.invariant.pass
+    (omega (arith, c.if-mask-eq0.false)) (omega (arith, c.loop-i-test.false))
+    c.loop-i.invariant.from (omega (arith, c.loop-i.invariant.within))

@@ -15,20 +15,28 @@ returns-then-open-eq0-clause-spelt c =
     let bs = c.args.bytes.now in
     let i = c.args.at in
     let room : i + 16 ≤ length bs = c.requires in
-    let marks = subst (LaneMarks (has_bit c.args.low c.args.high) bs i 16) (sym c.outside.ensures) (marks_of_load (has_bit c.args.low c.args.high) bs i 16 room) in
-    are_spelt _ bs i c.octet_starts-starts.result c.outside.result 16 c.octet_starts-starts.type_inv (omega arith) c.octet_starts-starts.ensures marks
-    (λ k h. ap (λ m. eqb (bit_at m k) 1) c.if-open-eq0.true ∙ ap (λ m. eqb m 1) (bit_at-zero k)) (λ h. absurd (omega arith))
+    let marks = subst (LaneMarks (has_bit c.args.low c.args.high) bs i 16) (sym c.outside.ensures)
+    (marks_of_load (has_bit c.args.low c.args.high) bs i 16 room) in
+    are_spelt _ bs i c.octet_starts-starts.result c.outside.result 16 c.octet_starts-starts.type_inv
+    (omega arith) c.octet_starts-starts.ensures marks
+    (λ k h. ap (λ m. eqb (bit_at m k) 1) c.if-open-eq0.true ∙ ap (λ m. eqb m 1) (bit_at-zero k))
+    (λ h. absurd (omega arith))
 
 -- the first lane that is open
 first : (misses begun : ℕ) → misses < 2 ^ 16 → (opened misses begun ≡ 0 → ⊥)
     → (trailing_zeros w64 (opened misses begun) < 16)
     × (bit_at (opened misses begun) (trailing_zeros w64 (opened misses begun)) ≡ 1)
     × ((k : ℕ) → k < trailing_zeros w64 (opened misses begun) → bit_at (opened misses begun) k ≡ 0)
-first misses begun small some = first_lane (opened misses begun) (omega (arith, small, and_le_l misses (bit_not w64 (covered begun)))) some
+first misses begun small some =
+    first_lane (opened misses begun)
+    (omega (arith, small, and_le_l misses (bit_not w64 (covered begun)))) some
 
 pub returns-clause-few : goal.returns-clause-few
 returns-clause-few c =
-    let small : c.outside.result < 2 ^ 16 = (subst (LaneMarks (has_bit c.args.low c.args.high) c.args.bytes.now c.args.at 16) (sym c.outside.ensures) (marks_of_load (has_bit c.args.low c.args.high) c.args.bytes.now c.args.at 16 c.requires)).below in
+    let small : c.outside.result < 2 ^ 16 =
+    (subst (LaneMarks (has_bit c.args.low c.args.high) c.args.bytes.now c.args.at 16)
+    (sym c.outside.ensures) (marks_of_load (has_bit c.args.low c.args.high) c.args.bytes.now
+    c.args.at 16 c.requires)).below in
     let f = (first c.outside.result c.octet_starts-starts.result small c.if-open-eq0.false).0 in
     omega arith
 
@@ -37,8 +45,11 @@ returns-clause-spelt c =
     let bs = c.args.bytes.now in
     let i = c.args.at in
     let room : i + 16 ≤ length bs = c.requires in
-    let marks = subst (LaneMarks (has_bit c.args.low c.args.high) bs i 16) (sym c.outside.ensures) (marks_of_load (has_bit c.args.low c.args.high) bs i 16 room) in
+    let marks = subst (LaneMarks (has_bit c.args.low c.args.high) bs i 16) (sym c.outside.ensures)
+    (marks_of_load (has_bit c.args.low c.args.high) bs i 16 room) in
     let f = first c.outside.result c.octet_starts-starts.result marks.below c.if-open-eq0.false in
-    let few : trailing_zeros w64 (opened c.outside.result c.octet_starts-starts.result) < 16 = f.0 in
-    are_spelt _ bs i c.octet_starts-starts.result c.outside.result _ c.octet_starts-starts.type_inv (omega arith) c.octet_starts-starts.ensures marks
+    let few : trailing_zeros w64 (opened c.outside.result c.octet_starts-starts.result) < 16 =
+    f.0 in
+    are_spelt _ bs i c.octet_starts-starts.result c.outside.result _ c.octet_starts-starts.type_inv
+    (omega arith) c.octet_starts-starts.ensures marks
     (λ k h. ap (λ m. eqb m 1) (f.2 k h)) (λ h. eq-eqb _ _ f.1)

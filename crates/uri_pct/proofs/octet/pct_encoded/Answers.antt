@@ -5,10 +5,12 @@ use Rattle.uri_pct.proofs.Decodings.OctetTexts.{octet_entry, octets_ascii}
 use Rattle.uri_pct.proofs.octet.pct_encoded.Goals as goal
 
 pub range-requires-clause-start_boundary : goal.range-requires-clause-start_boundary
-range-requires-clause-start_boundary c = λ _. IsCharBoundary-from_ascii OCTETS.now _ octets_ascii (omega arith)
+range-requires-clause-start_boundary c =
+    λ _. IsCharBoundary-from_ascii OCTETS.now _ octets_ascii (omega arith)
 
 pub range-requires-clause-end_boundary : goal.range-requires-clause-end_boundary
-range-requires-clause-end_boundary c = IsCharBoundary-from_ascii OCTETS.now _ octets_ascii (omega arith)
+range-requires-clause-end_boundary c =
+    IsCharBoundary-from_ascii OCTETS.now _ octets_ascii (omega arith)
 
 pub returns : goal.returns
 returns c =

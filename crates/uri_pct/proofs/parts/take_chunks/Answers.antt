@@ -12,14 +12,25 @@ loop-chunk-preserved g c = λ u h.
     let fault = utf8_chunk_invalid c.in-Some.chunk in
     let behind = utf8_chunks_rest c.next.new.self in
     let steps = c.in-Some.ensures.steps in
-    let pieces : utf8_pieces (utf8_chunks_rest c.loop-chunk.chunk-iterator) ≡ (utf8_pieces text ++ fault_pieces fault) ++ utf8_pieces behind =
+    let pieces : utf8_pieces (utf8_chunks_rest c.loop-chunk.chunk-iterator)
+    ≡ (utf8_pieces text ++ fault_pieces fault) ++ utf8_pieces behind =
     chunk_pieces _ text fault behind steps.0 steps.3.0 steps.3.1 steps.2 in
-    let handed : map Read (utf8_pieces c.valid.result.now ++ fault_pieces c.invalid.result.now) ++ map Read (utf8_pieces behind) ≡ map Read (utf8_pieces (utf8_chunks_rest c.loop-chunk.chunk-iterator)) =
-    rw (c.valid.ensures, c.invalid.ensures) (sym (map-append Read (utf8_pieces text ++ fault_pieces fault) (utf8_pieces behind)) ∙ ap (map Read) (sym pieces)) in
-    c.loop-chunk.invariant u (subst (λ ps. g.T.TakeParts.took c.loop-chunk.taker ps u) handed (g.met.T.TakeParts.takes_on c.loop-chunk.taker c.take_chunk.new.taker u _ _ c.in_ok-take_chunk.ensures h))
+    let handed : map Read (utf8_pieces c.valid.result.now ++ fault_pieces c.invalid.result.now)
+    ++ map Read (utf8_pieces behind)
+    ≡ map Read (utf8_pieces (utf8_chunks_rest c.loop-chunk.chunk-iterator)) =
+    rw (c.valid.ensures, c.invalid.ensures)
+    (sym (map-append Read (utf8_pieces text ++ fault_pieces fault) (utf8_pieces behind))
+    ∙ ap (map Read) (sym pieces)) in
+    c.loop-chunk.invariant u (subst (λ ps. g.T.TakeParts.took c.loop-chunk.taker ps u) handed
+    (g.met.T.TakeParts.takes_on c.loop-chunk.taker c.take_chunk.new.taker u _ _
+    c.in_ok-take_chunk.ensures h))
 
 pub returns : goal.returns
 returns g c =
-    let none : utf8_pieces (utf8_chunks_rest c.loop-chunk.chunk-iterator) ≡ [] = ap utf8_pieces (nil_from_length (utf8_chunks_rest c.loop-chunk.chunk-iterator) c.in-None.ensures.steps.0)
+    let none : utf8_pieces (utf8_chunks_rest c.loop-chunk.chunk-iterator) ≡ [] =
+    ap utf8_pieces (nil_from_length (utf8_chunks_rest c.loop-chunk.chunk-iterator)
+    c.in-None.ensures.steps.0)
     ∙ nil_pieces in
-    c.loop-chunk.invariant c.loop-chunk.taker (subst (λ ps. g.T.TakeParts.took c.loop-chunk.taker (map Read ps) c.loop-chunk.taker) (sym none) (g.met.T.TakeParts.takes_nothing c.loop-chunk.taker))
+    c.loop-chunk.invariant c.loop-chunk.taker
+    (subst (λ ps. g.T.TakeParts.took c.loop-chunk.taker (map Read ps) c.loop-chunk.taker)
+    (sym none) (g.met.T.TakeParts.takes_nothing c.loop-chunk.taker))

@@ -6,4 +6,6 @@ use Rattle.uri_pct.proofs.parts.take_chunks.Given as goal
 
 abbrev pub invariant-loop-chunk : goal.invariant-loop-chunk
 invariant-loop-chunk g l =
-    (u : _) → g.T.TakeParts.took l.taker (map Read (utf8_pieces (utf8_chunks_rest l.chunk-iterator))) u → g.T.TakeParts.took l.fn.taker (map Read (utf8_pieces l.run)) u
+    (u : _) → g.T.TakeParts.took l.taker
+    (map Read (utf8_pieces (utf8_chunks_rest l.chunk-iterator))) u
+    → g.T.TakeParts.took l.fn.taker (map Read (utf8_pieces l.run)) u

@@ -1,6 +1,6 @@
 use Rattle.std.proofs.Common.{◌∷◌, [], map, sym, subst}
 use Rattle.std.proofs.lemmas.Result.{on_ok_weaker}
-use Rattle.uri_pct.specs.DecodedChunks.{chunk_of}
+use Rattle.uri_pct.specs.Decodes.{chunk_of}
 use Rattle.uri_pct.specs.Models.Windows.{held}
 use Rattle.uri_pct.specs.Parts.{Plain, Read, parts_from}
 use Rattle.uri_pct.specs.Pieces.{utf8_pieces}

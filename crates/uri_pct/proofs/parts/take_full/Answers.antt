@@ -13,9 +13,16 @@ returns-clause-taken g c = λ u behind h.
     let n : ℕ = length bytes - unfinished_len bytes in
     let start = c.args.taker.now in
     let middle = c.take_run.new.taker in
-    let kept : c.unfinished_len-kept.result ≡ unfinished_len bytes = c.unfinished_len-kept.ensures.value
+    let kept : c.unfinished_len-kept.result ≡ unfinished_len bytes =
+    c.unfinished_len-kept.ensures.value
     ∙ ap unfinished_len c.as_slice-bytes.ensures in
-    let front : take (length c.as_slice-bytes.result.now - c.unfinished_len-kept.result) c.as_slice-bytes.result.now ≡ take n bytes = rw (kept, c.as_slice-bytes.ensures) refl in
-    let first : took start (map Read (utf8_pieces (take n bytes))) middle = subst (λ items. took start (map Read (utf8_pieces items)) middle) front c.in_ok-take_run.ensures in
-    let rest : took middle (parts_from (drop n bytes) behind) u = subst (λ items. took middle (parts_from items behind) u) (c.keep_last.ensures ∙ ap (λ k. drop (length bytes - k) bytes) kept) h in
-    subst (λ ps. took start ps u) (sym (cut_unfinished bytes behind)) (g.met.T.TakeParts.takes_on start middle u _ _ first rest)
+    let front : take (length c.as_slice-bytes.result.now - c.unfinished_len-kept.result)
+    c.as_slice-bytes.result.now ≡ take n bytes = rw (kept, c.as_slice-bytes.ensures) refl in
+    let first : took start (map Read (utf8_pieces (take n bytes))) middle =
+    subst (λ items. took start (map Read (utf8_pieces items)) middle) front
+    c.in_ok-take_run.ensures in
+    let rest : took middle (parts_from (drop n bytes) behind) u =
+    subst (λ items. took middle (parts_from items behind) u)
+    (c.keep_last.ensures ∙ ap (λ k. drop (length bytes - k) bytes) kept) h in
+    subst (λ ps. took start ps u) (sym (cut_unfinished bytes behind))
+    (g.met.T.TakeParts.takes_on start middle u _ _ first rest)

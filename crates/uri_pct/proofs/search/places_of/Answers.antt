@@ -7,4 +7,5 @@ pub returns : goal.returns
 returns c =
     let bs = c.args.bytes.now in
     let i = c.args.at in
-    bitmask_splat w8 eqb (chunk i 16 bs) 16 c.args.byte (length-chunk i 16 bs c.requires) (omega arith)
+    bitmask_splat w8 eqb (chunk i 16 bs) 16 c.args.byte (length-chunk i 16 bs c.requires)
+    (omega arith)

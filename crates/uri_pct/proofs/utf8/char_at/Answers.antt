@@ -6,6 +6,8 @@ pub returns : goal.returns
 returns c =
     let bs = c.args.text.now in
     let i = c.args.index in
-    let s : drop i bs ≡ encode_utf8 c.in-Some.ch ++ c.next.new.self.rest.now = sym c.range_from.ensures.value
+    let s : drop i bs ≡ encode_utf8 c.in-Some.ch ++ c.next.new.self.rest.now =
+    sym c.range_from.ensures.value
     ∙ sym c.chars.ensures.rest ∙ c.in-Some.ensures.steps.0 in
-    s ∙ ap (λ t. encode_utf8 c.in-Some.ch ++ t) (sym (drop_past_char bs c.next.new.self.rest.now i c.in-Some.ch s))
+    s ∙ ap (λ t. encode_utf8 c.in-Some.ch ++ t)
+    (sym (drop_past_char bs c.next.new.self.rest.now i c.in-Some.ch s))

@@ -1,6 +1,6 @@
 use Rattle.std.proofs.Common.{◌∙◌}
 use Rattle.uri_ops.proofs.TextKinds.Conversions.{iri_ref_means, iri_ref_means_under}
-use Rattle.fluent_uri.specs.IriRefs.{iri_ref_text}
+use Rattle.fluent_uri.specs.Iris.{iri_ref_text}
 use Rattle.fluent_uri.proofs.iri_ref.IriRef.to_uri_ref.Goals as goal
 
 pub returns-clause-text : goal.returns-clause-text

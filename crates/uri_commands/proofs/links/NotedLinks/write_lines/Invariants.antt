@@ -6,4 +6,5 @@ use Rattle.uri_commands.proofs.links.NotedLinks.write_lines.Given as goal
 
 -- the lines of the outcomes so far
 abbrev pub invariant-loop-outcome : goal.invariant-loop-outcome
-invariant-loop-outcome g l = Appends (g.O.Write.contents l.initial.out) (g.O.Write.contents l.out) (outcome_lines (texts_of l.self.register) (take l.outcome-index l.self.outcomes.items))
+invariant-loop-outcome g l = Appends (g.O.Write.contents l.initial.out) (g.O.Write.contents l.out)
+    (outcome_lines (texts_of l.self.register) (take l.outcome-index l.self.outcomes.items))

@@ -5,5 +5,6 @@ use Rattle.uri_commands.proofs.refusal.Refusal.line.Goals as goal
 
 pub returns : goal.returns
 returns c =
-    contents_after_writes _ (λ line. line.bytes) (λ _ _ _ appended. appended) _ _ _ c.in_ok-writeln.ensures.writes
+    contents_after_writes _ (λ line. line.bytes) (λ _ _ _ appended. appended) _ _ _
+    c.in_ok-writeln.ensures.writes
     ∙ ap (λ empty. empty ++ error_line c.args.self) c.new-line.ensures

@@ -20,5 +20,6 @@ pub invariant_of-self-in-Ok-clause-placed : goal.invariant_of-self-in-Ok-clause-
 invariant_of-self-in-Ok-clause-placed g c =
     let e = ap (map uri_text) c.in_ok-push.ensures.items
     ∙ map-append uri_text c.args.self.now.targets.items (c.args.target ∷ []) in
-    place_after _ _ c.in_ok-text.text c.args.self.now.places c.insert.new.self _ c.len-id.result e (c.in_ok-text.ensures.ok ∙ c.as_str.ensures.text) c.len-id.ensures
+    place_after _ _ c.in_ok-text.text c.args.self.now.places c.insert.new.self _ c.len-id.result e
+    (c.in_ok-text.ensures.ok ∙ c.as_str.ensures.text) c.len-id.ensures
     c.in-Ok.ensures.updates c.args.self.now.placed c.requires.new

@@ -1,5 +1,5 @@
 use Rattle.std.proofs.Common.{◌+◌, ◌∙◌, ap, map, take, refl, sym}
-use Rattle.fluent_uri.specs.UriRefs.{uri_ref_text}
+use Rattle.fluent_uri.specs.Uris.{uri_ref_text}
 use Rattle.fluent_uri.specs.Uris.{uri_text}
 use Rattle.uri_links.specs.Registers.{port_function_of, texts_of}
 use Rattle.uri_links.proofs.Ids.{ids}
@@ -8,34 +8,55 @@ use Rattle.uri_links.proofs.links.Register.note_all.Goals as goal
 
 pub returns-in_err-outcomes-clause-front : goal.returns-in_err-outcomes-clause-front
 returns-in_err-outcomes-clause-front g c =
-    front uri_ref_text _ _ c.args.references.now c.from_residual.result _ 0 _ _ (none uri_ref_text (uri_text c.args.base.now) (texts_of c.args.self.now) c.args.references.now (port_function_of c.args.self.now))
+    front uri_ref_text _ _ c.args.references.now c.from_residual.result _ 0 _ _
+    (none uri_ref_text (uri_text c.args.base.now) (texts_of c.args.self.now)
+    c.args.references.now (port_function_of c.args.self.now))
 
 pub returns-in_err-outcome-clause-front : goal.returns-in_err-outcome-clause-front
 returns-in_err-outcome-clause-front g c =
-    front uri_ref_text _ _ c.args.references.now c.from_residual-in_err-outcome.result _ c.loop-reference.reference-index _ _ (c.loop-reference.invariant.noted ∙ ap (λ texts. (c.loop-reference.outcomes.items, texts)) (sym c.in_err-outcome.ensures.kept))
+    front uri_ref_text _ _ c.args.references.now c.from_residual-in_err-outcome.result _
+    c.loop-reference.reference-index _ _
+    (c.loop-reference.invariant.noted
+    ∙ ap (λ texts. (c.loop-reference.outcomes.items, texts))
+    (sym c.in_err-outcome.ensures.kept))
 
 pub loop-reference-init : goal.loop-reference-init
 loop-reference-init g c = record {
   ports = refl;
-  noted = none uri_ref_text (uri_text c.args.base.now) (texts_of c.args.self.now) c.args.references.now (port_function_of c.args.self.now)
+  noted = none uri_ref_text (uri_text c.args.base.now) (texts_of c.args.self.now)
+      c.args.references.now (port_function_of c.args.self.now)
       ∙ ap (λ outcomes. (outcomes, texts_of c.args.self.now)) (sym c.in_ok-outcomes.ensures.items);
 }
 
 pub returns-in_err-push-clause-front : goal.returns-in_err-push-clause-front
 returns-in_err-push-clause-front g c =
-    front uri_ref_text _ _ c.args.references.now c.from_residual-in_err-push.result _ (c.loop-reference.reference-index + 1) _ _
-    (next uri_ref_text (uri_text c.args.base.now) (texts_of c.args.self.now) c.args.references.now (port_function_of c.args.self.now) (port_function_of c.loop-reference.self) c.loop-reference.reference-index c.reference-item.result
-    c.loop-reference.outcomes.items (texts_of c.loop-reference.self) (texts_of c.note.new.self) c.in_ok-outcome.outcome c.loop-reference-test.true c.reference-item.is c.loop-reference.invariant.ports c.loop-reference.invariant.noted c.in_ok-outcome.ensures.noted)
+    front uri_ref_text _ _ c.args.references.now c.from_residual-in_err-push.result _
+    (c.loop-reference.reference-index + 1) _ _
+    (next uri_ref_text (uri_text c.args.base.now) (texts_of c.args.self.now) c.args.references.now
+    (port_function_of c.args.self.now) (port_function_of c.loop-reference.self)
+    c.loop-reference.reference-index c.reference-item.result
+    c.loop-reference.outcomes.items (texts_of c.loop-reference.self) (texts_of c.note.new.self)
+    c.in_ok-outcome.outcome c.loop-reference-test.true c.reference-item.is
+    c.loop-reference.invariant.ports c.loop-reference.invariant.noted
+    c.in_ok-outcome.ensures.noted)
 
 pub loop-reference-preserved : goal.loop-reference-preserved
 loop-reference-preserved g c = record {
   ports = c.note.ensures.ports ∙ c.loop-reference.invariant.ports;
-  noted = next uri_ref_text (uri_text c.args.base.now) (texts_of c.args.self.now) c.args.references.now (port_function_of c.args.self.now) (port_function_of c.loop-reference.self) c.loop-reference.reference-index c.reference-item.result
-      c.loop-reference.outcomes.items (texts_of c.loop-reference.self) (texts_of c.note.new.self) c.in_ok-outcome.outcome c.loop-reference-test.true c.reference-item.is c.loop-reference.invariant.ports c.loop-reference.invariant.noted c.in_ok-outcome.ensures.noted
+  noted = next uri_ref_text (uri_text c.args.base.now) (texts_of c.args.self.now)
+      c.args.references.now (port_function_of c.args.self.now)
+      (port_function_of c.loop-reference.self) c.loop-reference.reference-index
+      c.reference-item.result
+      c.loop-reference.outcomes.items (texts_of c.loop-reference.self) (texts_of c.note.new.self)
+      c.in_ok-outcome.outcome c.loop-reference-test.true c.reference-item.is
+      c.loop-reference.invariant.ports c.loop-reference.invariant.noted
+      c.in_ok-outcome.ensures.noted
       ∙ ap (λ outcomes. (outcomes, texts_of c.note.new.self)) (sym c.in_ok-push.ensures.items);
 }
 
 pub returns-clause-ids : goal.returns-clause-ids
 returns-clause-ids g c =
-    ids (port_function_of c.args.self.now) (uri_text c.args.base.now) (texts_of c.args.self.now) (map uri_ref_text (take c.loop-reference.reference-index c.args.references.now)) c.loop-reference.outcomes.items (texts_of c.loop-reference.self)
+    ids (port_function_of c.args.self.now) (uri_text c.args.base.now) (texts_of c.args.self.now)
+    (map uri_ref_text (take c.loop-reference.reference-index c.args.references.now))
+    c.loop-reference.outcomes.items (texts_of c.loop-reference.self)
     c.loop-reference.invariant.noted

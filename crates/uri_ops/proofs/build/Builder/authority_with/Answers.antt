@@ -2,5 +2,10 @@ use Rattle.std.proofs.Common.{◌∙◌}
 use Rattle.uri_ops.proofs.build.Builder.authority_with.Goals as goal
 
 pub returns : goal.returns
-returns g c =
-    (c.with_authority_begun.result, c.parts-done.result, c.with_authority_begun.ensures, c.parts-done.ensures, c.holding.ensures ∙ c.taken.ensures.same)
+returns g c = (
+  c.with_authority_begun.result,
+  c.parts-done.result,
+  c.with_authority_begun.ensures,
+  c.parts-done.ensures,
+  c.holding.ensures ∙ c.taken.ensures.same,
+)

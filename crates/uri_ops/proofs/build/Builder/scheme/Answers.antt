@@ -7,15 +7,23 @@ use Rattle.uri_ops.proofs.Builders.PartRules.{at_start, scheme_meets, scheme_sta
 use Rattle.uri_ops.proofs.build.Builder.scheme.Goals as goal
 
 pub with_scheme-requires : goal.with_scheme-requires
-with_scheme-requires g c = at_start g.R.RiMaybeRef.kind.needs_scheme (draft_parts c.taken.result) c.taken.ensures.before
+with_scheme-requires g c = at_start g.R.RiMaybeRef.kind.needs_scheme (draft_parts c.taken.result)
+    c.taken.ensures.before
 
 pub holding-requires-clause-rules : goal.holding-requires-clause-rules
 holding-requires-clause-rules g c =
-    scheme_meets g.R.RiMaybeRef.kind g.R.RiMaybeRef.kind.needs_scheme (draft_parts c.taken.result) (draft_parts c.with_scheme.result) c.as_str.result.now c.with_scheme.ensures.adds c.taken.ensures.rules (scheme_from c.as_str.result.now c.as_str.utf8 c.as_str.ensures.valid)
+    scheme_meets g.R.RiMaybeRef.kind g.R.RiMaybeRef.kind.needs_scheme (draft_parts c.taken.result)
+    (draft_parts c.with_scheme.result) c.as_str.result.now c.with_scheme.ensures.adds
+    c.taken.ensures.rules
+    (scheme_from c.as_str.result.now c.as_str.utf8 c.as_str.ensures.valid)
 
 pub holding-requires-clause-place : goal.holding-requires-clause-place
 holding-requires-clause-place g c =
-    scheme_stands g.R.RiMaybeRef.kind g.R.RiMaybeRef.kind.needs_scheme (draft_parts c.taken.result) (draft_parts c.with_scheme.result) c.as_str.result.now c.with_scheme.ensures.adds c.taken.ensures.before
+    scheme_stands g.R.RiMaybeRef.kind g.R.RiMaybeRef.kind.needs_scheme (draft_parts c.taken.result)
+    (draft_parts c.with_scheme.result) c.as_str.result.now c.with_scheme.ensures.adds
+    c.taken.ensures.before
 
 pub holding-requires-clause-host : goal.holding-requires-clause-host
-holding-requires-clause-host g c = kept_host (with_scheme c.as_str.result.now) c.taken.result c.with_scheme.result c.with_scheme.ensures.adds refl refl c.with_scheme.ensures.host c.taken.ensures.host
+holding-requires-clause-host g c =
+    kept_host (with_scheme c.as_str.result.now) c.taken.result c.with_scheme.result
+    c.with_scheme.ensures.adds refl refl c.with_scheme.ensures.host c.taken.ensures.host

@@ -1,5 +1,5 @@
 use Rattle.std.proofs.Common.{◌≡◌, ◌+◌, length, sym, ap, ◌∙◌, arith, option_map}
-use Rattle.uri_pct.specs.EStrs.{text_of}
+use Rattle.uri_pct.specs.EncodedTexts.{text_of}
 use Rattle.uri_parts.specs.AuthorityTexts.{authority_text}
 use Rattle.uri_parts.specs.Positions.{host_start_of, marked_length}
 use Rattle.uri_ops.proofs.Builders.DraftHosts.{placed}
@@ -11,11 +11,19 @@ returns g c =
     let a = authority_text c.args.authority in
     let start : c.match-userinfo.start ≡ host_start_of a = elim c.match-userinfo.branch [
       | in-Some w ↦
-          let same = ap (marked_length 1) (sym (ap (option_map text_of) w.in-Some.is) ∙ c.userinfo.ensures) in
+          let same = ap (marked_length 1)
+          (sym (ap (option_map text_of) w.in-Some.is) ∙ c.userinfo.ensures) in
           omega (arith, w.start-is, w.len.ensures, same)
       | in-None w ↦
-          let same = ap (marked_length 1) (sym (ap (option_map text_of) w.in-None.is) ∙ c.userinfo.ensures) in
+          let same = ap (marked_length 1)
+          (sym (ap (option_map text_of) w.in-None.is) ∙ c.userinfo.ensures) in
           omega (arith, w.start-is, same)
     ] in
     let host = ap length c.host-host_len.ensures in
-    placed g.U.Encoder.set g.N.Encoder.set (record { start = c.match-userinfo.start; end = c.match-userinfo.start + length c.host-host_len.result.now }) a c.args.authority.valid start (omega (arith, start, host))
+    placed g.U.Encoder.set g.N.Encoder.set
+    (record {
+      start = c.match-userinfo.start;
+      end =
+          c.match-userinfo.start + length c.host-host_len.result.now;
+    }) a c.args.authority.valid
+    start (omega (arith, start, host))

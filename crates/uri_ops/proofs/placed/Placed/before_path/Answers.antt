@@ -5,10 +5,13 @@ use Rattle.uri_ops.proofs.Targeting.PlacedTexts.{front_cut, front_piece}
 use Rattle.uri_ops.proofs.placed.Placed.before_path.Goals as goal
 
 pub range-requires-clause-end_boundary : goal.range-requires-clause-end_boundary
-range-requires-clause-end_boundary c = front_cut c.as_str-text.result.now c.args.self.now.positions c.as_str-text.utf8 c.as_str-text.ensures.at
+range-requires-clause-end_boundary c =
+    front_cut c.as_str-text.result.now c.args.self.now.positions c.as_str-text.utf8
+    c.as_str-text.ensures.at
 
 pub returns : goal.returns
 returns c =
     c.range.ensures.value
-    ∙ front_piece c.as_str-text.result.now c.args.self.now.positions c.as_str-text.utf8 c.as_str-text.ensures.at
+    ∙ front_piece c.as_str-text.result.now c.args.self.now.positions c.as_str-text.utf8
+    c.as_str-text.ensures.at
     ∙ ap (λ t. before_path (components t)) c.as_str-text.ensures.text

@@ -5,10 +5,13 @@ use Rattle.uri_ops.proofs.Targeting.PlacedTexts.{query_starts, behind_piece}
 use Rattle.uri_ops.proofs.placed.Placed.behind_path.Goals as goal
 
 pub range_from-requires : goal.range_from-requires
-range_from-requires c = λ _. query_starts c.as_str-text.result.now c.args.self.now.positions c.as_str-text.utf8 c.as_str-text.ensures.at
+range_from-requires c = λ _. query_starts c.as_str-text.result.now c.args.self.now.positions
+    c.as_str-text.utf8 c.as_str-text.ensures.at
 
 pub returns : goal.returns
 returns c =
     c.range_from.ensures.value
-    ∙ behind_piece c.as_str-text.result.now c.args.self.now.positions c.as_str-text.utf8 c.as_str-text.ensures.at
-    ∙ ap (λ t. marked (codes "?") (components t).query [] ++ marked (codes "#") (components t).fragment []) c.as_str-text.ensures.text
+    ∙ behind_piece c.as_str-text.result.now c.args.self.now.positions c.as_str-text.utf8
+    c.as_str-text.ensures.at
+    ∙ ap (λ t. marked (codes "?") (components t).query []
+    ++ marked (codes "#") (components t).fragment []) c.as_str-text.ensures.text

@@ -4,7 +4,7 @@ use Rattle.uri_pct.specs.Reading.{read_alone}
 use Rattle.uri_pct.specs.Tables.{set_of}
 use Rattle.uri_pct.specs.Tokens.{Octet, print}
 use Rattle.uri_ops.specs.Models.Readings.{cased}
-use Rattle.uri_ops.proofs.Meanings.ReadFronts.{ascii_part}
+use Rattle.uri_ops.proofs.Meanings.ReadOctets.{ascii_part}
 use Rattle.uri_ops.proofs.Meanings.TakenReadings.{grown}
 use Rattle.uri_ops.proofs.reading.ReadingTakeParts.take_ascii.Goals as goal
 

@@ -3,7 +3,7 @@ use Rattle.std.specs.Prelude.{is_ok}
 use Rattle.uri_parts.specs.Grammar.{IsOfKind}
 use Rattle.uri_ops.specs.Normalizers.{ports_of}
 use Rattle.uri_ops.specs.NormalTargets.{IsNormalTarget, IsRefusedAlike}
-use Rattle.uri_ops.specs.Resolvers.{base_of}
+use Rattle.uri_ops.specs.Resolving.{base_of}
 use Rattle.uri_ops.specs.declared.resolve.ResolveError.TheVariants.{OutOfMemory}
 use Rattle.uri_ops.proofs.Normal.NormalForms.{normal_is_of_kind, normal_form}
 use Rattle.uri_ops.proofs.Targeting.NormalTargets.{err_from, normal_target, refusal}
@@ -17,13 +17,16 @@ returns-in_err-target-clause-refusal g c =
     let reference = g.Q.RiMaybeRef.text c.args.reference.now in
     err_from c.from_residual.result _ (IsRefusedAlike kind g.Q.RiMaybeRef.kind ports base reference)
     (λ error h. subst (IsRefusedAlike kind g.Q.RiMaybeRef.kind ports base reference) (sym h)
-    (refusal kind g.Q.RiMaybeRef.kind g.met.R.RiMaybeRef.component_sets g.met.R.Ri.needs_scheme g.met.Q.RefOf.same_tables ports base reference
-    c.resolved_text.ensures.base c.resolved_text.ensures.reference c.in_err-target.field-0.0 c.in_err-target.ensures.error))
+    (refusal kind g.Q.RiMaybeRef.kind g.met.R.RiMaybeRef.component_sets g.met.R.Ri.needs_scheme
+    g.met.Q.RefOf.same_tables ports base reference
+    c.resolved_text.ensures.base c.resolved_text.ensures.reference c.in_err-target.field-0.0
+    c.in_err-target.ensures.error))
     c.from_residual.ensures.1
 
 pub normal_form_of-requires-clause-of_kind : goal.normal_form_of-requires-clause-of_kind
 normal_form_of-requires-clause-of_kind g c =
-    subst (λ k. IsOfKind k (string_bytes c.in_ok-target.target.text)) (sym g.met.R.RiMaybeRef.kind_is_its_own) c.in_ok-target.ensures.of_kind.grammar
+    subst (λ k. IsOfKind k (string_bytes c.in_ok-target.target.text))
+    (sym g.met.R.RiMaybeRef.kind_is_its_own) c.in_ok-target.ensures.of_kind.grammar
 
 pub returns-in_err-made-clause-refusal : goal.returns-in_err-made-clause-refusal
 returns-in_err-made-clause-refusal g c =
@@ -31,17 +34,23 @@ returns-in_err-made-clause-refusal g c =
     let ports = g.P.DefaultPort.port_of (ports_of c.args.normalizer.now) in
     let base = g.R.RiMaybeRef.text (base_of c.args.self.now) in
     let reference = g.Q.RiMaybeRef.text c.args.reference.now in
-    err_from c.from_residual-in_err-made.result _ (IsRefusedAlike kind g.Q.RiMaybeRef.kind ports base reference)
+    err_from c.from_residual-in_err-made.result _
+    (IsRefusedAlike kind g.Q.RiMaybeRef.kind ports base reference)
     (λ error h. subst (IsRefusedAlike kind g.Q.RiMaybeRef.kind ports base reference) (sym h)
-    (refusal kind g.Q.RiMaybeRef.kind g.met.R.RiMaybeRef.component_sets g.met.R.Ri.needs_scheme g.met.Q.RefOf.same_tables ports base reference
-    c.resolved_text.ensures.base c.resolved_text.ensures.reference OutOfMemory (ap is_ok c.in_ok-target.ensures.target.0)))
+    (refusal kind g.Q.RiMaybeRef.kind g.met.R.RiMaybeRef.component_sets g.met.R.Ri.needs_scheme
+    g.met.Q.RefOf.same_tables ports base reference
+    c.resolved_text.ensures.base c.resolved_text.ensures.reference OutOfMemory
+    (ap is_ok c.in_ok-target.ensures.target.0)))
     c.from_residual-in_err-made.ensures.1
 
 pub make_owned-requires-clause-of_kind : goal.make_owned-requires-clause-of_kind
 make_owned-requires-clause-of_kind g c =
-    (normal_is_of_kind g.R.RiMaybeRef.kind g.R.Kind.Kind.kind g.met.R.RiMaybeRef.kind_is_its_own g.met.R.RiMaybeRef.component_sets (g.P.DefaultPort.port_of (ports_of c.args.normalizer.now))
-    (string_bytes c.in_ok-target.target.text) (string_bytes c.in_ok-target.target.text) (string_bytes c.in_ok-made.made.text)
-    refl c.normal_form_of.ensures.utf8 c.in_ok-target.ensures.of_kind.grammar c.in_ok-made.ensures.text).grammar
+    (normal_is_of_kind g.R.RiMaybeRef.kind g.R.Kind.Kind.kind g.met.R.RiMaybeRef.kind_is_its_own
+    g.met.R.RiMaybeRef.component_sets (g.P.DefaultPort.port_of (ports_of c.args.normalizer.now))
+    (string_bytes c.in_ok-target.target.text) (string_bytes c.in_ok-target.target.text)
+    (string_bytes c.in_ok-made.made.text)
+    refl c.normal_form_of.ensures.utf8 c.in_ok-target.ensures.of_kind.grammar
+    c.in_ok-made.ensures.text).grammar
 
 pub returns-clause-normal : goal.returns-clause-normal
 returns-clause-normal g c =
@@ -50,8 +59,14 @@ returns-clause-normal g c =
     let base = g.R.RiMaybeRef.text (base_of c.args.self.now) in
     let reference = g.Q.RiMaybeRef.text c.args.reference.now in
     subst (IsNormalTarget kind g.Q.RiMaybeRef.kind ports base reference) (sym c.make_owned.ensures)
-    (normal_target kind g.Q.RiMaybeRef.kind g.met.R.RiMaybeRef.component_sets g.met.R.Ri.needs_scheme g.met.Q.RefOf.same_tables ports base reference
-    c.resolved_text.ensures.base c.resolved_text.ensures.reference (string_bytes c.in_ok-target.target.text) (string_bytes c.in_ok-made.made.text) c.in_ok-target.ensures.target.0
-    (normal_form kind g.R.Kind.Kind.kind g.met.R.RiMaybeRef.kind_is_its_own g.met.R.RiMaybeRef.component_sets ports
-    (string_bytes c.in_ok-target.target.text) (string_bytes c.in_ok-target.target.text) (string_bytes c.in_ok-made.made.text)
-    refl c.normal_form_of.ensures.utf8 c.in_ok-target.ensures.of_kind.grammar c.in_ok-made.ensures.text))
+    (normal_target kind g.Q.RiMaybeRef.kind g.met.R.RiMaybeRef.component_sets
+    g.met.R.Ri.needs_scheme g.met.Q.RefOf.same_tables ports base reference
+    c.resolved_text.ensures.base c.resolved_text.ensures.reference
+    (string_bytes c.in_ok-target.target.text) (string_bytes c.in_ok-made.made.text)
+    c.in_ok-target.ensures.target.0
+    (normal_form kind g.R.Kind.Kind.kind g.met.R.RiMaybeRef.kind_is_its_own
+    g.met.R.RiMaybeRef.component_sets ports
+    (string_bytes c.in_ok-target.target.text) (string_bytes c.in_ok-target.target.text)
+    (string_bytes c.in_ok-made.made.text)
+    refl c.normal_form_of.ensures.utf8 c.in_ok-target.ensures.of_kind.grammar
+    c.in_ok-made.ensures.text))

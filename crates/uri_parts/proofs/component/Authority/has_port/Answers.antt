@@ -15,5 +15,6 @@ returns g c =
     ∙ ap (λ n. not (eqb n (length text))) c.args.self.ends
     ∙ ⊎_elim
     (λ w. ap not (eq-eqb _ _ w.0) ∙ ap is_some w.1)
-    (λ w. ap not (ne_eqb (host_end_of text) (length text) (λ e. omega (arith, w.inside, e))) ∙ ap is_some w.is)
+    (λ w. ap not (ne_eqb (host_end_of text) (length text) (λ e. omega (arith, w.inside, e)))
+    ∙ ap is_some w.is)
     (port_place g.U.Encoder.set g.R.Encoder.set text c.args.self.valid u)

@@ -19,16 +19,19 @@ pub returns-in-Some-read-clause-kind : goal.returns-in-Some-read-clause-kind
 returns-in-Some-read-clause-kind g c =
     let host = c.host-host.result.now in
     let s : starts 91 host ≡ true = sym c.in-Some.ensures.begins in
-    let a : c.cut_before.result.0.now ≡ before_any (codes "]") (drop 1 host) = c.cut_before.ensures.before
+    let a : c.cut_before.result.0.now ≡ before_any (codes "]") (drop 1 host) =
+    c.cut_before.ensures.before
     ∙ ap (before_any (codes "]")) c.in-Some.ensures.rest in
-    literal_kind_of host c.cut_before.result.0.now (Some (ipv6_segments c.in-Some-read.address)) s a c.in-Some-read.ensures
+    literal_kind_of host c.cut_before.result.0.now (Some (ipv6_segments c.in-Some-read.address)) s a
+    c.in-Some-read.ensures
     ∙ ap host_kind c.host-host.ensures
 
 pub returns-in-None-read-clause-kind : goal.returns-in-None-read-clause-kind
 returns-in-None-read-clause-kind g c =
     let host = c.host-host.result.now in
     let s : starts 91 host ≡ true = sym c.in-Some.ensures.begins in
-    let a : c.cut_before.result.0.now ≡ before_any (codes "]") (drop 1 host) = c.cut_before.ensures.before
+    let a : c.cut_before.result.0.now ≡ before_any (codes "]") (drop 1 host) =
+    c.cut_before.ensures.before
     ∙ ap (before_any (codes "]")) c.in-Some.ensures.rest in
     literal_kind_of host c.cut_before.result.0.now None s a c.in-None-read.ensures
     ∙ ap host_kind c.host-host.ensures

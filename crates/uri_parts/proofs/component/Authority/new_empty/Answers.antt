@@ -3,4 +3,5 @@ use Rattle.uri_parts.proofs.Authorities.AuthorityPlaces.{empty_is}
 use Rattle.uri_parts.proofs.component.Authority.new_empty.Goals as goal
 
 pub invariant_of-result : goal.invariant_of-result
-invariant_of-result g c = record { valid = empty_is g.U.Encoder.set g.R.Encoder.set; starts = refl; ends = refl }
+invariant_of-result g c =
+    record { valid = empty_is g.U.Encoder.set g.R.Encoder.set; starts = refl; ends = refl }

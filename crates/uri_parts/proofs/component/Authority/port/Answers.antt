@@ -13,28 +13,41 @@ returns-then-self-text g c =
     let u : IsUtf8 text = rw (← c.as_str-text.ensures.text) c.as_str-text.utf8 in
     let e : host_end_of text ≡ length text = sym c.args.self.ends ∙ c.if-self-text.true
     ∙ ap length c.as_str-text.ensures.text in
-    ⊎_elim (λ w. w.1) (λ w. absurd (omega (arith, w.inside, e))) (port_place g.U.Encoder.set g.R.Encoder.set text c.args.self.valid u)
+    ⊎_elim (λ w. w.1) (λ w. absurd (omega (arith, w.inside, e)))
+    (port_place g.U.Encoder.set g.R.Encoder.set text c.args.self.valid u)
 
 pub overflow_add-self : goal.overflow_add-self
 overflow_add-self g c =
     let text = c.as_str-text.result.now in
-    let w = with_port g.U.Encoder.set g.R.Encoder.set text c.args.self.host_end c.as_str-text.ensures.valid c.as_str-text.utf8 (c.args.self.ends ∙ ap host_end_of (sym c.as_str-text.ensures.text)) c.if-self-text.false in
+    let w = with_port g.U.Encoder.set g.R.Encoder.set text c.args.self.host_end
+    c.as_str-text.ensures.valid c.as_str-text.utf8
+    (c.args.self.ends ∙ ap host_end_of (sym c.as_str-text.ensures.text))
+    c.if-self-text.false in
     omega (arith, w.inside)
 
 pub range_from-requires : goal.range_from-requires
 range_from-requires g c =
     let text = c.as_str-text.result.now in
-    λ _. (with_port g.U.Encoder.set g.R.Encoder.set text c.args.self.host_end c.as_str-text.ensures.valid c.as_str-text.utf8 (c.args.self.ends ∙ ap host_end_of (sym c.as_str-text.ensures.text)) c.if-self-text.false).cut
+    λ _. (with_port g.U.Encoder.set g.R.Encoder.set text c.args.self.host_end
+    c.as_str-text.ensures.valid c.as_str-text.utf8
+    (c.args.self.ends ∙ ap host_end_of (sym c.as_str-text.ensures.text))
+    c.if-self-text.false).cut
 
 pub new_or_panic-requires : goal.new_or_panic-requires
 new_or_panic-requires g c =
     let text = c.as_str-text.result.now in
     ap (is_valid_for digit_set) c.range_from.ensures.value
-    ∙ (with_port g.U.Encoder.set g.R.Encoder.set text c.args.self.host_end c.as_str-text.ensures.valid c.as_str-text.utf8 (c.args.self.ends ∙ ap host_end_of (sym c.as_str-text.ensures.text)) c.if-self-text.false).valid
+    ∙ (with_port g.U.Encoder.set g.R.Encoder.set text c.args.self.host_end
+    c.as_str-text.ensures.valid c.as_str-text.utf8
+    (c.args.self.ends ∙ ap host_end_of (sym c.as_str-text.ensures.text))
+    c.if-self-text.false).valid
 
 pub returns : goal.returns
 returns g c =
     let text = c.as_str-text.result.now in
     ap Some (c.new_or_panic.ensures ∙ c.range_from.ensures.value)
-    ∙ (with_port g.U.Encoder.set g.R.Encoder.set text c.args.self.host_end c.as_str-text.ensures.valid c.as_str-text.utf8 (c.args.self.ends ∙ ap host_end_of (sym c.as_str-text.ensures.text)) c.if-self-text.false).is
+    ∙ (with_port g.U.Encoder.set g.R.Encoder.set text c.args.self.host_end
+    c.as_str-text.ensures.valid c.as_str-text.utf8
+    (c.args.self.ends ∙ ap host_end_of (sym c.as_str-text.ensures.text))
+    c.if-self-text.false).is
     ∙ ap (λ t. (authority_parts t).port) c.as_str-text.ensures.text

@@ -1,6 +1,6 @@
 use Rattle.std.proofs.Common.{ap, sym, ◌∙◌, length, eqb, Some, rules}
 use Rattle.std.specs.Prelude.{option_map}
-use Rattle.uri_pct.specs.EStrs.{text_of}
+use Rattle.uri_pct.specs.EncodedTexts.{text_of}
 use Rattle.uri_parts.proofs.Authorities.Ports.{port_parsed}
 use Rattle.uri_parts.proofs.component.Authority.port_to_u16.Goals as goal
 
@@ -10,7 +10,8 @@ returns-in_err-parse-in-Some-clause-number g c =
     ∙ c.port.ensures in
     let long = ap (λ t. eqb (length t) 0) c.as_str.ensures.text ∙ sym c.is_empty.ensures
     ∙ c.if-not-is_empty.true in
-    let read = port_parsed _ c.as_str.result.now c.parse.result is c.as_str.utf8 c.as_str.ensures.valid long c.parse.ensures.value.0 c.parse.ensures.value.1 in
+    let read = port_parsed _ c.as_str.result.now c.parse.result is c.as_str.utf8
+    c.as_str.ensures.valid long c.parse.ensures.value.0 c.parse.ensures.value.1 in
     let refused = read.err c.in_err-parse-in-Some.field-0.0 c.in_err-parse-in-Some.was in
     search rules
 
@@ -20,7 +21,8 @@ returns-in_err-parse-in-Some-clause-refused g c =
     ∙ c.port.ensures in
     let long = ap (λ t. eqb (length t) 0) c.as_str.ensures.text ∙ sym c.is_empty.ensures
     ∙ c.if-not-is_empty.true in
-    let read = port_parsed _ c.as_str.result.now c.parse.result is c.as_str.utf8 c.as_str.ensures.valid long c.parse.ensures.value.0 c.parse.ensures.value.1 in
+    let read = port_parsed _ c.as_str.result.now c.parse.result is c.as_str.utf8
+    c.as_str.ensures.valid long c.parse.ensures.value.0 c.parse.ensures.value.1 in
     let refused = read.err c.in_err-parse-in-Some.field-0.0 c.in_err-parse-in-Some.was in
     search rules
 
@@ -30,5 +32,6 @@ returns-in_ok-parse-in-Some-clause-number g c =
     ∙ c.port.ensures in
     let long = ap (λ t. eqb (length t) 0) c.as_str.ensures.text ∙ sym c.is_empty.ensures
     ∙ c.if-not-is_empty.true in
-    let read = port_parsed _ c.as_str.result.now c.parse.result is c.as_str.utf8 c.as_str.ensures.valid long c.parse.ensures.value.0 c.parse.ensures.value.1 in
+    let read = port_parsed _ c.as_str.result.now c.parse.result is c.as_str.utf8
+    c.as_str.ensures.valid long c.parse.ensures.value.0 c.parse.ensures.value.1 in
     read.ok c.in_ok-parse-in-Some.field-0 c.in_ok-parse-in-Some.was

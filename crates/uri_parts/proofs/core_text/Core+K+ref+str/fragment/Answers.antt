@@ -5,5 +5,7 @@ use Rattle.uri_parts.proofs.core_text.Core+K+ref+str.fragment.Goals as goal
 
 pub new_or_panic-requires : goal.new_or_panic-requires
 new_or_panic-requires g c =
-    let part : (components c.args.self.text.now).fragment ≡ Some c.in-Some.fragment.now = cc c.in-Some.ensures in
-    fragment_valid g.K.Kind.kind _ c.args.self.text.now c.in-Some.fragment.now c.args.self.of_kind g.met.K.Kind.fragment_set part
+    let part : (components c.args.self.text.now).fragment ≡ Some c.in-Some.fragment.now =
+    cc c.in-Some.ensures in
+    fragment_valid g.K.Kind.kind _ c.args.self.text.now c.in-Some.fragment.now c.args.self.of_kind
+    g.met.K.Kind.fragment_set part

@@ -5,5 +5,7 @@ use Rattle.uri_parts.proofs.core_text.Core+K+ref+str.query.Goals as goal
 
 pub new_or_panic-requires : goal.new_or_panic-requires
 new_or_panic-requires g c =
-    let part : (components c.args.self.text.now).query ≡ Some c.in-Some.query.now = cc c.in-Some.ensures in
-    query_valid g.K.Kind.kind _ c.args.self.text.now c.in-Some.query.now c.args.self.of_kind g.met.K.Kind.query_set part
+    let part : (components c.args.self.text.now).query ≡ Some c.in-Some.query.now =
+    cc c.in-Some.ensures in
+    query_valid g.K.Kind.kind _ c.args.self.text.now c.in-Some.query.now c.args.self.of_kind
+    g.met.K.Kind.query_set part

@@ -4,4 +4,5 @@ use Rattle.uri_parts.proofs.HostForms.ParsedAddresses.{ipv4_refused}
 use Rattle.uri_parts.proofs.net.Ipv4Addr.read.Goals as goal
 
 pub returns-in-Err : goal.returns-in-Err
-returns-in-Err c = subst (λ t. None ≡ ipv4_value t) c.as_bytes.ensures.value (ipv4_refused _ c.in-Err.ensures)
+returns-in-Err c = subst (λ t. None ≡ ipv4_value t) c.as_bytes.ensures.value
+    (ipv4_refused _ c.in-Err.ensures)

@@ -4,4 +4,5 @@ use Rattle.uri_parts.proofs.HostForms.ParsedAddresses.{ipv6_refused}
 use Rattle.uri_parts.proofs.net.Ipv6Addr.read.Goals as goal
 
 pub returns-in-Err : goal.returns-in-Err
-returns-in-Err c = subst (λ t. None ≡ ipv6_value t) c.as_bytes.ensures.value (ipv6_refused _ c.in-Err.ensures)
+returns-in-Err c = subst (λ t. None ≡ ipv6_value t) c.as_bytes.ensures.value
+    (ipv6_refused _ c.in-Err.ensures)

@@ -1,5 +1,6 @@
-use Rattle.uri_parts.proofs.Splitting.Places.{has_fragment}
+use Rattle.uri_parts.proofs.Splitting.PlacedComponents.{has_fragment}
 use Rattle.uri_parts.proofs.positions.Positions.has_fragment.Goals as goal
 
 pub returns : goal.returns
-returns c = has_fragment c.args.text.now c.args.self.now c.requires c.before_fragment.result c.before_fragment.ensures
+returns c = has_fragment c.args.text.now c.args.self.now c.requires c.before_fragment.result
+    c.before_fragment.ensures

@@ -5,5 +5,9 @@ use Rattle.uri_parts.proofs.reader.Reader.skip.Goals as goal
 
 pub invariant_of-self : goal.invariant_of-self
 invariant_of-self c =
-    let b = IsCharBoundary-after_ascii c.as_bytes-bytes.result.now c.args.self.now.position c.as_bytes-bytes.ensures.utf8 (omega arith) (omega (arith, c.requires)) in
-    record { boundary = subst (λ t. IsCharBoundary t (c.args.self.now.position + 1)) c.as_bytes-bytes.ensures.value b }
+    let b = IsCharBoundary-after_ascii c.as_bytes-bytes.result.now c.args.self.now.position
+    c.as_bytes-bytes.ensures.utf8 (omega arith) (omega (arith, c.requires)) in
+    record {
+      boundary = subst (λ t. IsCharBoundary t (c.args.self.now.position + 1))
+          c.as_bytes-bytes.ensures.value b;
+    }

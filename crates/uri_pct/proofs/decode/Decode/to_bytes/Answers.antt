@@ -12,12 +12,16 @@ use Rattle.uri_pct.proofs.decode.Decode.to_bytes.Goals as goal
 pub returns-then-is_unencoded-clause-bytes : goal.returns-then-is_unencoded-clause-bytes
 returns-then-is_unencoded-clause-bytes c =
     c.as_bytes.ensures.value
-    ∙ sym (token_bytes-unencoded c.args.self.rest.now (subst IsUtf8 c.as_bytes.ensures.value c.as_bytes.ensures.utf8) (sym c.is_unencoded.ensures ∙ c.if-is_unencoded.true))
+    ∙ sym (token_bytes-unencoded c.args.self.rest.now
+    (subst IsUtf8 c.as_bytes.ensures.value c.as_bytes.ensures.utf8)
+    (sym c.is_unencoded.ensures ∙ c.if-is_unencoded.true))
 
 pub loop-chunk-init : goal.loop-chunk-init
 loop-chunk-init c =
-    ap (λ items. items ++ flat_map chunk_bytes (chunks_left c.into_iter-chunk-iterator.result)) c.in_ok-bytes.ensures.items
-    ∙ ap (λ d. flat_map chunk_bytes (chunks_left d)) c.into_iter-chunk-iterator.ensures.into_iter_gives
+    ap (λ items. items ++ flat_map chunk_bytes (chunks_left c.into_iter-chunk-iterator.result))
+    c.in_ok-bytes.ensures.items
+    ∙ ap (λ d. flat_map chunk_bytes (chunks_left d))
+    c.into_iter-chunk-iterator.ensures.into_iter_gives
     ∙ chunk_bytes-chunks_of (tokens c.args.self.rest.now)
 
 pub returns-then-is_unencoded-clause-left : goal.returns-then-is_unencoded-clause-left

@@ -9,10 +9,14 @@ use Rattle.uri_pct.proofs.decode.Decode.to_string_lossy.Goals as goal
 pub returns-then-is_unencoded-clause-text : goal.returns-then-is_unencoded-clause-text
 returns-then-is_unencoded-clause-text c =
     sym (lossy_of_text c.as_str.result.now c.as_str.utf8)
-    ∙ ap lossy_text (c.as_str.ensures ∙ sym (token_bytes-unencoded c.args.self.rest.now (subst IsUtf8 c.as_str.ensures c.as_str.utf8) (sym c.is_unencoded.ensures ∙ c.if-is_unencoded.true)))
+    ∙ ap lossy_text (c.as_str.ensures
+    ∙ sym (token_bytes-unencoded c.args.self.rest.now
+    (subst IsUtf8 c.as_str.ensures c.as_str.utf8)
+    (sym c.is_unencoded.ensures ∙ c.if-is_unencoded.true)))
 
 pub returns-clause-text : goal.returns-clause-text
-returns-clause-text c = taken_text c.args.self.rest.now _ c.take_parts.new.taker c.args.self.whole c.in_ok-with_capacity.ensures.bytes c.in_ok-take_parts.ensures
+returns-clause-text c = taken_text c.args.self.rest.now _ c.take_parts.new.taker c.args.self.whole
+    c.in_ok-with_capacity.ensures.bytes c.in_ok-take_parts.ensures
 
 pub returns-then-is_unencoded-clause-left : goal.returns-then-is_unencoded-clause-left
 returns-then-is_unencoded-clause-left c = returns-then-is_unencoded-clause-text c

@@ -13,42 +13,58 @@ use Rattle.uri_pct.proofs.decode.DecodeIterator.next.Goals as goal
 
 pub returns-then-is_empty-clause-steps : goal.returns-then-is_empty-clause-steps
 returns-then-is_empty-clause-steps c =
-    let none : chunks c.args.self.now.rest.now ≡ [] = ap chunks (sym c.as_bytes-bytes.ensures.value ∙ nil_from_length c.as_bytes-bytes.result.now (eqb-true _ 0 (sym c.is_empty.ensures ∙ c.if-is_empty.true)))
+    let none : chunks c.args.self.now.rest.now ≡ [] =
+    ap chunks (sym c.as_bytes-bytes.ensures.value
+    ∙ nil_from_length c.as_bytes-bytes.result.now
+    (eqb-true _ 0 (sym c.is_empty.ensures ∙ c.if-is_empty.true)))
     ∙ chunks-nil in
     (none, none)
 
 pub bounds-bytes-1 : goal.bounds-bytes-1
 bounds-bytes-1 c =
-    let o = octet_of_bytes c.as_bytes-bytes.result.now c.args.self.now.rest.now c.as_bytes-bytes.ensures.value c.as_bytes-bytes.ensures.utf8 c.args.self.now.whole (sym c.is_empty.ensures ∙ c.if-is_empty.false) c.if-bytes-eq37.true in
+    let o = octet_of_bytes c.as_bytes-bytes.result.now c.args.self.now.rest.now
+    c.as_bytes-bytes.ensures.value c.as_bytes-bytes.ensures.utf8 c.args.self.now.whole
+    (sym c.is_empty.ensures ∙ c.if-is_empty.false) c.if-bytes-eq37.true in
     let long = ap length (c.as_bytes-bytes.ensures.value ∙ o.spelt) in
     omega arith
 
 pub bounds-bytes-2 : goal.bounds-bytes-2
 bounds-bytes-2 c =
-    let o = octet_of_bytes c.as_bytes-bytes.result.now c.args.self.now.rest.now c.as_bytes-bytes.ensures.value c.as_bytes-bytes.ensures.utf8 c.args.self.now.whole (sym c.is_empty.ensures ∙ c.if-is_empty.false) c.if-bytes-eq37.true in
+    let o = octet_of_bytes c.as_bytes-bytes.result.now c.args.self.now.rest.now
+    c.as_bytes-bytes.ensures.value c.as_bytes-bytes.ensures.utf8 c.args.self.now.whole
+    (sym c.is_empty.ensures ∙ c.if-is_empty.false) c.if-bytes-eq37.true in
     let long = ap length (c.as_bytes-bytes.ensures.value ∙ o.spelt) in
     omega arith
 
 pub octet_value-value-requires-clause-high : goal.octet_value-value-requires-clause-high
 octet_value-value-requires-clause-high c =
-    let o = octet_of_bytes c.as_bytes-bytes.result.now c.args.self.now.rest.now c.as_bytes-bytes.ensures.value c.as_bytes-bytes.ensures.utf8 c.args.self.now.whole (sym c.is_empty.ensures ∙ c.if-is_empty.false) c.if-bytes-eq37.true in
+    let o = octet_of_bytes c.as_bytes-bytes.result.now c.args.self.now.rest.now
+    c.as_bytes-bytes.ensures.value c.as_bytes-bytes.ensures.utf8 c.args.self.now.whole
+    (sym c.is_empty.ensures ∙ c.if-is_empty.false) c.if-bytes-eq37.true in
     ap (λ (x : List ℕ). is_ascii_hexdigit (get_or x 1 0)) (c.as_bytes-bytes.ensures.value ∙ o.spelt)
     ∙ o.high_digit
 
 pub octet_value-value-requires-clause-low : goal.octet_value-value-requires-clause-low
 octet_value-value-requires-clause-low c =
-    let o = octet_of_bytes c.as_bytes-bytes.result.now c.args.self.now.rest.now c.as_bytes-bytes.ensures.value c.as_bytes-bytes.ensures.utf8 c.args.self.now.whole (sym c.is_empty.ensures ∙ c.if-is_empty.false) c.if-bytes-eq37.true in
+    let o = octet_of_bytes c.as_bytes-bytes.result.now c.args.self.now.rest.now
+    c.as_bytes-bytes.ensures.value c.as_bytes-bytes.ensures.utf8 c.args.self.now.whole
+    (sym c.is_empty.ensures ∙ c.if-is_empty.false) c.if-bytes-eq37.true in
     ap (λ (x : List ℕ). is_ascii_hexdigit (get_or x 2 0)) (c.as_bytes-bytes.ensures.value ∙ o.spelt)
     ∙ o.low_digit
 
 pub range_from-self-requires : goal.range_from-self-requires
 range_from-self-requires c =
-    let o = octet_of_bytes c.as_bytes-bytes.result.now c.args.self.now.rest.now c.as_bytes-bytes.ensures.value c.as_bytes-bytes.ensures.utf8 c.args.self.now.whole (sym c.is_empty.ensures ∙ c.if-is_empty.false) c.if-bytes-eq37.true in
-    λ _. octet_boundary c.args.self.now.rest.now (subst IsUtf8 c.as_bytes-bytes.ensures.value c.as_bytes-bytes.ensures.utf8) o
+    let o = octet_of_bytes c.as_bytes-bytes.result.now c.args.self.now.rest.now
+    c.as_bytes-bytes.ensures.value c.as_bytes-bytes.ensures.utf8 c.args.self.now.whole
+    (sym c.is_empty.ensures ∙ c.if-is_empty.false) c.if-bytes-eq37.true in
+    λ _. octet_boundary c.args.self.now.rest.now
+    (subst IsUtf8 c.as_bytes-bytes.ensures.value c.as_bytes-bytes.ensures.utf8) o
 
 pub invariant_of-self : goal.invariant_of-self
 invariant_of-self c =
-    let o = octet_of_bytes c.as_bytes-bytes.result.now c.args.self.now.rest.now c.as_bytes-bytes.ensures.value c.as_bytes-bytes.ensures.utf8 c.args.self.now.whole (sym c.is_empty.ensures ∙ c.if-is_empty.false) c.if-bytes-eq37.true in
+    let o = octet_of_bytes c.as_bytes-bytes.result.now c.args.self.now.rest.now
+    c.as_bytes-bytes.ensures.value c.as_bytes-bytes.ensures.utf8 c.args.self.now.whole
+    (sym c.is_empty.ensures ∙ c.if-is_empty.false) c.if-bytes-eq37.true in
     let behind : c.range_from-self.result.now ≡ o.behind = c.range_from-self.ensures.value
     ∙ ap (drop 3) o.spelt in
     record { whole = subst (IsValidFor widest_set) (sym behind) o.valid }
@@ -57,7 +73,9 @@ octet_steps : (c : goal.After-self-1)
     → chunks c.args.self.now.rest.now
     ≡ Byte c.octet_value-value.result ∷ chunks c.range_from-self.result.now
 octet_steps c =
-    let o = octet_of_bytes c.as_bytes-bytes.result.now c.args.self.now.rest.now c.as_bytes-bytes.ensures.value c.as_bytes-bytes.ensures.utf8 c.args.self.now.whole (sym c.is_empty.ensures ∙ c.if-is_empty.false) c.if-bytes-eq37.true in
+    let o = octet_of_bytes c.as_bytes-bytes.result.now c.args.self.now.rest.now
+    c.as_bytes-bytes.ensures.value c.as_bytes-bytes.ensures.utf8 c.args.self.now.whole
+    (sym c.is_empty.ensures ∙ c.if-is_empty.false) c.if-bytes-eq37.true in
     let spelt = c.as_bytes-bytes.ensures.value ∙ o.spelt in
     let behind : c.range_from-self.result.now ≡ o.behind = c.range_from-self.ensures.value
     ∙ ap (drop 3) o.spelt in
@@ -75,21 +93,34 @@ returns-then-bytes-eq37-clause-goes c = let shorter = ap length (octet_steps c) 
 
 pub split_at-requires : goal.split_at-requires
 split_at-requires c =
-    let t = text_of_bytes c.as_bytes-bytes.result.now c.args.self.now.rest.now c.unencoded_len.result c.as_bytes-bytes.ensures.value c.as_bytes-bytes.ensures.utf8 c.args.self.now.whole (sym c.is_empty.ensures ∙ c.if-is_empty.false) c.if-bytes-eq37.false (c.unencoded_len.ensures ∙ ap (position_or_len (λ b. eqb b 37)) (sym c.as_bytes-bytes.ensures.value)) in
+    let t = text_of_bytes c.as_bytes-bytes.result.now c.args.self.now.rest.now
+    c.unencoded_len.result c.as_bytes-bytes.ensures.value c.as_bytes-bytes.ensures.utf8
+    c.args.self.now.whole (sym c.is_empty.ensures ∙ c.if-is_empty.false)
+    c.if-bytes-eq37.false (c.unencoded_len.ensures
+    ∙ ap (position_or_len (λ b. eqb b 37)) (sym c.as_bytes-bytes.ensures.value)) in
     t.1
 
 pub invariant_of-self-2 : goal.invariant_of-self-2
 invariant_of-self-2 c =
-    let t = text_of_bytes c.as_bytes-bytes.result.now c.args.self.now.rest.now c.unencoded_len.result c.as_bytes-bytes.ensures.value c.as_bytes-bytes.ensures.utf8 c.args.self.now.whole (sym c.is_empty.ensures ∙ c.if-is_empty.false) c.if-bytes-eq37.false (c.unencoded_len.ensures ∙ ap (position_or_len (λ b. eqb b 37)) (sym c.as_bytes-bytes.ensures.value)) in
+    let t = text_of_bytes c.as_bytes-bytes.result.now c.args.self.now.rest.now
+    c.unencoded_len.result c.as_bytes-bytes.ensures.value c.as_bytes-bytes.ensures.utf8
+    c.args.self.now.whole (sym c.is_empty.ensures ∙ c.if-is_empty.false)
+    c.if-bytes-eq37.false (c.unencoded_len.ensures
+    ∙ ap (position_or_len (λ b. eqb b 37)) (sym c.as_bytes-bytes.ensures.value)) in
     record { whole = subst (IsValidFor widest_set) (sym c.split_at.ensures.back) t.0.valid }
 
 text_steps : (c : goal.After-text-2-1)
     → chunks c.args.self.now.rest.now
     ≡ Text c.split_at.result.0.now ∷ chunks c.split_at.result.1.now
 text_steps c =
-    let t = text_of_bytes c.as_bytes-bytes.result.now c.args.self.now.rest.now c.unencoded_len.result c.as_bytes-bytes.ensures.value c.as_bytes-bytes.ensures.utf8 c.args.self.now.whole (sym c.is_empty.ensures ∙ c.if-is_empty.false) c.if-bytes-eq37.false (c.unencoded_len.ensures ∙ ap (position_or_len (λ b. eqb b 37)) (sym c.as_bytes-bytes.ensures.value)) in
+    let t = text_of_bytes c.as_bytes-bytes.result.now c.args.self.now.rest.now
+    c.unencoded_len.result c.as_bytes-bytes.ensures.value c.as_bytes-bytes.ensures.utf8
+    c.args.self.now.whole (sym c.is_empty.ensures ∙ c.if-is_empty.false)
+    c.if-bytes-eq37.false (c.unencoded_len.ensures
+    ∙ ap (position_or_len (λ b. eqb b 37)) (sym c.as_bytes-bytes.ensures.value)) in
     t.0.first
-    ∙ ap (λ x. Text x ∷ chunks (drop c.unencoded_len.result c.args.self.now.rest.now)) (sym c.split_at.ensures.front)
+    ∙ ap (λ x. Text x ∷ chunks (drop c.unencoded_len.result c.args.self.now.rest.now))
+    (sym c.split_at.ensures.front)
     ∙ ap (λ x. Text c.split_at.result.0.now ∷ chunks x) (sym c.split_at.ensures.back)
 
 pub returns-clause-steps : goal.returns-clause-steps

@@ -5,4 +5,5 @@ use Rattle.uri_pct.proofs.decode_text.LossyTextTakeParts.take_unencoded.Goals as
 
 pub returns : goal.returns
 returns c = when_ok c.push_str.result (λ e.
-    lossy_took_text c.args.self.now _ _ c.args.text.now c.utf8.text (plain_pieces c.args.text.now) (c.push_str.ensures.bytes ∙ cond-true _ _ _ e))
+    lossy_took_text c.args.self.now _ _ c.args.text.now c.utf8.text (plain_pieces c.args.text.now)
+    (c.push_str.ensures.bytes ∙ cond-true _ _ _ e))

@@ -7,4 +7,5 @@ use Rattle.uri_pct.proofs.decode_text.LossyTextTakeParts.take_well_formed.Goals 
 
 pub returns : goal.returns
 returns c = when_ok c.push_str.result (λ e.
-    lossy_took_text c.args.self.now _ _ c.args.text.now c.utf8.text (read_pieces (utf8_pieces c.args.text.now)) (c.push_str.ensures.bytes ∙ cond-true _ _ _ e))
+    lossy_took_text c.args.self.now _ _ c.args.text.now c.utf8.text
+    (read_pieces (utf8_pieces c.args.text.now)) (c.push_str.ensures.bytes ∙ cond-true _ _ _ e))

@@ -16,8 +16,11 @@ invariant_of-self g c =
     let new = string_bytes c.append_bytes.new.out in
     let more = print (encode_bytes (set_of c.table.result) c.args.bytes.now) in
     record {
-      valid = valid_either set old new more c.append_bytes.result c.append_bytes.ensures.ok c.append_bytes.ensures.err before.valid
-          (λ e. (by_bytes set sub old new c.args.bytes.now before.lacks_percent c.requires.subset c.requires.octets (IsUtf8-string_bytes before.text) (all_small c.args.bytes.now (λ i. (c.type_inv.bytes i).fits)) before.valid
+      valid = valid_either set old new more c.append_bytes.result c.append_bytes.ensures.ok
+          c.append_bytes.ensures.err before.valid
+          (λ e. (by_bytes set sub old new c.args.bytes.now before.lacks_percent c.requires.subset
+          c.requires.octets (IsUtf8-string_bytes before.text)
+          (all_small c.args.bytes.now (λ i. (c.type_inv.bytes i).fits)) before.valid
           (e ∙ ap (λ s. old ++ print (encode_bytes s c.args.bytes.now)) c.table.ensures)).valid);
       lacks_percent = before.lacks_percent;
     }
@@ -28,5 +31,8 @@ returns-clause-tokens g c =
     let sub = g.SubE.Encoder.set in
     let before = c.args.self.now in
     let old = string_bytes before.text in
-    (by_bytes set sub old (string_bytes c.append_bytes.new.out) c.args.bytes.now before.lacks_percent c.requires.subset c.requires.octets (IsUtf8-string_bytes before.text) (all_small c.args.bytes.now (λ i. (c.type_inv.bytes i).fits)) before.valid
-    (c.in_ok-append_bytes.ensures.ok ∙ ap (λ s. old ++ print (encode_bytes s c.args.bytes.now)) c.table.ensures)).tokens
+    (by_bytes set sub old (string_bytes c.append_bytes.new.out) c.args.bytes.now
+    before.lacks_percent c.requires.subset c.requires.octets (IsUtf8-string_bytes before.text)
+    (all_small c.args.bytes.now (λ i. (c.type_inv.bytes i).fits)) before.valid
+    (c.in_ok-append_bytes.ensures.ok
+    ∙ ap (λ s. old ++ print (encode_bytes s c.args.bytes.now)) c.table.ensures)).tokens

@@ -11,12 +11,16 @@ invariant_of-self g c =
     let old = string_bytes before.text in
     let new = string_bytes c.push.new.self in
     record {
-      valid = valid_pushed set old new (encode_utf8 c.args.ch) c.push.result c.push.ensures.bytes before.valid
-          (λ e. (by_char set old new c.args.ch before.lacks_percent (IsUtf8-string_bytes before.text) before.valid c.requires e).valid);
+      valid = valid_pushed set old new (encode_utf8 c.args.ch) c.push.result c.push.ensures.bytes
+          before.valid
+          (λ e. (by_char set old new c.args.ch before.lacks_percent
+          (IsUtf8-string_bytes before.text) before.valid c.requires e).valid);
       lacks_percent = before.lacks_percent;
     }
 
 pub returns-clause-tokens : goal.returns-clause-tokens
 returns-clause-tokens g c =
     let before = c.args.self.now in
-    (by_char g.E.Encoder.set (string_bytes before.text) (string_bytes c.push.new.self) c.args.ch before.lacks_percent (IsUtf8-string_bytes before.text) before.valid c.requires c.in_ok-push.ensures.bytes).tokens
+    (by_char g.E.Encoder.set (string_bytes before.text) (string_bytes c.push.new.self) c.args.ch
+    before.lacks_percent (IsUtf8-string_bytes before.text) before.valid c.requires
+    c.in_ok-push.ensures.bytes).tokens

@@ -13,7 +13,8 @@ invariant_of-self g c =
     let text = c.as_str.result.now in
     record {
       valid = valid_pushed set old new text c.push_str.result c.push_str.ensures.bytes before.valid
-          (λ e. (by_valid set old new text before.lacks_percent (IsUtf8-string_bytes before.text) before.valid c.as_str.ensures.valid e).valid);
+          (λ e. (by_valid set old new text before.lacks_percent (IsUtf8-string_bytes before.text)
+          before.valid c.as_str.ensures.valid e).valid);
       lacks_percent = before.lacks_percent;
     }
 
@@ -21,5 +22,7 @@ pub returns-clause-tokens : goal.returns-clause-tokens
 returns-clause-tokens g c =
     let before = c.args.self.now in
     let old = string_bytes before.text in
-    (by_valid g.E.Encoder.set old (string_bytes c.push_str.new.self) c.as_str.result.now before.lacks_percent (IsUtf8-string_bytes before.text) before.valid c.as_str.ensures.valid c.in_ok-push_str.ensures.bytes).tokens
+    (by_valid g.E.Encoder.set old (string_bytes c.push_str.new.self) c.as_str.result.now
+    before.lacks_percent (IsUtf8-string_bytes before.text) before.valid c.as_str.ensures.valid
+    c.in_ok-push_str.ensures.bytes).tokens
     ∙ ap (λ x. tokens old ++ tokens x) c.as_str.ensures.text

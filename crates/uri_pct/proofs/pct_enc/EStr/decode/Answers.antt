@@ -12,4 +12,5 @@ of_text-requires g c =
     c.as_str.ensures.valid
 
 pub returns-clause-fits : goal.returns-clause-fits
-returns-clause-fits g c = rw c.of_text.ensures (omega (arith, length-chunks c.as_str.result.now c.as_str.utf8))
+returns-clause-fits g c = rw c.of_text.ensures
+    (omega (arith, length-chunks c.as_str.result.now c.as_str.utf8))

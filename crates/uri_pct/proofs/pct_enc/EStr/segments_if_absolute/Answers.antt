@@ -9,7 +9,9 @@ use Rattle.uri_pct.proofs.pct_enc.EStr.segments_if_absolute.Goals as goal
 pub range_from-requires : goal.range_from-requires
 range_from-requires g c =
     let text = c.as_str.result.now in
-    let begins : text ≡ 47 ∷ drop 1 text = absolute_text text (ap is_absolute c.as_str.ensures.text ∙ not-false _ (sym c.is_rootless.ensures ∙ c.if-is_rootless.false)) in
+    let begins : text ≡ 47 ∷ drop 1 text =
+    absolute_text text (ap is_absolute c.as_str.ensures.text
+    ∙ not-false _ (sym c.is_rootless.ensures ∙ c.if-is_rootless.false)) in
     let there : get_or text 0 0 ≡ 47 = ap (λ (t : List ℕ). get_or t 0 0) begins in
     let some : 0 < length text = omega (arith, ap length begins) in
     λ _. IsCharBoundary-after_ascii text 0 c.as_str.utf8 some (omega arith)
@@ -17,8 +19,11 @@ range_from-requires g c =
 pub new_or_panic-rest-requires : goal.new_or_panic-rest-requires
 new_or_panic-rest-requires g c =
     let text = c.as_str.result.now in
-    let begins : text ≡ 47 ∷ drop 1 text = absolute_text text (ap is_absolute c.as_str.ensures.text ∙ not-false _ (sym c.is_rootless.ensures ∙ c.if-is_rootless.false)) in
-    rw c.range_from.ensures.value (valid_after g.E.Encoder.set text [] (drop 1 text) 47 c.as_str.ensures.valid begins (reserved_mark 47 slash_reserved) c.as_str.utf8)
+    let begins : text ≡ 47 ∷ drop 1 text =
+    absolute_text text (ap is_absolute c.as_str.ensures.text
+    ∙ not-false _ (sym c.is_rootless.ensures ∙ c.if-is_rootless.false)) in
+    rw c.range_from.ensures.value (valid_after g.E.Encoder.set text [] (drop 1 text) 47
+    c.as_str.ensures.valid begins (reserved_mark 47 slash_reserved) c.as_str.utf8)
 
 pub split-requires : goal.split-requires
 split-requires g c = slash_reserved

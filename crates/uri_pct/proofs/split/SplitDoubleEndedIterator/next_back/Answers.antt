@@ -1,18 +1,20 @@
 use Rattle.std.proofs.Common.{◌≡◌, ◌∷◌, ◌++◌, [], eqb, length, rules, ap, ◌∙◌}
 use Rattle.std.specs.List.{slice_split}
 use Rattle.std.proofs.lemmas.List.{length-append}
-use Rattle.uri_pct.specs.EStrs.{text_of}
-use Rattle.uri_pct.specs.Splits.{pieces_left}
+use Rattle.uri_pct.specs.EncodedTexts.{text_of}
+use Rattle.uri_pct.specs.EncodedTexts.{pieces_left}
 use Rattle.uri_pct.proofs.ValidTexts.Delimiters.{pieces_last, slice_split_lacks}
 use Rattle.uri_pct.proofs.Decodings.Splits.{pieces_left-at}
 use Rattle.uri_pct.proofs.split.SplitDoubleEndedIterator.next_back.Goals as goal
 
 cut : (g : _) (c : goal.After-self-1 g)
     → pieces_left c.args.self.now
-    ≡ slice_split (λ b. eqb b c.args.self.now.delimiter) (text_of c.in-Some.rest) ++ text_of c.in-Some.piece ∷ []
+    ≡ slice_split (λ b. eqb b c.args.self.now.delimiter) (text_of c.in-Some.rest)
+    ++ text_of c.in-Some.piece ∷ []
 cut g c =
     pieces_left-at c.args.self.now c.in_ok-text.text c.in_ok-text.was
-    ∙ pieces_last c.args.self.now.delimiter (text_of c.in_ok-text.text) (text_of c.in-Some.rest) (text_of c.in-Some.piece) c.in-Some.ensures
+    ∙ pieces_last c.args.self.now.delimiter (text_of c.in_ok-text.text) (text_of c.in-Some.rest)
+    (text_of c.in-Some.piece) c.in-Some.ensures
 
 whole : (g : _) (c : goal.After-self-in-None-1 g)
     → pieces_left c.args.self.now ≡ text_of c.in_ok-text.text ∷ []
@@ -25,7 +27,8 @@ returns-in-Some-clause-steps g c = cut g c
 
 pub returns-in-Some-clause-goes : goal.returns-in-Some-clause-goes
 returns-in-Some-clause-goes g c = let shorter = ap length (cut g c)
-    ∙ length-append (slice_split (λ b. eqb b c.args.self.now.delimiter) (text_of c.in-Some.rest)) (text_of c.in-Some.piece ∷ []) in search rules
+    ∙ length-append (slice_split (λ b. eqb b c.args.self.now.delimiter) (text_of c.in-Some.rest))
+    (text_of c.in-Some.piece ∷ []) in search rules
 
 pub returns-in-None-clause-steps : goal.returns-in-None-clause-steps
 returns-in-None-clause-steps g c = whole g c

@@ -15,23 +15,29 @@ loop-byte-init c = has_no_bits
 pub loop-byte-preserved : goal.loop-byte-preserved
 loop-byte-preserved c = λ code.
     let here = get_or c.args.bytes.now c.loop-byte.byte-index 0 in
-    let step : has_bit c.if-byte-lt64.low c.if-byte-lt64.high code ≡ (has_bit c.loop-byte.low c.loop-byte.high code || eqb here code) =
+    let step : has_bit c.if-byte-lt64.low c.if-byte-lt64.high code
+    ≡ (has_bit c.loop-byte.low c.loop-byte.high code || eqb here code) =
     elim c.if-byte-lt64.branch [
       | then-byte-lt64 w ↦ (λ i. has_bit (w.low-is i) (w.high-is i) code)
           ∙ has_bit_set_low c.loop-byte.low c.loop-byte.high here code w.if-byte-lt64.true
       | else-byte-lt64 w ↦
           (λ i. has_bit (w.low-is i) (w.high-is i) code)
-          ∙ has_bit_set_high c.loop-byte.low c.loop-byte.high here code w.if-byte-lt64.false (plain_bytes c.args.bytes.now c.requires c.loop-byte.byte-index 0 c.loop-byte-test.true).0
+          ∙ has_bit_set_high c.loop-byte.low c.loop-byte.high here code w.if-byte-lt64.false
+          (plain_bytes c.args.bytes.now c.requires c.loop-byte.byte-index 0
+          c.loop-byte-test.true).0
     ] in
     step ∙ ap (λ b. b || eqb here code) (c.loop-byte.invariant code)
-    ∙ sym (list_any_more (λ x. eqb x code) c.args.bytes.now c.loop-byte.byte-index 0 c.loop-byte-test.true)
+    ∙ sym (list_any_more (λ x. eqb x code) c.args.bytes.now c.loop-byte.byte-index 0
+    c.loop-byte-test.true)
 
 pub invariant_of-result : goal.invariant_of-result
 invariant_of-result c =
-    let all : take c.loop-byte.byte-index c.args.bytes.now ≡ c.args.bytes.now = take_all c.loop-byte.byte-index c.args.bytes.now c.loop-byte-test.false in
+    let all : take c.loop-byte.byte-index c.args.bytes.now ≡ c.args.bytes.now =
+    take_all c.loop-byte.byte-index c.args.bytes.now c.loop-byte-test.false in
     record {
       lacks_percent =
           sym (percent_bit c.loop-byte.low c.loop-byte.high) ∙ c.loop-byte.invariant 37
           ∙ ap (λ bs. is_one_of bs 37) all
-          ∙ not_one_of c.args.bytes.now 37 (λ k d within. (plain_bytes c.args.bytes.now c.requires k d within).1);
+          ∙ not_one_of c.args.bytes.now 37
+          (λ k d within. (plain_bytes c.args.bytes.now c.requires k d within).1);
     }

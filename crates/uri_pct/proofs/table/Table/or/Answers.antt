@@ -13,11 +13,13 @@ invariant_of-result c =
     record {
       lacks_percent =
           sym (percent_bit _ _) ∙ has_bit_or s.low s.high t.low t.high 37
-          ∙ or_from (has_bit s.low s.high 37) (has_bit t.low t.high 37) (lacks_percent s) (lacks_percent t);
+          ∙ or_from (has_bit s.low s.high 37) (has_bit t.low t.high 37) (lacks_percent s)
+          (lacks_percent t);
     }
 
 pub returns : goal.returns
 returns c =
     let s = c.args.self in
     let t = c.args.other.now in
-    same_set _ (λ code. has_bit s.low s.high code || has_bit t.low t.high code) _ _ _ (has_bit_or s.low s.high t.low t.high)
+    same_set _ (λ code. has_bit s.low s.high code || has_bit t.low t.high code) _ _ _
+    (has_bit_or s.low s.high t.low t.high)

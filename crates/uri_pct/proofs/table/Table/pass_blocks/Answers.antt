@@ -18,7 +18,8 @@ step : (t : Table) (low high : ℕ) (bs : List ℕ) (start i n : ℕ)
     → (i + n + front (set_of t) (drop (i + n) bs) ≡ start + front (set_of t) (drop start bs))
     × IsCharBoundary bs (i + n)
 step t low high bs start i n masks pct u here room few spelt before =
-    let r = spelt_read (set_of t) (lacks_percent t) pct (bit_ascii t.low t.high) bs i n (omega arith) u here (subst (λ f. AreSpelt f bs i n) masks spelt) in
+    let r = spelt_read (set_of t) (lacks_percent t) pct (bit_ascii t.low t.high) bs i n
+    (omega arith) u here (subst (λ f. AreSpelt f bs i n) masks spelt) in
     (r.0 ∙ before, r.1)
 
 pub loop-i-preserved : goal.loop-i-preserved
@@ -26,7 +27,9 @@ loop-i-preserved c =
     let bs = c.as_bytes-bytes.result.now in
     let l = c.loop-i.invariant in
     let room : c.loop-i.i + 16 ≤ length bs = omega (arith, l.boundary.0, c.loop-i-test.true) in
-    let r = step c.args.self.now _ _ bs c.args.start c.loop-i.i c.spelt_length-length.result c.masks-low.ensures c.requires.octets c.as_bytes-bytes.ensures.utf8 l.boundary room c.spelt_length-length.ensures.few c.spelt_length-length.ensures.spelt l.total in
+    let r = step c.args.self.now _ _ bs c.args.start c.loop-i.i c.spelt_length-length.result
+    c.masks-low.ensures c.requires.octets c.as_bytes-bytes.ensures.utf8 l.boundary room
+    c.spelt_length-length.ensures.few c.spelt_length-length.ensures.spelt l.total in
     record { from = omega (arith, l.from); boundary = r.1; total = r.0 }
 
 pub returns-then-length-clause-total : goal.returns-then-length-clause-total
@@ -34,11 +37,17 @@ returns-then-length-clause-total c =
     let bs = c.as_bytes-bytes.result.now in
     let l = c.loop-i.invariant in
     let room : c.loop-i.i + 16 ≤ length bs = omega (arith, l.boundary.0, c.loop-i-test.true) in
-    rw (← c.as_bytes-bytes.ensures.value) (step c.args.self.now _ _ bs c.args.start c.loop-i.i c.spelt_length-length.result c.masks-low.ensures c.requires.octets c.as_bytes-bytes.ensures.utf8 l.boundary room c.spelt_length-length.ensures.few c.spelt_length-length.ensures.spelt l.total).0
+    rw (← c.as_bytes-bytes.ensures.value)
+    (step c.args.self.now _ _ bs c.args.start c.loop-i.i c.spelt_length-length.result
+    c.masks-low.ensures c.requires.octets c.as_bytes-bytes.ensures.utf8 l.boundary room
+    c.spelt_length-length.ensures.few c.spelt_length-length.ensures.spelt l.total).0
 
 pub returns-then-length-clause-boundary : goal.returns-then-length-clause-boundary
 returns-then-length-clause-boundary c =
     let bs = c.as_bytes-bytes.result.now in
     let l = c.loop-i.invariant in
     let room : c.loop-i.i + 16 ≤ length bs = omega (arith, l.boundary.0, c.loop-i-test.true) in
-    rw (← c.as_bytes-bytes.ensures.value) (step c.args.self.now _ _ bs c.args.start c.loop-i.i c.spelt_length-length.result c.masks-low.ensures c.requires.octets c.as_bytes-bytes.ensures.utf8 l.boundary room c.spelt_length-length.ensures.few c.spelt_length-length.ensures.spelt l.total).1
+    rw (← c.as_bytes-bytes.ensures.value)
+    (step c.args.self.now _ _ bs c.args.start c.loop-i.i c.spelt_length-length.result
+    c.masks-low.ensures c.requires.octets c.as_bytes-bytes.ensures.utf8 l.boundary room
+    c.spelt_length-length.ensures.few c.spelt_length-length.ensures.spelt l.total).1

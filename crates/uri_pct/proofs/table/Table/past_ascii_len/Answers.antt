@@ -10,15 +10,20 @@ use Rattle.uri_pct.proofs.TableSets.LeadBytes.{two_read, three_read, char_read, 
 use Rattle.uri_pct.proofs.table.Table.past_ascii_len.Goals as goal
 
 two : (c : goal.Then-byte-lt224)
-    → (front (set_of c.args.self.now) (drop c.args.index c.args.text.now) ≡ front (set_of c.args.self.now) (drop (c.args.index + 2) c.args.text.now) + 2)
+    → (front (set_of c.args.self.now) (drop c.args.index c.args.text.now)
+    ≡ front (set_of c.args.self.now) (drop (c.args.index + 2) c.args.text.now) + 2)
     × IsCharBoundary c.args.text.now (c.args.index + 2)
 two c =
     let text = c.args.text.now in
     let i = c.args.index in
     let same = c.as_bytes.ensures.value in
-    let told = and_parts c.args.self.now.ucschar (is_in_range 195 237 (slice_index c.as_bytes.result.now i)) (sym c.allows_lead.ensures ∙ c.if-allows_lead.true) in
-    let range = lead_range (slice_index text i) (ap (λ t. is_in_range 195 237 (slice_index t i)) (sym same) ∙ told.1) in
-    two_read (set_of c.args.self.now) text i c.utf8.text c.requires.here c.requires.inside told.0 range.0 (subst (λ t. slice_index t i < 224) same c.if-byte-lt224.true)
+    let told = and_parts c.args.self.now.ucschar
+    (is_in_range 195 237 (slice_index c.as_bytes.result.now i))
+    (sym c.allows_lead.ensures ∙ c.if-allows_lead.true) in
+    let range = lead_range (slice_index text i)
+    (ap (λ t. is_in_range 195 237 (slice_index t i)) (sym same) ∙ told.1) in
+    two_read (set_of c.args.self.now) text i c.utf8.text c.requires.here c.requires.inside told.0
+    range.0 (subst (λ t. slice_index t i < 224) same c.if-byte-lt224.true)
 
 pub returns-then-byte-lt224-clause-boundary : goal.returns-then-byte-lt224-clause-boundary
 returns-then-byte-lt224-clause-boundary c = (two c).1
@@ -27,15 +32,20 @@ pub returns-then-byte-lt224-clause-allowed : goal.returns-then-byte-lt224-clause
 returns-then-byte-lt224-clause-allowed c = λ _. (two c).0
 
 three : (c : goal.Else-byte-lt224)
-    → (front (set_of c.args.self.now) (drop c.args.index c.args.text.now) ≡ front (set_of c.args.self.now) (drop (c.args.index + 3) c.args.text.now) + 3)
+    → (front (set_of c.args.self.now) (drop c.args.index c.args.text.now)
+    ≡ front (set_of c.args.self.now) (drop (c.args.index + 3) c.args.text.now) + 3)
     × IsCharBoundary c.args.text.now (c.args.index + 3)
 three c =
     let text = c.args.text.now in
     let i = c.args.index in
     let same = c.as_bytes.ensures.value in
-    let told = and_parts c.args.self.now.ucschar (is_in_range 195 237 (slice_index c.as_bytes.result.now i)) (sym c.allows_lead.ensures ∙ c.if-allows_lead.true) in
-    let range = lead_range (slice_index text i) (ap (λ t. is_in_range 195 237 (slice_index t i)) (sym same) ∙ told.1) in
-    three_read (set_of c.args.self.now) text i c.utf8.text c.requires.here c.requires.inside told.0 (subst (λ t. 224 ≤ slice_index t i) same c.if-byte-lt224.false) range.1
+    let told = and_parts c.args.self.now.ucschar
+    (is_in_range 195 237 (slice_index c.as_bytes.result.now i))
+    (sym c.allows_lead.ensures ∙ c.if-allows_lead.true) in
+    let range = lead_range (slice_index text i)
+    (ap (λ t. is_in_range 195 237 (slice_index t i)) (sym same) ∙ told.1) in
+    three_read (set_of c.args.self.now) text i c.utf8.text c.requires.here c.requires.inside told.0
+    (subst (λ t. 224 ≤ slice_index t i) same c.if-byte-lt224.false) range.1
 
 pub returns-then-allows_lead-clause-boundary : goal.returns-then-allows_lead-clause-boundary
 returns-then-allows_lead-clause-boundary c = (three c).1
@@ -45,15 +55,21 @@ returns-then-allows_lead-clause-allowed c = λ _. (three c).0
 
 pub returns-then-not-allows_past_ascii-clause-refused : goal.returns-then-not-allows_past_ascii-clause-refused
 returns-then-not-allows_past_ascii-clause-refused c = λ _.
-    front-past-at (set_of c.args.self.now) c.args.text.now c.args.index c.char_at-ch.result c.utf8.text c.requires.here c.char_at-ch.ensures c.requires.past
+    front-past-at (set_of c.args.self.now) c.args.text.now c.args.index c.char_at-ch.result
+    c.utf8.text c.requires.here c.char_at-ch.ensures c.requires.past
     ∙ cond-false _ _ _ (sym c.allows_past_ascii.ensures ∙ c.if-not-allows_past_ascii.true)
 
 read_char : (c : goal.After-len_utf8)
-    → (front (set_of c.args.self.now) (drop c.args.index c.args.text.now) ≡ front (set_of c.args.self.now) (drop (c.args.index + c.len_utf8.result) c.args.text.now) + c.len_utf8.result)
+    → (front (set_of c.args.self.now) (drop c.args.index c.args.text.now)
+    ≡ front (set_of c.args.self.now) (drop (c.args.index + c.len_utf8.result) c.args.text.now)
+    + c.len_utf8.result)
     × IsCharBoundary c.args.text.now (c.args.index + c.len_utf8.result)
 read_char c =
-    char_read (set_of c.args.self.now) c.args.text.now _ c.args.index c.char_at-ch.result c.len_utf8.result c.utf8.text c.requires.here c.requires.inside c.requires.past c.char_at-ch.ensures
-    (sym c.allows_past_ascii.ensures ∙ c.if-not-allows_past_ascii.false) (sym c.len_utf8.ensures.value)
+    char_read (set_of c.args.self.now) c.args.text.now _ c.args.index c.char_at-ch.result
+    c.len_utf8.result c.utf8.text c.requires.here c.requires.inside c.requires.past
+    c.char_at-ch.ensures
+    (sym c.allows_past_ascii.ensures ∙ c.if-not-allows_past_ascii.false)
+    (sym c.len_utf8.ensures.value)
 
 pub returns-clause-boundary : goal.returns-clause-boundary
 returns-clause-boundary c = (read_char c).1

@@ -21,4 +21,5 @@ pub returns : goal.returns
 returns c =
     let s = c.args.self in
     let t = c.args.other.now in
-    same_set _ (λ code. has_bit s.low s.high code && not (has_bit t.low t.high code)) _ _ _ (λ code. has_bit_without s.low s.high t.low t.high code (omega arith) (omega arith))
+    same_set _ (λ code. has_bit s.low s.high code && not (has_bit t.low t.high code)) _ _ _
+    (λ code. has_bit_without s.low s.high t.low t.high code (omega arith) (omega arith))

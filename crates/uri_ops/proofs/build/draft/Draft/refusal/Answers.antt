@@ -10,5 +10,6 @@ returns c =
     let text = string_bytes d.text in
     let scheme = c.is_some.ensures ∙ sym (some_map (λ n. take n (drop 0 text)) d.lengths.scheme) in
     let authority = c.is_some-2.ensures
-    ∙ sym (some_map (λ n. take n (drop 2 (behind_part 1 d.lengths.scheme text))) d.lengths.authority) in
+    ∙ sym (some_map (λ n. take n (drop 2 (behind_part 1 d.lengths.scheme text)))
+    d.lengths.authority) in
     c.first_refusal.ensures ∙ (λ i. refusal_of (scheme i) (authority i) (c.path.ensures i))

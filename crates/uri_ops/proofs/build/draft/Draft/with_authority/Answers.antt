@@ -9,5 +9,8 @@ appended-requires c = λ e. (authority_draft c.args.self c.args.authority.now c.
 
 pub returns-clause-adds : goal.returns-clause-adds
 returns-clause-adds c =
-    adds_of (with_authority c.args.authority.now) c.args.self c.appended.result (record c.args.self.lengths { authority = Some (length c.args.authority.now) }) (codes "//" ++ c.args.authority.now) c.appended.ensures.kept c.appended.ensures.lengths c.appended.ensures.text
+    adds_of (with_authority c.args.authority.now) c.args.self c.appended.result
+    (record c.args.self.lengths { authority = Some (length c.args.authority.now) })
+    (codes "//" ++ c.args.authority.now) c.appended.ensures.kept c.appended.ensures.lengths
+    c.appended.ensures.text
     (λ e. (authority_draft c.args.self c.args.authority.now c.requires e).parts)

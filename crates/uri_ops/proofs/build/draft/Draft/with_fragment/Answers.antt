@@ -9,5 +9,8 @@ appended-requires c = λ e. (fragment_draft c.args.self c.args.fragment.now c.re
 
 pub returns-clause-adds : goal.returns-clause-adds
 returns-clause-adds c =
-    adds_of (with_fragment c.args.fragment.now) c.args.self c.appended.result (record c.args.self.lengths { fragment = Some (length c.args.fragment.now) }) (codes "#" ++ c.args.fragment.now) c.appended.ensures.kept c.appended.ensures.lengths c.appended.ensures.text
+    adds_of (with_fragment c.args.fragment.now) c.args.self c.appended.result
+    (record c.args.self.lengths { fragment = Some (length c.args.fragment.now) })
+    (codes "#" ++ c.args.fragment.now) c.appended.ensures.kept c.appended.ensures.lengths
+    c.appended.ensures.text
     (λ e. (fragment_draft c.args.self c.args.fragment.now c.requires e).parts)

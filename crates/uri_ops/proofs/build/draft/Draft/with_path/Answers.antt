@@ -9,5 +9,7 @@ appended-requires c = λ e. (path_draft c.args.self c.args.path.now c.requires e
 
 pub returns-clause-adds : goal.returns-clause-adds
 returns-clause-adds c =
-    adds_of (with_path c.args.path.now) c.args.self c.appended.result (record c.args.self.lengths { path = Some (length c.args.path.now) }) (c.args.path.now) c.appended.ensures.kept c.appended.ensures.lengths c.appended.ensures.text
+    adds_of (with_path c.args.path.now) c.args.self c.appended.result
+    (record c.args.self.lengths { path = Some (length c.args.path.now) }) (c.args.path.now)
+    c.appended.ensures.kept c.appended.ensures.lengths c.appended.ensures.text
     (λ e. (path_draft c.args.self c.args.path.now c.requires e).parts)

@@ -9,5 +9,8 @@ appended-requires c = λ e. (query_draft c.args.self c.args.query.now c.requires
 
 pub returns-clause-adds : goal.returns-clause-adds
 returns-clause-adds c =
-    adds_of (with_query c.args.query.now) c.args.self c.appended.result (record c.args.self.lengths { query = Some (length c.args.query.now) }) (codes "?" ++ c.args.query.now) c.appended.ensures.kept c.appended.ensures.lengths c.appended.ensures.text
+    adds_of (with_query c.args.query.now) c.args.self c.appended.result
+    (record c.args.self.lengths { query = Some (length c.args.query.now) })
+    (codes "?" ++ c.args.query.now) c.appended.ensures.kept c.appended.ensures.lengths
+    c.appended.ensures.text
     (λ e. (query_draft c.args.self c.args.query.now c.requires e).parts)

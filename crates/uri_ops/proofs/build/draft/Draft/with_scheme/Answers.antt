@@ -9,5 +9,8 @@ appended-requires c = λ e. (scheme_draft c.args.self c.args.scheme.now c.requir
 
 pub returns-clause-adds : goal.returns-clause-adds
 returns-clause-adds c =
-    adds_of (with_scheme c.args.scheme.now) c.args.self c.appended.result (record c.args.self.lengths { scheme = Some (length c.args.scheme.now) }) (c.args.scheme.now ++ codes ":") c.appended.ensures.kept c.appended.ensures.lengths c.appended.ensures.text
+    adds_of (with_scheme c.args.scheme.now) c.args.self c.appended.result
+    (record c.args.self.lengths { scheme = Some (length c.args.scheme.now) })
+    (c.args.scheme.now ++ codes ":") c.appended.ensures.kept c.appended.ensures.lengths
+    c.appended.ensures.text
     (λ e. (scheme_draft c.args.self c.args.scheme.now c.requires e).parts)

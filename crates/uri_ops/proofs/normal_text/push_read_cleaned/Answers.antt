@@ -4,7 +4,7 @@ use Rattle.uri_pct.specs.Reading.{read}
 use Rattle.uri_pct.specs.Tokens.{print}
 use Rattle.uri_ops.specs.Dots.{remove_dot_segments}
 use Rattle.uri_ops.proofs.Paths.GuardedPaths.{guarded_after, path_begins}
-use Rattle.uri_ops.proofs.normal_text.push_cleaned.Goals as goal
+use Rattle.uri_ops.proofs.normal_text.push_read_cleaned.Goals as goal
 
 pub guard_path-requires : goal.guard_path-requires
 guard_path-requires g c =

@@ -1,8 +1,0 @@
--- What a `UriRef` holds.
-use Rattle.std.specs.Prelude.{ℕ, List}
-use Rattle.uri_parts.specs.CoreTexts.{core_text}
-use Rattle.uri_ascii.specs.declared.uri_ref.UriRef.{UriRef}
-
--- the text of a value
-abbrev pub uri_ref_text : {T : _} {g : _} → UriRef T g → List ℕ
-uri_ref_text value = core_text value.core
