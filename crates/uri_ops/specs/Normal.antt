@@ -3,20 +3,20 @@ use Rattle.std.specs.Prelude.{ℕ, List, [], codes, Option, is_some, option_map,
 use Rattle.std.specs.Prelude.{◌&&◌}
 use Rattle.std.specs.Net.Text.{ipv6_text}
 use Rattle.std.specs.Str.{str_to_ascii_lowercase}
+use Rattle.std.specs.Option.{option_and_then}
 use Rattle.uri_pct.specs.Reading.{read}
 use Rattle.uri_pct.specs.Sets.{TableSet}
 use Rattle.uri_pct.specs.Tokens.{print}
+use Rattle.uri_pct.specs.Delimiters.{slash}
 use Rattle.uri_parts.specs.Components.{Components, marked, recompose, starts}
 use Rattle.uri_parts.specs.Grammar.{Kind}
 use Rattle.uri_parts.specs.Hosts.{bracketed}
 use Rattle.uri_parts.specs.Authority.{AuthorityParts, recompose_authority}
+use Rattle.uri_parts.specs.Ports.{PortFunction}
 use Rattle.uri_ops.specs.Target.{guarded}
 use Rattle.uri_ops.specs.Meaning.{HostMeaning, Address, FutureAddress, Name, AuthorityMeaning}
 use Rattle.uri_ops.specs.Meaning.{Meaning, authority_meaning, plain_path}
 use Rattle.uri_ops.specs.Dots.{underflows}
-use Rattle.uri_pct.specs.Delimiters.{slash}
-use Rattle.std.specs.Option.{option_and_then}
-use Rattle.uri_parts.specs.Ports.{PortFunction}
 
 -- an IPv6 address has the text of RFC 5952
 abbrev pub host_text : HostMeaning → List ℕ
@@ -67,7 +67,7 @@ normal_components m = record {
 abbrev pub normal_text : Meaning → List ℕ
 normal_text m = recompose (normal_components m)
 
--- by the scheme and the authority that stand before it
+-- section 6.2.2.3: the path, by the scheme and the authority that stand before it
 abbrev pub path_text : TableSet → Option (List ℕ) → Option (List ℕ) → List ℕ → List ℕ
 path_text set scheme authority path =
     let text = print (read set (plain_path scheme path)) in
@@ -77,6 +77,6 @@ path_text set scheme authority path =
 abbrev pub path_underflows : Option (List ℕ) → List ℕ → Bool
 path_underflows scheme path = is_some scheme && starts slash path && underflows path
 
--- that of a scheme in upper or lower case, where there is one
+-- section 6.2.3: the default port of a scheme in upper or lower case, where there is one
 abbrev pub default_of : PortFunction → Option (List ℕ) → Option ℕ
 default_of ports scheme = option_and_then ports (normal_scheme scheme)

@@ -2,11 +2,11 @@
 use Rattle.std.specs.Prelude.{ℕ, List, Result, false, ◌≡◌, true, Ok, Err, is_ok}
 use Rattle.std.specs.Result.{result_map_both}
 use Rattle.uri_parts.specs.Grammar.{Kind, IsTextOf}
+use Rattle.uri_parts.specs.Ports.{PortFunction}
+use Rattle.uri_parts.specs.Components.{Components, components}
 use Rattle.uri_ops.specs.Target.{Refusal, resolution_of_texts, BaseWithFragment}
 use Rattle.uri_ops.specs.Target.{InvalidReferenceAgainstOpaqueBase, resolution_of}
-use Rattle.uri_parts.specs.Ports.{PortFunction}
 use Rattle.uri_ops.specs.Meaning.{Meaning, meaning_of}
-use Rattle.uri_parts.specs.Components.{Components, components}
 use Rattle.uri_ops.specs.Normalizers.{IsNormalForm}
 use Rattle.uri_ops.specs.Resolving.{IsRefusalFor}
 use Rattle.uri_ops.specs.declared.resolve.ResolveError.{ResolveError}
@@ -16,7 +16,7 @@ use Rattle.uri_ops.specs.declared.resolve.ResolveError.TheVariants as Of
 abbrev pub reference_kind : Kind → Kind
 reference_kind kind = record kind { needs_scheme = false }
 
--- the meaning of the target, or the refusal
+-- section 5.2: the meaning of the target, or the refusal
 abbrev pub resolved_meaning : Kind → PortFunction → List ℕ → List ℕ → Result Meaning Refusal
 resolved_meaning kind ports base reference =
     result_map_both (meaning_of kind ports) (λ refusal. refusal)

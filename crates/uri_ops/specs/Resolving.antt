@@ -1,7 +1,7 @@
 -- What a resolver holds and answers: RFC 3986, section 5.2.
 use Rattle.std.specs.Prelude.{Bool, ◌≡◌, ℕ, true, false, List, Ok, Err, is_ok}
-use Rattle.uri_ops.specs.declared.resolve.Resolver.{Resolver}
 use Rattle.uri_parts.specs.Components.{Components, components}
+use Rattle.uri_ops.specs.declared.resolve.Resolver.{Resolver}
 use Rattle.uri_ops.specs.declared.placed.Placed.{Placed}
 use Rattle.uri_ops.specs.declared.resolve.ResolveError.{ResolveError}
 use Rattle.uri_ops.specs.Target.{BaseWithFragment, InvalidReferenceAgainstOpaqueBase, cleaned_path}
@@ -48,8 +48,8 @@ IsRefusalFor base r Of.InvalidReferenceAgainstOpaqueBase =
 IsRefusalFor base r Of.PathUnderflow = ⊥
 IsRefusalFor base r Of.OutOfMemory = is_ok (resolution_of base r) ≡ true
 
--- with its characters past ASCII as octets it is the target of the base and the reference changed
--- so
+-- RFC 3987, section 3.1: with its characters past ASCII as octets it is the target of the base and
+-- the reference changed so
 abbrev pub IsTargetOfEncoded : Bool → List ℕ → List ℕ → List ℕ → Type 0
 IsTargetOfEncoded allowed base reference target =
     IsTarget allowed (components (encoded_text base)) (components (encoded_text reference))

@@ -16,7 +16,7 @@ port_number (Some (d ∷ digits)) = Some (port_value (d ∷ digits))
 abbrev pub FitsPort : Option ℕ → Type 0
 FitsPort number = IfSome number (λ n. n < 65536)
 
--- the default port of a scheme, which is given in lower case, where it has one
+-- section 6.2.3: the default port of a scheme, which is given in lower case, where it has one
 abbrev pub PortFunction : Type 0
 PortFunction = List ℕ → Option ℕ
 

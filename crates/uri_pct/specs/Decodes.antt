@@ -1,9 +1,9 @@
 -- What a `Decode` still has to answer, and what its items stand for: RFC 3986, section 2.1.
+use Rattle.std.specs.Prelude.{ℕ, List}
+use Rattle.std.specs.List.{flat_map}
 use Rattle.uri_pct.specs.Chunks.{Chunk, Text, Byte, chunk_bytes, chunks}
 use Rattle.uri_pct.specs.declared.decode.DecodedChunk.{DecodedChunk}
 use Rattle.uri_pct.specs.declared.decode.DecodedChunk.TheVariants.{Unencoded, PctDecoded}
-use Rattle.std.specs.Prelude.{ℕ, List}
-use Rattle.std.specs.List.{flat_map}
 use Rattle.uri_pct.specs.Tokens.{tokens, token_bytes}
 use Rattle.uri_pct.specs.declared.decode.Decode.{Decode}
 

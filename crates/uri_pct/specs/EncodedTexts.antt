@@ -1,7 +1,7 @@
 -- What an `EStr` holds, and what a `Split` of one still has to answer: RFC 3986, section 2.1.
 use Rattle.std.specs.Prelude.{ℕ, List, ◌==◌, [], Some, None}
-use Rattle.uri_pct.specs.declared.pct_enc.EStr.{EStr}
 use Rattle.std.specs.List.{slice_split}
+use Rattle.uri_pct.specs.declared.pct_enc.EStr.{EStr}
 use Rattle.uri_pct.specs.declared.split.Split.{Split}
 
 -- the text of a value

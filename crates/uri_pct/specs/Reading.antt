@@ -84,7 +84,7 @@ abbrev pub is_printable : Token → Bool
 is_printable (Char c) = all_scalars (c ∷ []) && not (c == percent_sign)
 is_printable (Octet value) = nat_lt value 256
 
--- a character as it is written
+-- RFC 3987, section 4.1: a formatting character is written as its octets
 abbrev pub written_char : ℕ → List ℕ
 written_char c = if is_bidi_formatting c then print (map Octet (encode_utf8 c)) else encode_utf8 c
 

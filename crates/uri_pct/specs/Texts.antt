@@ -2,9 +2,9 @@
 use Rattle.std.specs.Prelude.{◌≡◌, ℕ, Bool, IsTrue, not, ◌==◌, List, ◌∷◌, ◌++◌, slice_index, ◌<◌}
 use Rattle.std.specs.Prelude.{length, false, ◌+◌, ◌&&◌, string_bytes}
 use Rattle.std.specs.List.{list_all}
-use Rattle.uri_pct.specs.Delimiters.{percent_sign, slash}
 use Rattle.std.specs.Char.{is_ascii_hexdigit}
 use Rattle.std.specs.declared.string.String.{String}
+use Rattle.uri_pct.specs.Delimiters.{percent_sign, slash}
 
 -- the byte stands nowhere in the text
 abbrev pub lacks : ℕ → List ℕ → Bool
@@ -25,7 +25,7 @@ IsFirstCut byte text before after = (text ≡ before ++ byte ∷ after) × IsTru
 abbrev pub IsLastCut : ℕ → List ℕ → List ℕ → List ℕ → Type 0
 IsLastCut byte text before after = (text ≡ before ++ byte ∷ after) × IsTrue (lacks byte after)
 
--- two hexadecimal digits stand behind the place
+-- RFC 3986, section 2.1: two hexadecimal digits stand behind the place
 unfoldable pub has_digits : List ℕ → ℕ → Bool
 has_digits text i =
     is_ascii_hexdigit (slice_index text (i + 1)) && is_ascii_hexdigit (slice_index text (i + 2))
