@@ -10,7 +10,7 @@ use uri_rows::ask::Ask::{
     NoTarget, Normal, NormalTarget, NormalUnder, Refused, Repeated, Strict, Target,
 };
 use uri_rows::ask::Row;
-use uri_rows::reading::Kind::{Uri, UriRef};
+use uri_rows::parsed::Kind::{Uri, UriRef};
 use uri_rows::run::run;
 
 /// Two rows that hold, and between them two that differ.

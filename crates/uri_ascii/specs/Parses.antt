@@ -1,4 +1,4 @@
--- What reading a text as one of a kind answers.
+-- What parsing a text as one of a kind answers.
 use Rattle.std.specs.Prelude.{◌≡◌, ◌↔◌, ℕ, List, Result, IsOk, IfOk, IfErr, string_bytes}
 use Rattle.std.specs.declared.string.String.{String}
 use Rattle.uri_parts.specs.declared.error.ParseError.{ParseError}

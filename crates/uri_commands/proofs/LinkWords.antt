@@ -1,4 +1,4 @@
--- References that are read one after the other.
+-- References that are parsed one after the other.
 use Rattle.std.proofs.Common.{◌≡◌, ◌+◌, ◌<◌, ◌++◌, ◌∷◌, ◌∙◌, ℕ, suc, true, List, [], Some, String}
 use Rattle.std.proofs.Common.{string_bytes, length, take, get_or, map, sym, ap}
 use Rattle.std.proofs.lemmas.List.{map-append, take-map, take_more}

@@ -41,10 +41,10 @@ mapped_refused P told kind text (Err e) mapped result why is accepts err cases w
     refused_with P result why given
     (subst P (sym same) (is e (λ of_kind. cc (accepts.1 of_kind), err)))
 
--- what was read before is of its kind
-pub mapped_read : {A B E : Type 0} (kind : Kind) (text : List ℕ) (parsed : Result A E)
+-- what was parsed before is of its kind
+pub mapped_parsed : {A B E : Type 0} (kind : Kind) (text : List ℕ) (parsed : Result A E)
     (mapped : Result A B) (value : A)
     → (IsOk parsed ↔ IsOfKind kind text) → is_ok mapped ≡ is_ok parsed → mapped ≡ Ok value
     → IsOfKind kind text
-mapped_read kind text parsed mapped value accepts variant was =
+mapped_parsed kind text parsed mapped value accepts variant was =
     accepts.0 (sym variant ∙ ap is_ok was)

@@ -37,7 +37,7 @@ IsErrorOfFirst kind texts e = (n : ℕ) × (text : List ℕ)
     × (slice_get texts n ≡ Some text) × (are_of_kind kind (take n texts) ≡ true)
     × IsErrorOf kind text e
 
--- Why a command has no answer. A base is read before its references, all of them before any is
+-- Why a command has no answer. A base is parsed before its references, all of them before any is
 -- resolved or noted.
 abbrev pub IsRefusalOf : Command → Refusal → Type 0
 IsRefusalOf (Parse name text) (Text e) = IsErrorOf (kind_named name) text e

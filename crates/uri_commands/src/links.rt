@@ -50,7 +50,7 @@ pub fn noted(
         lines_in noted ≡ link_lines base.now (reference.now ∷ texts others.now)) }
 {
     let base = Uri::<&str>::parse(base).map_err(Refusal::Base)?;
-    let references = read_references(alloc, reference, others)?;
+    let references = parse_references(alloc, reference, others)?;
     let mut register = Register::new(alloc, Normalizer::new());
     let outcomes = register.note_all(&base, references.as_slice())?;
     Ok(NotedLinks { register, outcomes })
@@ -62,7 +62,7 @@ pub fn noted(
 ///
 /// `Reference` for the first that is none, and `OutOfMemory` if there is no such and memory is
 /// refused.
-fn read_references<'a>(
+fn parse_references<'a>(
     alloc: Global,
     reference: &'a str,
     others: &'a [String],
@@ -75,9 +75,9 @@ fn read_references<'a>(
         → IfErr result (IsRefusalOf (Links base reference.now (texts others.now))) }
 {
     let mut references = Vec::new(alloc);
-    let mut is_refused = references.push(read_reference(reference)?).is_err();
+    let mut is_refused = references.push(parse_reference(reference)?).is_err();
     for word in others {
-        let reference = read_reference(word.as_str())?;
+        let reference = parse_reference(word.as_str())?;
         is_refused = is_refused || references.push(reference).is_err();
     }
     if is_refused {
@@ -86,7 +86,7 @@ fn read_references<'a>(
     Ok(references)
 }
 
-fn read_reference(word: &str) -> Result<UriRef<&str>, Refusal>
+fn parse_reference(word: &str) -> Result<UriRef<&str>, Refusal>
     ensures of_kind { IfOk result (λ _. IsOfKind uri_ref word.now) }
     ensures text { IfOk result (λ reference. uri_ref_text reference ≡ word.now) }
     ensures refused { IfErr result (λ why.

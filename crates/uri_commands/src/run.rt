@@ -122,7 +122,7 @@ fn parse<O: Write>(kind: KindName, text: &str, out: &mut O) -> Result<(), Refusa
     ensures kept { IfErr result (λ why.
         why ≢ OutputFailed → Keeps (O.contents out.old) (O.contents out.new)) }
 {
-    Ok(read(kind, text)?.write_lines(out)?)
+    Ok(lines_of(kind, text)?.write_lines(out)?)
 }
 
 fn normalize<O: Write>(
@@ -190,7 +190,7 @@ fn print_line<O: Write>(out: &mut O, text: &str) -> Result<(), Refusal>
     Ok(writeln!(out, "{text}")?)
 }
 
-fn read(kind: KindName, text: &str) -> Result<Texts<'_>, ParseError>
+fn lines_of(kind: KindName, text: &str) -> Result<Texts<'_>, ParseError>
     ensures accepts { IsOk result ↔ IsOfKind (kind_named kind) text.now }
     ensures texts { IfOk result (λ texts. components_in texts ≡ components text.now) }
     ensures error { IfErr result (IsErrorOf (kind_named kind) text.now) }

@@ -5,7 +5,8 @@ use Rattle.std.specs.Option.{option_map_or}
 use Rattle.std.proofs.lemmas.Bool.{and_from, and_parts, false≢true}
 use Rattle.uri_ops.specs.BuilderParts.{BuilderParts, takes_host, takes_port}
 use Rattle.uri_ops.specs.Builders.{Passes, any_authority, ends_in_authority, has_path}
-use Rattle.uri_ops.specs.Builders.{has_path_before_fragment, has_path_last, has_needed_scheme, is_at_end}
+use Rattle.uri_ops.specs.Builders.{has_path_before_fragment, has_path_last, has_needed_scheme}
+use Rattle.uri_ops.specs.Builders.{is_at_end}
 use Rattle.uri_ops.specs.Builders.{is_before_authority, is_before_fragment, is_before_host}
 use Rattle.uri_ops.specs.Builders.{is_before_path, is_before_port, is_before_query}
 use Rattle.uri_ops.specs.Builders.{is_before_userinfo, is_fresh, is_fresh_reference}

@@ -134,7 +134,8 @@ fn push_target_path(
     push_merged(base.path(), path, out)
 }
 
-/// Appends a path like `push_target_path`, with `/.` before it where it would be read as an authority.
+/// Appends a path like `push_target_path`, with `/.` before it where it would be parsed as an
+/// authority.
 fn push_guarded(
     base: &Placed<'_>,
     reference: &Placed<'_>,

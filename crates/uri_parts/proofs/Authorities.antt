@@ -7,7 +7,7 @@ pub mod AuthorityCuts
 pub mod AuthorityPlaces
 pub mod WholeAuthorities
 pub mod NamesAndPorts
-pub mod HostReading
+pub mod HostParsing
 pub mod FoundAuthorities
 pub mod Authority
 mod AuthorityRows

@@ -1,11 +1,11 @@
 -- Hosts: names, addresses, and addresses in brackets.
 pub mod LiteralFaults
 pub mod Addresses
-pub mod AddressReads
-pub mod GroupReads
+pub mod AddressParsing
+pub mod GroupParsing
 pub mod Futures
 pub mod Hosts
 pub mod ParsedAddresses
 pub mod LiteralTexts
-pub mod FutureReads
+pub mod FutureParsing
 pub mod Ipv6Literals

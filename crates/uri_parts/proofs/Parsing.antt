@@ -1,6 +1,6 @@
--- What the parser reads is what the grammar says.
+-- What the parser accepts is what the grammar says.
 pub mod NextBytes
-pub mod ReadingStops
+pub mod ScanStops
 pub mod Accepts
-pub mod Texts
-pub mod ReadPositions
+pub mod WholeTexts
+pub mod ParsedPositions

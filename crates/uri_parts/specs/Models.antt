@@ -1,5 +1,5 @@
 -- What the code does on its way, as functions of a text. No public contract says it by these.
-pub mod AuthorityReading
+pub mod AuthorityParsing
 pub mod Literals
-pub mod Readers
-pub mod Reading
+pub mod Cursors
+pub mod Parsing

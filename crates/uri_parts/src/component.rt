@@ -181,12 +181,12 @@ impl<'a, U: Encoder, R: Encoder> Authority<'a, U, R> {
         match after_mark(host, b'[') {
             Some(rest) => {
                 let (address, _) = cut_before(rest, b"]");
-                match Ipv6Addr::read(address) {
+                match Ipv6Addr::parse(address) {
                     Some(address) => Host::Ipv6(address),
                     None => Host::IpvFuture,
                 }
             }
-            None => match Ipv4Addr::read(host) {
+            None => match Ipv4Addr::parse(host) {
                 Some(address) => Host::Ipv4(address),
                 None => Host::RegName(EStr::new_or_panic(host)),
             },

@@ -77,7 +77,7 @@ impl<K: Kind, T: AsStr> Core<K, T> {
         }
     }
 
-    /// Reads a text as one of the kind. It comes back where it is none.
+    /// Parses a text as one of the kind. It comes back where it is none.
     #[inline(always)]
     pub fn parse(text: T) -> Result<Core<K, T>, (ParseError, T)>
         ensures accepts { IsOk result ↔ IsOfKind K.kind (T.text text) }
@@ -91,7 +91,7 @@ impl<K: Kind, T: AsStr> Core<K, T> {
         }
     }
 
-    /// Reads a text that is known to be of the kind.
+    /// Parses a text that is known to be of the kind.
     pub fn of_text(text: T) -> Core<K, T>
         requires { IsOfKind K.kind (T.text text) }
         ensures { core_text result ≡ T.text text }

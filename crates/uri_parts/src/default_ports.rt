@@ -84,8 +84,8 @@ fn rows_of<'a>(rows: &'a [(&'static str, u16)], nth: usize) -> &'a [(&'static st
     rows_between(rows, start, end)
 }
 
-/// The default port of a scheme, if it has one: ASCII case makes no difference. Only the rows are
-/// read that begin with its letter.
+/// The default port of a scheme, if it has one: ASCII case makes no difference. Only the rows
+/// are looked at that begin with its letter.
 pub(crate) fn of_scheme(scheme: &str) -> Option<u16>
     ensures { result ≡ default_port (str_to_ascii_lowercase scheme.now) }
 {

@@ -47,7 +47,7 @@ pub fn components_recompose()
 ///
 /// # Examples
 ///
-/// `127.0.0.1` is read as 127, 0, 0 and 1.
+/// `127.0.0.1` is parsed as 127, 0, 0 and 1.
 pub fn ipv4_text_is_read_back(address: &Ipv4Addr)
     ensures { IsIpv4Text (ipv4_text (ipv4_octets address.now)) (ipv4_octets address.now) }
 {
@@ -58,7 +58,7 @@ pub fn ipv4_text_is_read_back(address: &Ipv4Addr)
 ///
 /// # Examples
 ///
-/// `::1` is read as seven times 0, and 1.
+/// `::1` is parsed as seven times 0, and 1.
 pub fn ipv6_text_is_read_back(address: &Ipv6Addr)
     ensures { IsIpv6Text (ipv6_text (ipv6_segments address.now)) (ipv6_segments address.now) }
 {

@@ -1,14 +1,16 @@
 //! The parts of a reference: its components, and the grammar of each kind.
 #![tactic(auto)]
 
-mod address_reader;
+mod address_parser;
 #[doc(hidden)]
-pub mod authority_reader;
+pub mod authority_parser;
 pub mod component;
 #[doc(hidden)]
 pub mod connect;
 #[doc(hidden)]
 pub mod core_text;
+#[doc(hidden)]
+pub mod cursor;
 mod default_ports;
 pub mod error;
 #[doc(hidden)]
@@ -27,8 +29,6 @@ pub mod parse;
 pub mod port;
 #[doc(hidden)]
 pub mod positions;
-#[doc(hidden)]
-pub mod reader;
 #[doc(hidden)]
 pub mod scheme;
 #[doc(hidden)]

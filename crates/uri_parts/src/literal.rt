@@ -4,11 +4,11 @@ ghost use Rattle.std.specs.Prelude.{drop, ◌||◌};
 ghost use Rattle.std.specs.Str.{IsCharBoundary};
 ghost use Rattle.uri_pct.specs.Tables.{set_of};
 ghost use Rattle.uri_parts.specs.Components.{starts};
-ghost use Rattle.uri_parts.specs.Models.Literals.{IsLiteralRefusal, reads_literal, literal_length};
-ghost use Rattle.uri_parts.specs.Models.Literals.{IsMissing, reads_marked, length_to_mark};
-ghost use Rattle.uri_parts.specs.Models.Literals.{reads_future, future_length};
+ghost use Rattle.uri_parts.specs.Models.Literals.{IsLiteralRefusal, parses_literal, literal_length};
+ghost use Rattle.uri_parts.specs.Models.Literals.{IsMissing, parses_marked, length_to_mark};
+ghost use Rattle.uri_parts.specs.Models.Literals.{parses_future, future_length};
 
-use crate::address_reader::after_ipv6;
+use crate::address_parser::after_ipv6;
 use crate::error::{ParseError, ParseErrorKind};
 use uri_pct::table::{HEXDIG, IPV_FUTURE, Table};
 
@@ -31,7 +31,7 @@ fn is_lettered(text: &str, index: usize) -> bool
     sees(text, index, b'v') || sees(text, index, b'V')
 }
 
-/// Where the digits end that stand at `start`, of which at most so many are read.
+/// Where the digits end that stand at `start`, of which at most so many are passed.
 fn digits_end(text: &str, start: usize, radix: u32, most: usize) -> usize
     requires boundary { IsCharBoundary text.now start }
     requires low { 2 ≤ radix }
@@ -76,11 +76,11 @@ fn ipv4_end(text: &str, start: usize) -> Option<usize>
     Some(end)
 }
 
-/// Where the longest front ends that is read of an IPv6 address that stands at `start`, or `None`
+/// Where the longest front ends that is parsed of an IPv6 address that stands at `start`, or `None`
 /// if that is none.
 ///
-/// Hexadecimal digits are read in groups of up to four, each with the `:` before it. Up to three
-/// of them at the end of the text are passed and make no group. Reading ends behind eight groups,
+/// Hexadecimal digits are passed in groups of up to four, each with the `:` before it. Up to three
+/// of them at the end of the text are passed and make no group. The scan ends behind eight groups,
 /// behind an IPv4 address, and where neither `:` nor a digit is next.
 fn ipv6_end(text: &str, start: usize) -> Option<usize>
     requires { IsCharBoundary text.now start }
@@ -147,17 +147,17 @@ fn refusal(text: &str, start: usize) -> ParseError
 
 /// Where one or more characters of the table end that stand at `start`, with the `mark` behind
 /// them; or where one of these is missing.
-#[tactic(auto, unfolding(crate::specs::Models::Literals::reads_marked, crate::specs::Models::Literals::length_to_mark))]
+#[tactic(auto, unfolding(crate::specs::Models::Literals::parses_marked, crate::specs::Models::Literals::length_to_mark))]
 fn marked_end(text: &str, start: usize, table: &Table, mark: u8) -> Result<usize, ParseError>
     requires boundary { IsCharBoundary text.now start }
     requires ascii { mark < 128 }
-    ensures accepts { is_ok result ≡ reads_marked (set_of table.now) mark (drop start text.now) }
+    ensures accepts { is_ok result ≡ parses_marked (set_of table.now) mark (drop start text.now) }
     ensures end { IfOk result (λ end.
         end ≡ start + length_to_mark (set_of table.now) (drop start text.now)) }
     ensures boundary { IfOk result (λ end. IsCharBoundary text.now end) }
     ensures err { IfErr result (IsMissing text.now) }
 {
-    let end = table.read(text, start);
+    let end = table.scan(text, start);
     if start < end && sees(text, end, mark) {
         Ok(end + 1)
     } else {
@@ -168,11 +168,11 @@ fn marked_end(text: &str, start: usize, table: &Table, mark: u8) -> Result<usize
 /// Where the rest of an IPvFuture address ends that stands at `start`, behind its `v`, with the `]`
 /// behind it; or where something of these is missing.
 ///
-/// No hexadecimal digit is a `.`, and none of its characters a `]`: so each is found by reading.
-#[tactic(auto, using(uri_pct::proofs::TableSets::Constants::constant_tables, crate::proofs::Authorities::AuthorityCuts::behind), unfolding(crate::specs::Models::Literals::reads_future, crate::specs::Models::Literals::future_length))]
+/// No hexadecimal digit is a `.`, and none of its characters a `]`: so each is found by a scan.
+#[tactic(auto, using(uri_pct::proofs::TableSets::Constants::constant_tables, crate::proofs::Authorities::AuthorityCuts::behind), unfolding(crate::specs::Models::Literals::parses_future, crate::specs::Models::Literals::future_length))]
 fn future_end(text: &str, start: usize) -> Result<usize, ParseError>
     requires { IsCharBoundary text.now start }
-    ensures accepts { is_ok result ≡ reads_future (drop start text.now) }
+    ensures accepts { is_ok result ≡ parses_future (drop start text.now) }
     ensures end { IfOk result (λ end. end ≡ start + future_length (drop start text.now)) }
     ensures boundary { IfOk result (λ end. IsCharBoundary text.now end) }
     ensures err { IfErr result (IsMissing text.now) }
@@ -185,7 +185,7 @@ fn future_end(text: &str, start: usize) -> Result<usize, ParseError>
 /// is none.
 pub(crate) fn literal_end(text: &str, start: usize) -> Result<usize, ParseError>
     requires { IsCharBoundary text.now start }
-    ensures accepts { is_ok result ≡ reads_literal (drop start text.now) }
+    ensures accepts { is_ok result ≡ parses_literal (drop start text.now) }
     ensures end { IfOk result (λ end. end ≡ start + literal_length (drop start text.now)) }
     ensures boundary { IfOk result (λ end. IsCharBoundary text.now end) }
     ensures err { IfErr result (IsLiteralRefusal text.now start) }

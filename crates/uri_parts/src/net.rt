@@ -70,7 +70,7 @@ impl Ipv4Addr {
     /// The address that the whole text writes, or `None` if it writes none.
     #[doc(hidden)]
     #[tactic(auto, using(crate::proofs::HostForms::ParsedAddresses::ipv4_parsed))]
-    pub fn read(text: &str) -> Option<Self>
+    pub fn parse(text: &str) -> Option<Self>
         ensures { option_map ipv4_octets result ≡ ipv4_value text.now }
     {
         match net::Ipv4Addr::parse_ascii(text.as_bytes()) {
@@ -180,7 +180,7 @@ impl Ipv6Addr {
     /// The address that the whole text writes, or `None` if it writes none.
     #[doc(hidden)]
     #[tactic(auto, using(crate::proofs::HostForms::ParsedAddresses::ipv6_parsed))]
-    pub fn read(text: &str) -> Option<Self>
+    pub fn parse(text: &str) -> Option<Self>
         ensures { option_map ipv6_segments result ≡ ipv6_value text.now }
     {
         match net::Ipv6Addr::parse_ascii(text.as_bytes()) {

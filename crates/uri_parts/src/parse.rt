@@ -4,53 +4,53 @@ ghost use Rattle.uri_parts.specs.Errors.{IsErrorIn};
 ghost use Rattle.uri_parts.specs.Grammar.{IsOfKind};
 ghost use Rattle.uri_parts.specs.KindTables.{kind_of, segment_nz_nc_of};
 ghost use Rattle.uri_parts.specs.Positions.{AreAt};
-ghost use Rattle.uri_parts.specs.Models.Readers.{rest_of, reader_text, place_of, positions_from};
-ghost use Rattle.uri_parts.specs.Models.Reading.{reads_fragment, reads_end, reads_path};
-ghost use Rattle.uri_parts.specs.Models.Reading.{reads_authority, reads_relative, reads_hier};
-ghost use Rattle.uri_parts.specs.Models.Reading.{reads_schemeless, reads, query_end_at};
-ghost use Rattle.uri_parts.specs.Models.Reading.{authority_positions, relative_positions};
-ghost use Rattle.uri_parts.specs.Models.Reading.{hier_positions};
-ghost use Rattle.uri_parts.specs.Models.Reading.{schemeless_positions, read_positions};
+ghost use Rattle.uri_parts.specs.Models.Cursors.{rest_of, cursor_text, place_of, positions_from};
+ghost use Rattle.uri_parts.specs.Models.Parsing.{parses_fragment, parses_end, parses_path};
+ghost use Rattle.uri_parts.specs.Models.Parsing.{parses_authority, parses_relative, parses_hier};
+ghost use Rattle.uri_parts.specs.Models.Parsing.{parses_schemeless, parses, query_end_at};
+ghost use Rattle.uri_parts.specs.Models.Parsing.{authority_positions, relative_positions};
+ghost use Rattle.uri_parts.specs.Models.Parsing.{hier_positions};
+ghost use Rattle.uri_parts.specs.Models.Parsing.{schemeless_positions, parsed_positions};
 
-use crate::authority_reader::find_authority;
+use crate::authority_parser::find_authority;
 use crate::error::ParseError;
 use crate::kind::Kind;
 use crate::kind_tables::KindTables;
 use crate::positions::{AuthorityPositions, Positions};
-use crate::reader::Reader;
+use crate::cursor::Cursor;
 use uri_pct::table::SCHEME;
 
 /// A fragment if there is one, and then the end.
-#[tactic(auto, unfolding(crate::specs::Models::Reading::reads_fragment))]
+#[tactic(auto, unfolding(crate::specs::Models::Parsing::parses_fragment))]
 #[inline(always)]
-fn read_fragment(reader: &mut Reader<'_>, tables: &KindTables) -> Result<(), ParseError>
-    ensures accepts { is_ok result ≡ reads_fragment (kind_of tables.now) (rest_of reader.old) }
-    ensures err { IfErr result (IsErrorIn (reader_text reader.old)) }
+fn parse_fragment(cursor: &mut Cursor<'_>, tables: &KindTables) -> Result<(), ParseError>
+    ensures accepts { is_ok result ≡ parses_fragment (kind_of tables.now) (rest_of cursor.old) }
+    ensures err { IfErr result (IsErrorIn (cursor_text cursor.old)) }
 {
-    if reader.skip(b'#') {
-        reader.pass(&tables.fragment)?;
+    if cursor.skip(b'#') {
+        cursor.pass(&tables.fragment)?;
     }
-    if !reader.is_at_end() {
-        return Err(reader.unexpected());
+    if !cursor.is_at_end() {
+        return Err(cursor.unexpected());
     }
     Ok(())
 }
 
 /// A query if there is one, and what follows it. Answers where the query ends.
-#[tactic(auto, unfolding(crate::specs::Models::Reading::reads_end, crate::specs::Models::Reading::query_end_at))]
+#[tactic(auto, unfolding(crate::specs::Models::Parsing::parses_end, crate::specs::Models::Parsing::query_end_at))]
 #[inline(always)]
-fn read_end(reader: &mut Reader<'_>, tables: &KindTables) -> Result<Option<usize>, ParseError>
-    ensures accepts { is_ok result ≡ reads_end (kind_of tables.now) (rest_of reader.old) }
+fn parse_end(cursor: &mut Cursor<'_>, tables: &KindTables) -> Result<Option<usize>, ParseError>
+    ensures accepts { is_ok result ≡ parses_end (kind_of tables.now) (rest_of cursor.old) }
     ensures place { IfOk result (λ end.
-        end ≡ query_end_at (kind_of tables.now) (place_of reader.old) (rest_of reader.old)) }
-    ensures err { IfErr result (IsErrorIn (reader_text reader.old)) }
+        end ≡ query_end_at (kind_of tables.now) (place_of cursor.old) (rest_of cursor.old)) }
+    ensures err { IfErr result (IsErrorIn (cursor_text cursor.old)) }
 {
     let mut query_end = None;
-    if reader.skip(b'?') {
-        reader.pass(&tables.query)?;
-        query_end = Some(reader.position());
+    if cursor.skip(b'?') {
+        cursor.pass(&tables.query)?;
+        query_end = Some(cursor.position());
     }
-    read_fragment(reader, tables)?;
+    parse_fragment(cursor, tables)?;
     Ok(query_end)
 }
 
@@ -63,20 +63,20 @@ struct BeforePath {
 }
 
 /// The rest of a path, and what follows it.
-#[tactic(auto, unfolding(crate::specs::Models::Reading::reads_path, crate::specs::Models::Reading::path_positions))]
+#[tactic(auto, unfolding(crate::specs::Models::Parsing::parses_path, crate::specs::Models::Parsing::path_positions))]
 #[inline(always)]
-fn read_path(
-    reader: &mut Reader<'_>,
+fn parse_path(
+    cursor: &mut Cursor<'_>,
     tables: &KindTables,
     before: BeforePath,
 ) -> Result<Positions, ParseError>
-    ensures accepts { is_ok result ≡ reads_path (kind_of tables.now) (rest_of reader.old) }
-    ensures places { IfOk result (λ p. p ≡ positions_from (kind_of tables.now) before reader.old) }
-    ensures err { IfErr result (IsErrorIn (reader_text reader.old)) }
+    ensures accepts { is_ok result ≡ parses_path (kind_of tables.now) (rest_of cursor.old) }
+    ensures places { IfOk result (λ p. p ≡ positions_from (kind_of tables.now) before cursor.old) }
+    ensures err { IfErr result (IsErrorIn (cursor_text cursor.old)) }
 {
-    reader.pass(&tables.path)?;
-    let path_end = reader.position();
-    let query_end = read_end(reader, tables)?;
+    cursor.pass(&tables.path)?;
+    let path_end = cursor.position();
+    let query_end = parse_end(cursor, tables)?;
     Ok(Positions {
         scheme_end: before.scheme_end,
         authority: before.authority,
@@ -87,74 +87,74 @@ fn read_path(
 }
 
 /// An authority, of what stands before a path.
-#[tactic(auto, unfolding(crate::specs::Models::Reading::reads_authority, crate::specs::Models::Reading::authority_positions))]
+#[tactic(auto, unfolding(crate::specs::Models::Parsing::parses_authority, crate::specs::Models::Parsing::authority_positions))]
 #[inline(always)]
 fn pass_authority<K: Kind>(
-    reader: &mut Reader<'_>,
+    cursor: &mut Cursor<'_>,
     tables: &KindTables,
     scheme_end: Option<usize>,
 ) -> Result<BeforePath, ParseError>
     requires { kind_of tables.now ≡ K.kind }
-    ensures accepts { reads_authority (kind_of tables.now) (rest_of reader.old)
-        ≡ (is_ok result && reads_path (kind_of tables.now) (rest_of reader.new)) }
+    ensures accepts { parses_authority (kind_of tables.now) (rest_of cursor.old)
+        ≡ (is_ok result && parses_path (kind_of tables.now) (rest_of cursor.new)) }
     ensures places { let kind = kind_of tables.now in IfOk result (λ b.
-        authority_positions kind scheme_end (place_of reader.old) (rest_of reader.old)
-        ≡ positions_from kind b reader.new) }
-    ensures text { reader_text reader.new ≡ reader_text reader.old }
-    ensures err { IfErr result (IsErrorIn (reader_text reader.old)) }
+        authority_positions kind scheme_end (place_of cursor.old) (rest_of cursor.old)
+        ≡ positions_from kind b cursor.new) }
+    ensures text { cursor_text cursor.new ≡ cursor_text cursor.old }
+    ensures err { IfErr result (IsErrorIn (cursor_text cursor.old)) }
 {
-    let authority = find_authority::<K>(reader, tables)?;
+    let authority = find_authority::<K>(cursor, tables)?;
     Ok(BeforePath {
         scheme_end,
         authority: Some(authority),
-        path_start: reader.position(),
+        path_start: cursor.position(),
     })
 }
 
 /// What follows a scheme, before a path.
-#[tactic(auto, unfolding(crate::specs::Models::Reading::reads_hier, crate::specs::Models::Reading::hier_positions))]
+#[tactic(auto, unfolding(crate::specs::Models::Parsing::parses_hier, crate::specs::Models::Parsing::hier_positions))]
 #[inline(always)]
 fn pass_hier<K: Kind>(
-    reader: &mut Reader<'_>,
+    cursor: &mut Cursor<'_>,
     tables: &KindTables,
     scheme_end: usize,
 ) -> Result<BeforePath, ParseError>
     requires { kind_of tables.now ≡ K.kind }
-    ensures accepts { reads_hier (kind_of tables.now) (rest_of reader.old)
-        ≡ (is_ok result && reads_path (kind_of tables.now) (rest_of reader.new)) }
+    ensures accepts { parses_hier (kind_of tables.now) (rest_of cursor.old)
+        ≡ (is_ok result && parses_path (kind_of tables.now) (rest_of cursor.new)) }
     ensures places { let kind = kind_of tables.now in IfOk result (λ b.
-        hier_positions kind (Some scheme_end) (place_of reader.old) (rest_of reader.old)
-        ≡ positions_from kind b reader.new) }
-    ensures text { reader_text reader.new ≡ reader_text reader.old }
-    ensures err { IfErr result (IsErrorIn (reader_text reader.old)) }
+        hier_positions kind (Some scheme_end) (place_of cursor.old) (rest_of cursor.old)
+        ≡ positions_from kind b cursor.new) }
+    ensures text { cursor_text cursor.new ≡ cursor_text cursor.old }
+    ensures err { IfErr result (IsErrorIn (cursor_text cursor.old)) }
 {
-    if reader.skip_slashes() {
-        pass_authority::<K>(reader, tables, Some(scheme_end))
+    if cursor.skip_slashes() {
+        pass_authority::<K>(cursor, tables, Some(scheme_end))
     } else {
         Ok(BeforePath {
             scheme_end: Some(scheme_end),
             authority: None,
-            path_start: reader.position(),
+            path_start: cursor.position(),
         })
     }
 }
 
-/// A path that begins the text, so far as its first segment is read with no colon.
-#[tactic(auto, unfolding(crate::specs::Models::Reading::reads_relative, crate::specs::Models::Reading::relative_positions))]
+/// A path that begins the text, so far as its first segment is scanned with no colon.
+#[tactic(auto, unfolding(crate::specs::Models::Parsing::parses_relative, crate::specs::Models::Parsing::relative_positions))]
 #[inline(always)]
-fn pass_relative(reader: &mut Reader<'_>, tables: &KindTables) -> Result<BeforePath, ParseError>
+fn pass_relative(cursor: &mut Cursor<'_>, tables: &KindTables) -> Result<BeforePath, ParseError>
     ensures accepts { let segment = segment_nz_nc_of tables.now in
-        reads_relative segment (kind_of tables.now) (rest_of reader.old)
-        ≡ (is_ok result && reads_path (kind_of tables.now) (rest_of reader.new)) }
+        parses_relative segment (kind_of tables.now) (rest_of cursor.old)
+        ≡ (is_ok result && parses_path (kind_of tables.now) (rest_of cursor.new)) }
     ensures places { let segment = segment_nz_nc_of tables.now in IfOk result (λ b.
-        relative_positions segment (kind_of tables.now) (place_of reader.old) (rest_of reader.old)
-        ≡ positions_from (kind_of tables.now) b reader.new) }
-    ensures text { reader_text reader.new ≡ reader_text reader.old }
-    ensures err { IfErr result (IsErrorIn (reader_text reader.old)) }
+        relative_positions segment (kind_of tables.now) (place_of cursor.old) (rest_of cursor.old)
+        ≡ positions_from (kind_of tables.now) b cursor.new) }
+    ensures text { cursor_text cursor.new ≡ cursor_text cursor.old }
+    ensures err { IfErr result (IsErrorIn (cursor_text cursor.old)) }
 {
-    reader.pass(&tables.segment_nz_nc)?;
-    if reader.sees(b':') {
-        return Err(reader.unexpected());
+    cursor.pass(&tables.segment_nz_nc)?;
+    if cursor.sees(b':') {
+        return Err(cursor.unexpected());
     }
     Ok(BeforePath {
         scheme_end: None,
@@ -165,77 +165,77 @@ fn pass_relative(reader: &mut Reader<'_>, tables: &KindTables) -> Result<BeforeP
 
 /// What stands before a path in a text that has no scheme, behind the characters that might have
 /// been one.
-#[tactic(auto, unfolding(crate::specs::Models::Reading::reads_schemeless, crate::specs::Models::Reading::schemeless_positions))]
+#[tactic(auto, unfolding(crate::specs::Models::Parsing::parses_schemeless, crate::specs::Models::Parsing::schemeless_positions))]
 #[inline(always)]
 fn pass_schemeless<K: Kind>(
-    reader: &mut Reader<'_>,
+    cursor: &mut Cursor<'_>,
     tables: &KindTables,
 ) -> Result<BeforePath, ParseError>
     requires { kind_of tables.now ≡ K.kind }
     ensures accepts { let segment = segment_nz_nc_of tables.now in
-        reads_schemeless segment (kind_of tables.now) (place_of reader.old) (rest_of reader.old)
-        ≡ (is_ok result && reads_path (kind_of tables.now) (rest_of reader.new)) }
+        parses_schemeless segment (kind_of tables.now) (place_of cursor.old) (rest_of cursor.old)
+        ≡ (is_ok result && parses_path (kind_of tables.now) (rest_of cursor.new)) }
     ensures places { let segment = segment_nz_nc_of tables.now in
         let kind = kind_of tables.now in IfOk result (λ b.
-        schemeless_positions segment kind (place_of reader.old) (rest_of reader.old)
-        ≡ positions_from kind b reader.new) }
-    ensures text { reader_text reader.new ≡ reader_text reader.old }
-    ensures err { IfErr result (IsErrorIn (reader_text reader.old)) }
+        schemeless_positions segment kind (place_of cursor.old) (rest_of cursor.old)
+        ≡ positions_from kind b cursor.new) }
+    ensures text { cursor_text cursor.new ≡ cursor_text cursor.old }
+    ensures err { IfErr result (IsErrorIn (cursor_text cursor.old)) }
 {
-    if reader.position() == 0 && reader.skip_slashes() {
-        pass_authority::<K>(reader, tables, None)
+    if cursor.position() == 0 && cursor.skip_slashes() {
+        pass_authority::<K>(cursor, tables, None)
     } else {
-        pass_relative(reader, tables)
+        pass_relative(cursor, tables)
     }
 }
 
 /// What stands before a path, from the beginning of the text on.
-#[tactic(auto, using(uri_pct::proofs::TableSets::Constants::scheme_table), unfolding(crate::specs::Models::Reading::reads, crate::specs::Models::Reading::read_positions))]
+#[tactic(auto, using(uri_pct::proofs::TableSets::Constants::scheme_table), unfolding(crate::specs::Models::Parsing::parses, crate::specs::Models::Parsing::parsed_positions))]
 #[inline(always)]
 fn pass_front<K: Kind>(
-    reader: &mut Reader<'_>,
+    cursor: &mut Cursor<'_>,
     tables: &KindTables,
 ) -> Result<BeforePath, ParseError>
     requires kind { kind_of tables.now ≡ K.kind }
-    requires start { place_of reader.old ≡ 0 }
+    requires start { place_of cursor.old ≡ 0 }
     ensures accepts { let kind = kind_of tables.now in
-        reads (segment_nz_nc_of tables.now) kind (reader_text reader.old)
-        ≡ (is_ok result && reads_path kind (rest_of reader.new)) }
+        parses (segment_nz_nc_of tables.now) kind (cursor_text cursor.old)
+        ≡ (is_ok result && parses_path kind (rest_of cursor.new)) }
     ensures places { let kind = kind_of tables.now in IfOk result (λ b.
-        read_positions (segment_nz_nc_of tables.now) kind (reader_text reader.old)
-        ≡ positions_from kind b reader.new) }
-    ensures text { reader_text reader.new ≡ reader_text reader.old }
-    ensures err { IfErr result (IsErrorIn (reader_text reader.old)) }
+        parsed_positions (segment_nz_nc_of tables.now) kind (cursor_text cursor.old)
+        ≡ positions_from kind b cursor.new) }
+    ensures text { cursor_text cursor.new ≡ cursor_text cursor.old }
+    ensures err { IfErr result (IsErrorIn (cursor_text cursor.old)) }
 {
-    let not_a_letter = reader.unexpected();
-    reader.pass(&SCHEME)?;
-    let scheme_end = reader.position();
-    if reader.skip(b':') {
-        if !reader.text().as_bytes()[0].is_ascii_alphabetic() {
+    let not_a_letter = cursor.unexpected();
+    cursor.pass(&SCHEME)?;
+    let scheme_end = cursor.position();
+    if cursor.skip(b':') {
+        if !cursor.text().as_bytes()[0].is_ascii_alphabetic() {
             return Err(not_a_letter);
         }
-        return pass_hier::<K>(reader, tables, scheme_end);
+        return pass_hier::<K>(cursor, tables, scheme_end);
     }
     if tables.needs_scheme {
-        return Err(reader.unexpected());
+        return Err(cursor.unexpected());
     }
-    pass_schemeless::<K>(reader, tables)
+    pass_schemeless::<K>(cursor, tables)
 }
 
-/// Reads a whole text.
+/// Parses a whole text.
 #[tactic(auto)]
 #[inline(always)]
-fn read_text<K: Kind>(tables: &KindTables, text: &str) -> Result<Positions, ParseError>
+fn parse_text<K: Kind>(tables: &KindTables, text: &str) -> Result<Positions, ParseError>
     requires { kind_of tables.now ≡ K.kind }
     ensures accepts { is_ok result
-        ≡ reads (segment_nz_nc_of tables.now) (kind_of tables.now) text.now }
+        ≡ parses (segment_nz_nc_of tables.now) (kind_of tables.now) text.now }
     ensures places { IfOk result (λ p.
-        p ≡ read_positions (segment_nz_nc_of tables.now) (kind_of tables.now) text.now) }
+        p ≡ parsed_positions (segment_nz_nc_of tables.now) (kind_of tables.now) text.now) }
     ensures err { IfErr result (IsErrorIn text.now) }
 {
-    let mut reader = Reader::new(text);
-    let before = pass_front::<K>(&mut reader, tables)?;
-    read_path(&mut reader, tables, before)
+    let mut cursor = Cursor::new(text);
+    let before = pass_front::<K>(&mut cursor, tables)?;
+    parse_path(&mut cursor, tables, before)
 }
 
 /// Where the components of a text of the kind lie, or why the text is none.
@@ -245,5 +245,5 @@ pub fn parse<K: Kind>(text: &str) -> Result<Positions, ParseError>
     ensures positions { IfOk result (AreAt text.now) }
     ensures err { IfErr result (IsErrorIn text.now) }
 {
-    read_text::<K>(&K::tables(), text)
+    parse_text::<K>(&K::tables(), text)
 }

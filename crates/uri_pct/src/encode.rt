@@ -36,7 +36,7 @@ fn kept_end(table: &Table, text: &str, start: usize) -> usize
     ensures stop { (c : ℕ) (rest : List ℕ) → drop result text.now ≡ encode_utf8 c ++ rest
         → allows (set_of table.now) c ≡ false }
 {
-    table.without_octets().read(text, start)
+    table.without_octets().scan(text, start)
 }
 
 /// Where the characters end, from `start` on, that the table does not allow.

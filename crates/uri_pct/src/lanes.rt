@@ -12,7 +12,7 @@ ghost use Rattle.uri_pct.specs.Masks.{has_bit};
 use crate::search::places_of;
 use std::simd::prelude::*;
 
-/// How many bytes are read at once.
+/// How many bytes are scanned at once.
 pub const LANES: usize = 16;
 
 /// The bits of the codes below 64, of those from 64 on, and of those that are no ASCII.
@@ -78,7 +78,7 @@ fn outside(low: u64, high: u64, bytes: &[u8], at: usize) -> u64
 
 /// Where the longest run of bytes of the set ends that begins at `start`.
 ///
-/// At the end the last sixteen bytes are read again, and what was read of them is shifted out.
+/// At the end the last sixteen bytes are scanned again, and what was passed of them is shifted out.
 #[inline(always)]
 pub fn run_end(low: u64, high: u64, bytes: &[u8], start: usize) -> usize
     requires within { start ≤ length bytes.now }

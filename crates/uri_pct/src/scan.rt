@@ -1,4 +1,4 @@
-//! How far a table reads a text.
+//! How far a text is spelt by what a table allows.
 ghost use Rattle.std.specs.Prelude.{◌≡◌, ◌<◌, ◌≤◌, ◌+◌, IsTrue, false, true, length, drop};
 ghost use Rattle.std.specs.Prelude.{slice_index};
 ghost use Rattle.std.specs.Str.{IsCharBoundary};
@@ -135,10 +135,10 @@ impl Table {
     /// Where the longest piece ends that begins at `start` and is spelt by what the table allows,
     /// both as byte offsets.
     ///
-    /// Most pieces are ASCII characters alone, and these are read without a call.
+    /// Most pieces are ASCII characters alone, and these are scanned without a call.
     #[inline(always)]
     #[doc(hidden)]
-    pub fn read(&self, text: &str, start: usize) -> usize
+    pub fn scan(&self, text: &str, start: usize) -> usize
         requires { IsCharBoundary text.now start }
         ensures end { result ≡ start + front (set_of self.now) (drop start text.now) }
         ensures boundary { IsCharBoundary text.now result }
@@ -151,12 +151,12 @@ impl Table {
         if i == bytes.len() || !self.may_go_on(bytes[i]) {
             return i;
         }
-        self.read_on(text, i)
+        self.scan_on(text, i)
     }
 
     /// Where the longest piece ends that begins at `start`, whatever it is spelt by.
     #[inline(never)]
-    fn read_on(self, text: &str, start: usize) -> usize
+    fn scan_on(self, text: &str, start: usize) -> usize
         requires { IsCharBoundary text.now start }
         ensures end { result ≡ start + front (set_of self) (drop start text.now) }
         ensures boundary { IsCharBoundary text.now result }
@@ -188,11 +188,11 @@ impl Table {
     }
 
     /// Whether the text is spelt by what the table allows.
-    #[tactic(auto, using(crate::proofs::ValidTexts::Cuts::valid_where_read, crate::proofs::TableSets::Percent::lacks_percent))]
+    #[tactic(auto, using(crate::proofs::ValidTexts::Cuts::valid_where_scanned, crate::proofs::TableSets::Percent::lacks_percent))]
     #[doc(hidden)]
     pub fn allows_text(&self, text: &str) -> bool
         ensures { result ≡ is_valid_for (set_of self.now) text.now }
     {
-        self.read(text, 0) == text.len()
+        self.scan(text, 0) == text.len()
     }
 }

@@ -1,7 +1,7 @@
 //! What a row asks, and whether the answer is the stored one.
 
 use crate::normal::{is_normal_form, is_normal_form_strictly, is_normal_form_under, repeated};
-use crate::reading::{AuthorityParts, HostValue, Kind, Parts, Reading};
+use crate::parsed::{AuthorityParts, HostValue, Kind, Parts, Parsed};
 use crate::target::{has_no_target, is_normal_target, is_target};
 use fluent_uri::resolve::ResolveError;
 use fluent_uri::{ParseErrorKind, Uri};
@@ -43,13 +43,13 @@ impl Ask {
             Ask::Refused(kind, text, why, index) => is_refused(kind, text, why, index),
             Ask::Returned(text, why, index) => is_returned(alloc, text, why, index),
             Ask::Parts(kind, text, parts) => {
-                Reading::of(kind, text).is_ok_and(|reading| reading.parts == parts)
+                Parsed::of(kind, text).is_ok_and(|parsed| parsed.parts == parts)
             }
             Ask::Authority(kind, text, parts) => {
-                Reading::of(kind, text).is_ok_and(|reading| reading.authority == Some(parts))
+                Parsed::of(kind, text).is_ok_and(|parsed| parsed.authority == Some(parts))
             }
             Ask::Host(kind, text, host) => {
-                Reading::of(kind, text).is_ok_and(|reading| reading.host == Some(host))
+                Parsed::of(kind, text).is_ok_and(|parsed| parsed.host == Some(host))
             }
             Ask::Normal(kind, text, normal) => is_normal_form(alloc, kind, text, normal),
             Ask::NormalUnder(port, kind, text, normal) => {
@@ -80,7 +80,7 @@ impl Ask {
 }
 
 fn is_refused(kind: Kind, text: &str, why: ParseErrorKind, index: usize) -> bool {
-    match Reading::of(kind, text) {
+    match Parsed::of(kind, text) {
         Ok(_) => false,
         Err(error) => error.kind() == why && error.index() == index,
     }

@@ -4,7 +4,7 @@
 
 pub mod ask;
 mod normal;
-pub mod reading;
+pub mod parsed;
 pub mod rows;
 pub mod run;
 mod target;

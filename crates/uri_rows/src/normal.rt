@@ -1,6 +1,6 @@
 //! Normal forms, by the settings of a normaliser.
 
-use crate::reading::Kind;
+use crate::parsed::Kind;
 use fluent_uri::component::Scheme;
 use fluent_uri::normalize::{DefaultPort, NormalizeError, Normalizer};
 use fluent_uri::{Iri, IriRef, Uri, UriRef};

@@ -1,6 +1,6 @@
 //! Targets of references, by the setting of a resolver.
 
-use crate::reading::Kind;
+use crate::parsed::Kind;
 use fluent_uri::normalize::Normalizer;
 use fluent_uri::resolve::{ResolveError, Resolver};
 use fluent_uri::{Iri, IriRef, RefOf, Ri, Uri, UriRef};

@@ -23,7 +23,7 @@ use uri_pct::pct_enc::EStr;
 
 #[tactic(auto, using(uri_parts::proofs::TextKinds::KindSets::iri_laws))]
 impl<'a> Iri<&'a str> {
-    /// Reads a text as an IRI, once and from left to right, and takes no memory.
+    /// Parses a text as an IRI, once and from left to right, and takes no memory.
     ///
     /// # Errors
     ///

@@ -38,7 +38,7 @@ impl Iri<String> {
         Builder::with_needed_scheme(alloc)
     }
 
-    /// Reads a text as an IRI, once and from left to right, and takes no memory.
+    /// Parses a text as an IRI, once and from left to right, and takes no memory.
     ///
     /// # Errors
     ///

@@ -30,7 +30,7 @@ use uri_pct::encoder::{IFragment, IPath, IQuery};
 use uri_pct::pct_enc::EStr;
 
 impl<'a> IriRef<&'a str> {
-    /// Reads a text as an IRI reference, once and from left to right, and takes no memory.
+    /// Parses a text as an IRI reference, once and from left to right, and takes no memory.
     ///
     /// # Errors
     ///

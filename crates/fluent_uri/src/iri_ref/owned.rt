@@ -47,7 +47,7 @@ impl IriRef<String> {
         Builder::of_reference(alloc)
     }
 
-    /// Reads a text as an IRI reference, once and from left to right, and takes no memory.
+    /// Parses a text as an IRI reference, once and from left to right, and takes no memory.
     ///
     /// # Errors
     ///

@@ -22,7 +22,7 @@ use uri_pct::pct_enc::EStr;
 
 #[tactic(auto, using(uri_parts::proofs::TextKinds::KindSets::uri_laws))]
 impl<'a> Uri<&'a str> {
-    /// Reads a text as a URI, once and from left to right, and takes no memory.
+    /// Parses a text as a URI, once and from left to right, and takes no memory.
     ///
     /// # Errors
     ///

@@ -37,7 +37,7 @@ impl Uri<String> {
         Builder::with_needed_scheme(alloc)
     }
 
-    /// Reads a text as a URI, once and from left to right, and takes no memory.
+    /// Parses a text as a URI, once and from left to right, and takes no memory.
     ///
     /// # Errors
     ///

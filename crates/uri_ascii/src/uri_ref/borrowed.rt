@@ -29,7 +29,7 @@ use uri_pct::encoder::{Fragment, Path, Query};
 use uri_pct::pct_enc::EStr;
 
 impl<'a> UriRef<&'a str> {
-    /// Reads a text as a URI reference, once and from left to right, and takes no memory.
+    /// Parses a text as a URI reference, once and from left to right, and takes no memory.
     ///
     /// # Errors
     ///

@@ -46,7 +46,7 @@ impl UriRef<String> {
         Builder::of_reference(alloc)
     }
 
-    /// Reads a text as a URI reference, once and from left to right, and takes no memory.
+    /// Parses a text as a URI reference, once and from left to right, and takes no memory.
     ///
     /// # Errors
     ///

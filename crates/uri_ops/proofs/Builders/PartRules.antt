@@ -9,7 +9,8 @@ use Rattle.uri_ops.specs.BuilderParts.{Adds, BuilderParts, Meets, is_authority_t
 use Rattle.uri_ops.specs.BuilderParts.{is_text_for, meet_rules, with_authority, with_fragment}
 use Rattle.uri_ops.specs.BuilderParts.{with_more_authority, with_path, with_query, with_scheme}
 use Rattle.uri_ops.specs.Builders.{any_authority, ends_in_authority, has_path}
-use Rattle.uri_ops.specs.Builders.{has_path_before_fragment, has_path_last, has_needed_scheme, is_fresh}
+use Rattle.uri_ops.specs.Builders.{has_path_before_fragment, has_path_last, has_needed_scheme}
+use Rattle.uri_ops.specs.Builders.{is_fresh}
 use Rattle.uri_ops.specs.Builders.{is_unended, lacks_all, lacks_authority, lacks_path, stands}
 use Rattle.uri_ops.specs.Dots.{is_empty}
 use Rattle.uri_ops.proofs.Builders.BuilderDrafts.{holds}

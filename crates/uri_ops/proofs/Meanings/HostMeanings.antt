@@ -27,7 +27,7 @@ use Rattle.uri_parts.specs.Components.{Lacks, starts}
 use Rattle.uri_parts.specs.Hosts.{HostKind, Ipv4, Ipv6, IpvFuture, RegName, IsHost, IsIpvFuture}
 use Rattle.uri_parts.specs.Hosts.{bracketed, host_kind, is_host, ipv4_value, name_kind}
 use Rattle.uri_parts.proofs.TextKinds.SpeltTexts.{utf8_apart, valid_lacks}
-use Rattle.uri_parts.proofs.Parsing.ReadingStops.{utf8_tail}
+use Rattle.uri_parts.proofs.Parsing.ScanStops.{utf8_tail}
 use Rattle.uri_parts.proofs.HostForms.Addresses.{is_address_char, is_address_text}
 use Rattle.uri_parts.proofs.HostForms.Addresses.{address_text-ipv6}
 use Rattle.uri_parts.proofs.HostForms.Futures.{lacks_append, ipv6_lacks, ipv_future_lacks}

@@ -11,10 +11,10 @@ use Rattle.uri_parts.specs.Components.{has_authority, after_scheme, after_author
 use Rattle.uri_parts.specs.Components.{components, when}
 use Rattle.uri_parts.specs.Grammar.{Kind, if_some, is_scheme, has_colon_first, is_authority}
 use Rattle.uri_parts.specs.Grammar.{are_components}
-use Rattle.uri_parts.proofs.Parsing.ReadingStops.{utf8_from, utf8_tail, utf8_slashes}
+use Rattle.uri_parts.proofs.Parsing.ScanStops.{utf8_from, utf8_tail, utf8_slashes}
 use Rattle.uri_ops.proofs.Meanings.AllowedParts.{is_part, part_from, part_valid}
 use Rattle.uri_pct.proofs.Tests.{both_some}
-use Rattle.uri_parts.proofs.Parsing.Texts.{utf8_authority, utf8_scheme}
+use Rattle.uri_parts.proofs.Parsing.WholeTexts.{utf8_authority, utf8_scheme}
 use Rattle.uri_parts.proofs.Authorities.NamesAndPorts.{utf8_before}
 
 -- the grammar of a kind, each component with its rule

@@ -26,7 +26,8 @@ use Rattle.uri_ops.proofs.Meanings.HostMeanings.{name_meaning}
 use Rattle.uri_ops.proofs.Meanings.ReadOctets.{read_chars}
 use Rattle.uri_ops.proofs.Meanings.ReadParts.{no_run}
 use Rattle.uri_ops.proofs.Meanings.WrittenFormatting.{no_lead}
-use Rattle.uri_ops.proofs.Normal.UnchangedBytes.{plain_apart, plain_lacks, plain_leads, plain_marked}
+use Rattle.uri_ops.proofs.Normal.UnchangedBytes.{plain_apart, plain_lacks, plain_leads}
+use Rattle.uri_ops.proofs.Normal.UnchangedBytes.{plain_marked}
 
 -- characters of which none is a formatting character
 literal_chars : (set : TableSet) (cs : List ℕ) → list_any is_bidi_formatting cs ≡ false

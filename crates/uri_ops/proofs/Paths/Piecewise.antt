@@ -1,6 +1,7 @@
 -- Dot segments removed from a path of which pieces are changed one after the other, as by reading
 -- them.
-use Rattle.std.proofs.Common.{◌≡◌, ℕ, ◌<◌, Bool, true, false, List, [], ◌∷◌, ◌++◌, length, take, drop}
+use Rattle.std.proofs.Common.{◌≡◌, ℕ, ◌<◌, Bool, true, false, List, [], ◌∷◌, ◌++◌, length, take}
+use Rattle.std.proofs.Common.{drop}
 use Rattle.std.proofs.Common.{refl, sym, ap, subst, ◌∙◌, ◌||◌, ⊎_elim, inl, inr, append_assoc}
 use Rattle.std.proofs.Common.{arith, rules, tests}
 use Rattle.std.specs.Prelude.{codes, ◌==◌}

@@ -1,5 +1,6 @@
 -- Sixteen bytes among which no `/` stands.
-use Rattle.std.proofs.Common.{◌≡◌, ℕ, zero, suc, ◌+◌, ◌<◌, ◌≤◌, false, eqb, List, length, drop, get_or, map}
+use Rattle.std.proofs.Common.{◌≡◌, ℕ, zero, suc, ◌+◌, ◌<◌, ◌≤◌, false, eqb, List, length, drop}
+use Rattle.std.proofs.Common.{get_or, map}
 use Rattle.std.proofs.Common.{sym, ap, ◌∙◌, arith, drop-cons}
 use Rattle.std.specs.Simd.Lanes.{mask_l, chunk}
 use Rattle.std.proofs.lemmas.Bool.{or_from}

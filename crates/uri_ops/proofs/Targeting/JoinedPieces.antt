@@ -1,6 +1,7 @@
 -- What a target has of a base and a reference (section 5.2.2), by what the reference has.
 use Rattle.std.proofs.Common.{◌≡◌, ℕ, ◌+◌, true, false, cond, List, [], ◌∷◌, ◌++◌, length, refl}
-use Rattle.std.proofs.Common.{sym, ap, ◌∙◌, arith, ◌-◌, ◌&&◌, append_assoc, length-append, option_map}
+use Rattle.std.proofs.Common.{sym, ap, ◌∙◌, arith, ◌-◌, ◌&&◌, append_assoc, length-append}
+use Rattle.std.proofs.Common.{option_map}
 use Rattle.std.specs.Prelude.{codes, Option, Some, None, is_some, ◌==◌}
 use Rattle.std.proofs.lemmas.Bool.{cond-true, cond-false, cond_both, false≢true, ne_eqb}
 use Rattle.uri_parts.specs.declared.positions.AuthorityPositions.{AuthorityPositions}

@@ -1,6 +1,7 @@
 -- A reference's path behind a directory, where neither has dot segments.
 use Rattle.std.proofs.Common.{◌≡◌, ℕ, ◌+◌, true, false, List, [], ◌++◌, length, take, drop}
-use Rattle.std.proofs.Common.{ap, sym, refl, ◌∙◌, ◌&&◌, ◌||◌, append_assoc, length-append, option_map}
+use Rattle.std.proofs.Common.{ap, sym, refl, ◌∙◌, ◌&&◌, ◌||◌, append_assoc, length-append}
+use Rattle.std.proofs.Common.{option_map}
 use Rattle.std.proofs.Common.{arith, inr}
 use Rattle.std.specs.Prelude.{codes, not, Option, Some, None, is_none, is_some}
 use Rattle.std.proofs.lemmas.Bool.{and_from, and_parts, cond-false, cond-true, false≢true}

@@ -61,7 +61,7 @@ cut-none marks text h =
       ap (from_any marks) (sym (append-nil text)) ∙ cut.1,
     )
 
--- the port that is read behind a host
+-- the port that is found behind a host
 port_text : Option (List ℕ) → List ℕ
 port_text port = marked (codes ":") port []
 
@@ -70,11 +70,11 @@ unfolding port_text
 port_begins None = tt
 port_begins (Some digits) = refl
 
-port_read : (port : Option (List ℕ))
+port_parses : (port : Option (List ℕ))
     → when (starts 58 (port_text port)) (drop 1 (port_text port)) ≡ port
 unfolding port_text
-port_read None = refl
-port_read (Some digits) = ap Some (append-nil digits)
+port_parses None = refl
+port_parses (Some digits) = ap Some (append-nil digits)
 
 -- a host in brackets, or with no mark in it
 abbrev pub HasShape : List ℕ → Type 0
@@ -123,7 +123,7 @@ lacks_at_bracketed address h =
     (lacks_append (codes "@") address (codes "]") h
     (Lacks-cons (codes "@") 93 [] refl (lacks_nil (codes "@"))))
 
--- the userinfo that is read, and what is left behind it
+-- the userinfo that is found, and what is left behind it
 user_cut : (userinfo : Option (List ℕ)) (rest : List ℕ) → IfSome userinfo (Lacks (codes "@"))
     → Lacks (codes "@") rest →
     (when (starts 64 (from_any (codes "@") (marked [] userinfo (codes "@") ++ rest)))
@@ -265,7 +265,7 @@ module _ (users names : TableSet) (apart : KeepsApart users names) where
       ∙ user.0 in
       let b : host_before (behind_userinfo text) ≡ p.host = ap host_before behind ∙ host.0 in
       let c = ap (λ r. when (starts 58 (behind_host r)) (drop 1 (behind_host r))) behind
-      ∙ ap (λ r. when (starts 58 r) (drop 1 r)) host.1 ∙ port_read p.port in
+      ∙ ap (λ r. when (starts 58 r) (drop 1 r)) host.1 ∙ port_parses p.port in
       λ i. record { userinfo = a i; host = b i; port = c i }
 
   -- and what has one passes the test

@@ -1,4 +1,4 @@
--- The parts of an authority, as they are read.
+-- The parts of an authority, as they are parsed.
 use Rattle.std.proofs.Common.{◌≡◌, ℕ, ◌+◌, not, List, length, drop}
 use Rattle.uri_parts.specs.Components.{before_any}
 use Rattle.uri_pct.specs.Sets.{is_one_of}

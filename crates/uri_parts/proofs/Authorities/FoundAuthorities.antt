@@ -1,4 +1,4 @@
--- An authority is read exactly where the one that is cut out is taken apart, and lies where it is
+-- An authority is parsed exactly where the one that is cut out is taken apart, and lies where it is
 -- cut.
 use Rattle.std.proofs.Common.{◌≡◌, ℕ, ◌+◌, Bool, true, false, eqb, List, [], ◌∷◌, ◌++◌}
 use Rattle.std.proofs.Common.{length, drop, refl, sym, ap, ◌∙◌, arith, ◌||◌, ◌&&◌, ⊎_elim}
@@ -15,11 +15,11 @@ use Rattle.uri_pct.proofs.ValidTexts.Cuts.{to_mark, ascii_marks, cut, front_zero
 use Rattle.uri_pct.proofs.ValidTexts.Fronts.{front-char, front-within}
 use Rattle.uri_parts.specs.Components.{before_any, from_any, starts, Lacks}
 use Rattle.uri_parts.specs.Positions.{authority_at}
-use Rattle.uri_parts.specs.Models.AuthorityReading.{port_length, name_length, finds_name, host_end}
-use Rattle.uri_parts.specs.Models.AuthorityReading.{host_length, finds_host, more_user, user_length}
-use Rattle.uri_parts.specs.Models.AuthorityReading.{passes_user, host_place, from_host, finds_other}
-use Rattle.uri_parts.specs.Models.AuthorityReading.{finds_authority, other_length, found_length}
-use Rattle.uri_parts.specs.Models.AuthorityReading.{other_authority, found_authority}
+use Rattle.uri_parts.specs.Models.AuthorityParsing.{port_length, name_length, finds_name, host_end}
+use Rattle.uri_parts.specs.Models.AuthorityParsing.{host_length, finds_host, more_user, user_length}
+use Rattle.uri_parts.specs.Models.AuthorityParsing.{passes_user, host_place, from_host, finds_other}
+use Rattle.uri_parts.specs.Models.AuthorityParsing.{finds_authority, other_length, found_length}
+use Rattle.uri_parts.specs.Models.AuthorityParsing.{other_authority, found_authority}
 use Rattle.uri_parts.specs.Grammar.{Kind}
 use Rattle.uri_parts.proofs.Authorities.Authority.{cut-none, lacks_fewer}
 use Rattle.uri_parts.proofs.Authorities.AuthorityCuts.{length-before, behind, behind_mark}
@@ -28,14 +28,14 @@ use Rattle.uri_parts.proofs.HostForms.Futures.{lacks_append}
 use Rattle.uri_parts.proofs.HostForms.Hosts.{lacks_starts}
 use Rattle.uri_parts.proofs.Authorities.NamesAndPorts.{front_nil, cut_again, starts_before}
 use Rattle.uri_parts.proofs.Authorities.NamesAndPorts.{utf8_before}
-use Rattle.uri_parts.proofs.Authorities.HostReading.{bare_end, bare_length, bare_host, name_bare}
-use Rattle.uri_parts.proofs.Authorities.HostReading.{host_read, found_host}
+use Rattle.uri_parts.proofs.Authorities.HostParsing.{bare_end, bare_length, bare_host, name_bare}
+use Rattle.uri_parts.proofs.Authorities.HostParsing.{host_parses, found_host}
 use Rattle.uri_parts.proofs.Splitting.Relative.{stops_at}
 use Rattle.uri_parts.proofs.TextKinds.Separations.{Separates}
 use Rattle.uri_parts.proofs.TextKinds.SpeltTexts.{valid_lacks}
-use Rattle.uri_parts.proofs.Parsing.ReadingStops.{stop_cases, utf8_from, utf8_past}
-use Rattle.uri_parts.proofs.Authorities.WholeAuthorities.{reads_host_and_port}
-use Rattle.uri_parts.proofs.Authorities.WholeAuthorities.{reads_whole_authority}
+use Rattle.uri_parts.proofs.Parsing.ScanStops.{stop_cases, utf8_from, utf8_past}
+use Rattle.uri_parts.proofs.Authorities.WholeAuthorities.{parses_host_and_port}
+use Rattle.uri_parts.proofs.Authorities.WholeAuthorities.{parses_whole_authority}
 use Rattle.uri_parts.proofs.Splitting.Recompose.{starts-cons}
 use Rattle.uri_pct.proofs.Tests.{or_false}
 use Rattle.uri_parts.proofs.Authorities.PlacedHosts.{places, bare, bare_at, user_at}
@@ -168,10 +168,10 @@ module _ (segment : TableSet) (kind : Kind) (w : Separates segment kind) where
 
     -- with an `@` it is userinfo, and then a host
     with_mark : starts 64 tail ≡ true
-        → reads_whole_authority kind.userinfo kind.reg_name cut_text
+        → parses_whole_authority kind.userinfo kind.reg_name cut_text
         ≡ (is_valid_for kind.userinfo (before_any (codes "@/?#") rest)
         && finds_host kind (drop 1 tail))
-    unfolding reads_whole_authority
+    unfolding parses_whole_authority
     with_mark e =
         let c = cut_again 64 (codes "/?#") rest in
         let t : before_any (codes "/?#") tail ≡ 64 ∷ before_any (codes "/?#") (drop 1 tail) =
@@ -179,16 +179,16 @@ module _ (segment : TableSet) (kind : Kind) (w : Separates segment kind) where
         ∙ before_past_other (codes "/?#") 64 (drop 1 tail) refl in
         cond-true _ _ _ (mark_is ∙ e)
         ∙ ap (λ x. is_valid_for kind.userinfo x
-        && reads_host_and_port kind.reg_name (drop 1 (from_any (codes "@") cut_text))) c.0
+        && parses_host_and_port kind.reg_name (drop 1 (from_any (codes "@") cut_text))) c.0
         ∙ ap (λ x. is_valid_for kind.userinfo (before_any (codes "@/?#") rest)
-        && reads_host_and_port kind.reg_name (drop 1 x)) (c.1 ∙ t)
+        && parses_host_and_port kind.reg_name (drop 1 x)) (c.1 ∙ t)
         ∙ ap (λ x. is_valid_for kind.userinfo (before_any (codes "@/?#") rest) && x)
-        (sym (host_read segment kind w (drop 1 tail) (utf8_mark e)))
+        (sym (host_parses segment kind w (drop 1 tail) (utf8_mark e)))
 
     without_mark : starts 64 tail ≡ false
-        → reads_whole_authority kind.userinfo kind.reg_name cut_text ≡ finds_host kind rest
-    unfolding reads_whole_authority
-    without_mark e = cond-false _ _ _ (mark_is ∙ e) ∙ sym (host_read segment kind w rest u)
+        → parses_whole_authority kind.userinfo kind.reg_name cut_text ≡ finds_host kind rest
+    unfolding parses_whole_authority
+    without_mark e = cond-false _ _ _ (mark_is ∙ e) ∙ sym (host_parses segment kind w rest u)
 
     no_host : starts 64 tail ≡ true → finds_host kind rest ≡ false
     no_host e = false_from_ne_true _ (λ h. both_ways _ (host_free rest u h) (mark_is ∙ e))
@@ -208,11 +208,11 @@ module _ (segment : TableSet) (kind : Kind) (w : Separates segment kind) where
         (utf8_before (codes "@/?#") rest (ascii_marks (codes "@/?#") refl) u) v))
         (starts_before 91 (codes "@/?#") refl rest ∙ e))
 
-    user_read : starts 91 rest ≡ false → starts 64 tail ≡ true
+    user_parses : starts 91 rest ≡ false → starts 64 tail ≡ true
         → (passes_user kind rest && finds_host kind (from_host kind rest))
         ≡ (is_valid_for kind.userinfo (before_any (codes "@/?#") rest)
         && finds_host kind (drop 1 tail))
-    user_read bare e = ⊎_elim
+    user_parses bare e = ⊎_elim
         (λ m.
         ap (λ t. t && finds_host kind (from_host kind rest))
         (user_passed rest ∙ ap (λ n. starts 64 (drop n rest)) m ∙ e)
@@ -241,11 +241,11 @@ module _ (segment : TableSet) (kind : Kind) (w : Separates segment kind) where
         false_from_ne_true _ (λ h. both_ways _ (no_host e) (name_is_host rest h).1) in
         name_or_user rest b
         ∙ ap (λ t. t || (passes_user kind rest && finds_host kind (from_host kind rest))) none
-        ∙ user_read b e)
+        ∙ user_parses b e)
         (cases_Bool (starts 91 rest))
 
     pub accepts : finds_authority kind rest
-        ≡ reads_whole_authority kind.userinfo kind.reg_name cut_text
+        ≡ parses_whole_authority kind.userinfo kind.reg_name cut_text
     accepts = ⊎_elim
         (λ e. finds_user e ∙ sym (with_mark e))
         (λ e. ⊎_elim

@@ -1,4 +1,4 @@
--- A name and a port are read to a mark exactly where what is cut out there is one.
+-- A name and a port are parsed to a mark exactly where what is cut out there is one.
 use Rattle.std.proofs.Common.{◌≡◌, ℕ, suc, ◌+◌, ◌<◌, Bool, true, false, eqb, List, [], ◌∷◌, length}
 use Rattle.std.proofs.Common.{drop, All, refl, sym, ap, ◌∙◌, arith, ◌||◌, ◌&&◌, ⊎_elim, inl, inr}
 use Rattle.std.specs.Prelude.{codes, is_some}
@@ -13,11 +13,11 @@ use Rattle.uri_pct.specs.Sets.{TableSet, LacksPercent, IsSubset, digit_set, reg_
 use Rattle.uri_pct.specs.Tokens.{is_valid_for}
 use Rattle.uri_pct.specs.Models.Fronts.{front_from, front, after}
 use Rattle.uri_pct.proofs.ValidTexts.Cuts.{to_mark, excludes, AreAscii, mark_boundary, cut}
-use Rattle.uri_pct.proofs.ValidTexts.Cuts.{valid_where_read}
+use Rattle.uri_pct.proofs.ValidTexts.Cuts.{valid_where_scanned}
 use Rattle.uri_pct.proofs.ValidTexts.Fronts.{front-char}
 use Rattle.uri_parts.specs.Components.{before_any, from_any, starts, Lacks}
 use Rattle.uri_parts.specs.Hosts.{ipv4_value}
-use Rattle.uri_parts.specs.Models.AuthorityReading.{begins_any, port_length}
+use Rattle.uri_parts.specs.Models.AuthorityParsing.{begins_any, port_length}
 use Rattle.uri_parts.proofs.HostForms.Addresses.{ipv4_value-sound}
 use Rattle.uri_parts.proofs.Authorities.Authority.{lacks_nil}
 use Rattle.uri_parts.proofs.Authorities.AuthorityCuts.{length-before, behind_mark}
@@ -26,7 +26,7 @@ use Rattle.uri_parts.proofs.Splitting.Cuts.{before_past_other, from_past_other, 
 use Rattle.uri_parts.proofs.HostForms.Futures.{ipv4_digits, digit_reg_name}
 use Rattle.uri_parts.proofs.HostForms.Hosts.{value_cases}
 use Rattle.uri_parts.proofs.TextKinds.SpeltTexts.{valid_lacks}
-use Rattle.uri_parts.proofs.Parsing.ReadingStops.{stop_cases, utf8_tail}
+use Rattle.uri_parts.proofs.Parsing.ScanStops.{stop_cases, utf8_tail}
 use Rattle.uri_parts.proofs.Authorities.WholeAuthorities.{is_name, ends_in_port}
 
 pub neither : (x y : Bool) → (x || false) ≡ false → y ≡ false → (x || y) ≡ false
@@ -86,17 +86,17 @@ starts_before mark marks none (b ∷ bs) = ⊎_elim
 pub utf8_before : (marks bs : List ℕ) → AreAscii marks → IsUtf8 bs → IsUtf8 (before_any marks bs)
 utf8_before marks bs ascii u = IsUtf8-take bs _ u (mark_boundary marks ascii bs)
 
--- reading for a set ends at a mark exactly where what is cut there is spelt by the set
+-- a scan for a set ends at a mark exactly where what is cut there is spelt by the set
 begins_is : (marks rest : List ℕ) → Begins marks rest → begins_any marks rest ≡ true
 unfolding begins_any
 begins_is marks [] b = refl
 begins_is marks (c ∷ rest) b = b
 
-pub reads_to : (marks : List ℕ) (set : TableSet) → LacksPercent set → excludes set marks ≡ true
+pub parses_to : (marks : List ℕ) (set : TableSet) → LacksPercent set → excludes set marks ≡ true
     → (bs : List ℕ) → IsUtf8 bs
     → begins_any marks (after set bs) ≡ is_valid_for set (before_any marks bs)
 unfolding begins_any
-reads_to marks set lacks outside bs u = ⊎_elim
+parses_to marks set lacks outside bs u = ⊎_elim
     (λ m. ap (λ n. begins_any marks (drop n bs)) m
     ∙ begins_is marks (from_any marks bs) (IsCut-any marks bs).begins
     ∙ sym (cut marks set lacks outside bs u ∙ eq-eqb _ _ m))
@@ -111,16 +111,16 @@ colon_plain b e = ap (is_one_of (codes "/?#")) (eqb-true b 58 e)
 colon_ascii : (b : ℕ) → eqb b 58 ≡ true → b < 128
 colon_ascii b e = let d = eqb-true b 58 e in omega arith
 
-pub port_read : (bs : List ℕ) → IsUtf8 bs
+pub port_parses : (bs : List ℕ) → IsUtf8 bs
     → begins_any (codes "/?#") (drop (port_length bs) bs)
     ≡ ends_in_port (before_any (codes "/?#") bs)
 unfolding begins_any port_length ends_in_port
-port_read [] u = refl
-port_read (b ∷ bs) u = ⊎_elim
+port_parses [] u = refl
+port_parses (b ∷ bs) u = ⊎_elim
     (λ e.
     ap (λ n. begins_any (codes "/?#") (drop n (b ∷ bs))) (cond-true _ _ _ e)
     ∙ ap (begins_any (codes "/?#")) (sym (behind_mark (front digit_set bs) (b ∷ bs)))
-    ∙ reads_to (codes "/?#") digit_set refl refl bs (utf8_tail b bs (colon_ascii b e) u)
+    ∙ parses_to (codes "/?#") digit_set refl refl bs (utf8_tail b bs (colon_ascii b e) u)
     ∙ sym (ap ends_in_port (before_past_other (codes "/?#") b bs (colon_plain b e))
     ∙ ap (λ t. t && is_valid_for digit_set (before_any (codes "/?#") bs)) e))
     (λ e.
@@ -143,7 +143,7 @@ port_whole (b ∷ bs) u h = ⊎_elim
     ap (begins_any (codes "/?#")) (behind_mark (front digit_set bs) (b ∷ bs))
     ∙ sym (ap (λ n. begins_any (codes "/?#") (drop n (b ∷ bs))) past) ∙ h in
     let valid =
-    sym (reads_to (codes "/?#") digit_set refl refl bs (utf8_tail b bs (colon_ascii b e) u))
+    sym (parses_to (codes "/?#") digit_set refl refl bs (utf8_tail b bs (colon_ascii b e) u))
     ∙ left in
     let m : front digit_set bs ≡ to_mark (codes "/?#") bs =
     eqb-true _ _
@@ -191,14 +191,14 @@ digit_ascii c (inl range) = grind (arith, nat_tests)
 digit_ascii c (inr dot) = grind (arith, nat_tests)
 
 module _ (names : TableSet) (lacks : LacksPercent names) (wide : IsSubset reg_name_set names) where
-  digits_read : (text : List ℕ) → All IsDigitOrDot text → front names text ≡ length text
-  digits_read [] h = front_nil names
-  digits_read (c ∷ text) h =
+  digits_scanned : (text : List ℕ) → All IsDigitOrDot text → front names text ≡ length text
+  digits_scanned [] h = front_nil names
+  digits_scanned (c ∷ text) h =
       let d = h 0 0 (omega arith) in
       let one : front names (c ∷ text) ≡ front names text + 1 =
       front-char names lacks (c ∷ text) 0 (omega arith) (digit_ascii c d)
       (wide.ascii c (digit_reg_name c d)) in
-      one ∙ omega (arith, digits_read text (λ k d l. h (suc k) d (omega arith)))
+      one ∙ omega (arith, digits_scanned text (λ k d l. h (suc k) d (omega arith)))
 
   pub name_valid : (text : List ℕ) → IsUtf8 text → is_name names text ≡ is_valid_for names text
   unfolding is_name
@@ -206,7 +206,7 @@ module _ (names : TableSet) (lacks : LacksPercent names) (wide : IsSubset reg_na
       (λ n. ap (λ o. is_some o || is_valid_for names text) n)
       (λ (octets, s).
       ap (λ o. is_some o || is_valid_for names text) s
-      ∙ sym (valid_where_read names text lacks u
+      ∙ sym (valid_where_scanned names text lacks u
       ∙ eq-eqb _ _
-      (digits_read text (ipv4_digits text octets (ipv4_value-sound text octets s)))))
+      (digits_scanned text (ipv4_digits text octets (ipv4_value-sound text octets s)))))
       (value_cases (ipv4_value text))

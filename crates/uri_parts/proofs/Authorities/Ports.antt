@@ -1,4 +1,4 @@
--- What std reads of a port's digits.
+-- What std parses of a port's digits.
 use Rattle.std.proofs.Common.{◌≡◌, ℕ, ◌<◌, ◌≤◌, ◌^◌, true, false, eqb, ltb, leb, ◌&&◌, List, []}
 use Rattle.std.proofs.Common.{◌∷◌, length, Option, Some, Result, Ok, Err, refl, sym, ap, subst, ◌∙◌}
 use Rattle.std.proofs.Common.{arith, ⊎_elim, true≢false}
@@ -57,7 +57,7 @@ numeral : (digits : List ℕ) → AllDigits 10 digits → 0 < length digits
 numeral digits d some = subst (IsNumeral 10) (sym (no_plus digits d)) (some, d)
 
 -- a port that is not empty is parsed as its number, or refused because that is too great
-pub record IsPortRead (port : Option (List ℕ)) (r : Result ℕ ParseIntError) : Type 0 where
+pub record IsPortParsed (port : Option (List ℕ)) (r : Result ℕ ParseIntError) : Type 0 where
   pub ok : (n : ℕ) → r ≡ Ok n → FitsPort (port_number port) × (Some n ≡ port_number port)
   pub err : (e : ParseIntError) → r ≡ Err e
       → ¬ (FitsPort (port_number port)) × (error_kind e ≡ PosOverflow)
@@ -69,10 +69,10 @@ fits : (port : Option (List ℕ)) (n m : ℕ) → port_number port ≡ Some m �
     → FitsPort (port_number port) × (Some n ≡ port_number port)
 fits port n m is e h = (subst FitsPort (sym is) h, ap Some e ∙ sym is)
 
-read_as : (digits : List ℕ) (r : Result ℕ ParseIntError) → AllDigits 10 digits → 0 < length digits
+parsed_as : (digits : List ℕ) (r : Result ℕ ParseIntError) → AllDigits 10 digits → 0 < length digits
     → port_number (Some digits) ≡ Some (port_value digits) → IsParsed digits r
-    → ExplainsUnsignedError 10 digits r → IsPortRead (Some digits) r
-read_as digits r d some is h explains = record {
+    → ExplainsUnsignedError 10 digits r → IsPortParsed (Some digits) r
+parsed_as digits r d some is h explains = record {
   ok = λ n e. let k = subst (IsParsed digits) e h in
       fits (Some digits) n (port_value digits) is k.1 k.0.1;
   err = λ e refused. (
@@ -86,9 +86,9 @@ read_as digits r d some is h explains = record {
 pub port_parsed : (port : Option (List ℕ)) (digits : List ℕ) (r : Result ℕ ParseIntError)
     → Some digits ≡ port → IsUtf8 digits → IsValidFor digit_set digits
     → eqb (length digits) 0 ≡ false → ParsesUnsigned 16 10 digits r
-    → ExplainsUnsignedError 10 digits r → IsPortRead port r
+    → ExplainsUnsignedError 10 digits r → IsPortParsed port r
 port_parsed port digits r is u v long parses explains =
     let d = valid_digits digits u v in
     let some = not_empty digits long in
-    subst (λ port. IsPortRead port r) is
-    (read_as digits r d some.0 some.1 (parse_digits plain_words 16 digits r parses d) explains)
+    subst (λ port. IsPortParsed port r) is
+    (parsed_as digits r d some.0 some.1 (parse_digits plain_words 16 digits r parses d) explains)

@@ -26,18 +26,18 @@ unfoldable pub ends_in_port : List ℕ → Bool
 ends_in_port [] = true
 ends_in_port (b ∷ rest) = starts 58 (b ∷ rest) && is_valid_for digit_set rest
 
-unfoldable pub reads_host_and_port : TableSet → List ℕ → Bool
-reads_host_and_port names rest = cond (starts 91 rest)
+unfoldable pub parses_host_and_port : TableSet → List ℕ → Bool
+parses_host_and_port names rest = cond (starts 91 rest)
     (starts 93 (from_any (codes "]") (drop 1 rest))
     && (is_literal (before_any (codes "]") (drop 1 rest))
     && ends_in_port (drop 1 (from_any (codes "]") (drop 1 rest)))))
     (is_name names (before_any (codes ":") rest) && ends_in_port (from_any (codes ":") rest))
 
-unfoldable pub reads_whole_authority : TableSet → TableSet → List ℕ → Bool
-reads_whole_authority users names text = cond (starts 64 (from_any (codes "@") text))
+unfoldable pub parses_whole_authority : TableSet → TableSet → List ℕ → Bool
+parses_whole_authority users names text = cond (starts 64 (from_any (codes "@") text))
     (is_valid_for users (before_any (codes "@") text)
-    && reads_host_and_port names (drop 1 (from_any (codes "@") text)))
-    (reads_host_and_port names text)
+    && parses_host_and_port names (drop 1 (from_any (codes "@") text)))
+    (parses_host_and_port names text)
 
 same : (xs ys : List ℕ) → xs ≡ ys → bytes_eq xs ys ≡ true
 same xs ys e = (bytes_eq-Decides xs ys).1 e
@@ -122,8 +122,8 @@ starts_front mark [] behind e = refl
 starts_front mark (b ∷ front) behind e = e
 
 name_lemma : (names : TableSet) (rest : List ℕ) → starts 91 rest ≡ false
-    → host_test names rest ≡ reads_host_and_port names rest
-unfolding reads_host_and_port
+    → host_test names rest ≡ parses_host_and_port names rest
+unfolding parses_host_and_port
 name_lemma names rest e =
     let cut = IsCut-any (codes ":") rest in
     let host : List ℕ = before_any (codes ":") rest in
@@ -165,8 +165,8 @@ no_bracket [] b e = refl
 no_bracket (c ∷ behind) b e = absurd (both_ways _ e (mark_is c b))
 
 closed_lemma : (names : TableSet) (rest : List ℕ) → starts 93 (from_any (codes "]") rest) ≡ true
-    → host_test names (91 ∷ rest) ≡ reads_host_and_port names (91 ∷ rest)
-unfolding reads_host_and_port
+    → host_test names (91 ∷ rest) ≡ parses_host_and_port names (91 ∷ rest)
+unfolding parses_host_and_port
 closed_lemma names rest e =
     let cut = IsCut-any (codes "]") rest in
     let address : List ℕ = before_any (codes "]") rest in
@@ -188,8 +188,8 @@ too_long rest e = let n = ap length e in
     omega (arith, n, length-append rest (codes "]"), length-append (bracketed rest) [])
 
 open_lemma : (names : TableSet) (rest : List ℕ) → starts 93 (from_any (codes "]") rest) ≡ false
-    → host_test names (91 ∷ rest) ≡ reads_host_and_port names (91 ∷ rest)
-unfolding host_test reads_host_and_port port_of
+    → host_test names (91 ∷ rest) ≡ parses_host_and_port names (91 ∷ rest)
+unfolding host_test parses_host_and_port port_of
 open_lemma names rest e =
     let cut = IsCut-any (codes "]") rest in
     let none : from_any (codes "]") rest ≡ [] = no_bracket (from_any (codes "]") rest) cut.begins
@@ -209,13 +209,13 @@ open_lemma names rest e =
     ∙ sym (and_left _ _ e)
 
 host_lemma : (names : TableSet) (rest : List ℕ)
-    → host_test names rest ≡ reads_host_and_port names rest
+    → host_test names rest ≡ parses_host_and_port names rest
 host_lemma names [] = name_lemma names [] refl
 host_lemma names (b ∷ rest) = ⊎_elim
     (λ e. ap (λ c. host_test names (c ∷ rest)) (eqb-true b 91 e)
     ∙ ⊎_elim (λ c. closed_lemma names rest c) (λ c. open_lemma names rest c)
     (cases_Bool (starts 93 (from_any (codes "]") rest)))
-    ∙ sym (ap (λ c. reads_host_and_port names (c ∷ rest)) (eqb-true b 91 e)))
+    ∙ sym (ap (λ c. parses_host_and_port names (c ∷ rest)) (eqb-true b 91 e)))
     (λ e. name_lemma names (b ∷ rest) e)
     (cases_Bool (eqb b 91))
 
@@ -230,10 +230,10 @@ four true false h p = refl
 four false true h p = refl
 four false false h p = refl
 
-pub authority_reads : (users names : TableSet) (text : List ℕ)
-    → is_authority_for users names text ≡ reads_whole_authority users names text
-unfolding is_authority_for reads_whole_authority host_test port_of
-authority_reads users names text =
+pub authority_parses : (users names : TableSet) (text : List ℕ)
+    → is_authority_for users names text ≡ parses_whole_authority users names text
+unfolding is_authority_for parses_whole_authority host_test port_of
+authority_parses users names text =
     let cut = IsCut-any (codes "@") text in
     let user : List ℕ = before_any (codes "@") text in
     let from : List ℕ = from_any (codes "@") text in

@@ -18,7 +18,7 @@ use Rattle.uri_pct.proofs.ValidTexts.Cuts.{excludes}
 use Rattle.uri_parts.specs.Components.{Lacks, before_any, from_any}
 use Rattle.uri_parts.specs.Hosts.{IsIpvFuture, is_ipv_future, is_future_address}
 use Rattle.uri_parts.proofs.Splitting.Cuts.{cut-append, IsCut-any}
-use Rattle.uri_parts.proofs.Parsing.ReadingStops.{utf8_tail}
+use Rattle.uri_parts.proofs.Parsing.ScanStops.{utf8_tail}
 use Rattle.uri_parts.proofs.TextKinds.SpeltTexts.{utf8_apart, mark_outside, valid_lacks}
 use Rattle.uri_parts.proofs.HostForms.Addresses.{is_address_char, address_text-ipv6}
 use Rattle.uri_parts.proofs.HostForms.Addresses.{address_text-lacks}

@@ -17,7 +17,7 @@ use Rattle.uri_parts.specs.Hosts.{IsIpv4Text, bracketed, literal_of, literal_kin
 use Rattle.uri_parts.specs.Hosts.{ipv4_value, ipv6_value, is_ipv_future, host_kind, is_host}
 use Rattle.uri_parts.proofs.Splitting.Cuts.{cut-append}
 use Rattle.uri_parts.proofs.TextKinds.SpeltTexts.{utf8_apart, valid_lacks}
-use Rattle.uri_parts.proofs.Parsing.ReadingStops.{utf8_tail}
+use Rattle.uri_parts.proofs.Parsing.ScanStops.{utf8_tail}
 use Rattle.uri_parts.proofs.HostForms.Addresses.{is_address_char, is_address_text}
 use Rattle.uri_parts.proofs.HostForms.Addresses.{address_text-ipv6, address_text-first}
 use Rattle.uri_parts.proofs.HostForms.Addresses.{ipv4_value-complete, ipv4_value-sound}

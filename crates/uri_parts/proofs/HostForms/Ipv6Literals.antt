@@ -1,4 +1,4 @@
--- A text in brackets that begins with no `v` is read as an IPv6 address with `]` behind it.
+-- A text in brackets that begins with no `v` is parsed as an IPv6 address with `]` behind it.
 use Rattle.std.proofs.Common.{◌≡◌, ℕ, ◌+◌, ◌-◌, ◌≤◌, Bool, true, false, List, [], ◌∷◌, ◌++◌, length}
 use Rattle.std.proofs.Common.{drop, Option, Some, None, option_map, refl, sym, ap, ◌∙◌, arith, ◌||◌}
 use Rattle.std.proofs.Common.{lit≤, eqb-true, length-append, length-drop, drop_at}
@@ -11,7 +11,7 @@ use Rattle.std.proofs.NetLemmas.Options.{map_some}
 use Rattle.std.proofs.NetLemmas.Ipv6.{EndsGroups, read_ipv6_complete, read_ipv6_sound}
 use Rattle.uri_parts.specs.Components.{starts, before_any, from_any}
 use Rattle.uri_parts.specs.Hosts.{ipv6_value, is_ipv_future}
-use Rattle.uri_parts.specs.Models.Literals.{is_literal, reads_literal, literal_length}
+use Rattle.uri_parts.specs.Models.Literals.{is_literal, parses_literal, literal_length}
 use Rattle.uri_parts.proofs.Splitting.Cuts.{Begins, IsCut-any, cut-append}
 use Rattle.uri_parts.proofs.HostForms.Addresses.{ipv6_value-complete, ipv6_value-sound}
 use Rattle.uri_parts.proofs.HostForms.Futures.{ipv6_lacks}
@@ -32,8 +32,8 @@ ends (c ∷ text) e = rw (eqb-true c 93 e) ((lit≤ tt, omega arith), λ colon. 
 pub follows : (rest behind : List ℕ) → Some behind ≡ left rest
     → (length behind ≤ length rest) × (behind ≡ drop (length rest - length behind) rest)
 follows rest behind e =
-    map_some (λ p. p.1) (read_ipv6 rest) behind (sym e) λ p read same.
-    let (front, split, groups) = read_ipv6_sound rest p.0 p.1 read in
+    map_some (λ p. p.1) (read_ipv6 rest) behind (sym e) λ p found same.
+    let (front, split, groups) = read_ipv6_sound rest p.0 p.1 found in
     let whole : rest ≡ front ++ behind = split ∙ ap (λ t. front ++ t) same in
     let size : length rest ≡ length front + length behind = ap length whole
     ∙ length-append front behind in (
@@ -50,11 +50,11 @@ place_behind text behind start within e =
     f.1 ∙ drop-drop _ start text ∙ ap (λ n. drop n text) (omega (arith, f.0))
 
 pub accepted : (rest behind : List ℕ) → Some behind ≡ left rest → starts 93 behind ≡ true
-    → (reads_literal rest ≡ true) × (literal_length rest + length behind ≡ length rest + 1)
-unfolding is_literal reads_literal literal_length
+    → (parses_literal rest ≡ true) × (literal_length rest + length behind ≡ length rest + 1)
+unfolding is_literal parses_literal literal_length
 accepted rest behind e closed =
-    map_some (λ p. p.1) (read_ipv6 rest) behind (sym e) λ p read same.
-    let (front, split, groups) = read_ipv6_sound rest p.0 p.1 read in
+    map_some (λ p. p.1) (read_ipv6 rest) behind (sym e) λ p found same.
+    let (front, split, groups) = read_ipv6_sound rest p.0 p.1 found in
     let whole : rest ≡ front ++ behind = split ∙ ap (λ t. front ++ t) same in
     let cut = cut-append (codes "]") front behind (ipv6_lacks (codes "]") refl front p.0 groups)
     (begins behind closed) in
@@ -72,34 +72,34 @@ value_of : (o : Option (List ℕ)) (b : Bool) → (is_some o || b) ≡ true → 
 value_of None b e f = absurd (false≢true (sym f ∙ e))
 value_of (Some x) b e f = (x, refl)
 
--- an address with `]` behind it is read
-closed_read : (rest : List ℕ) → (starts 118 rest || starts 86 rest) ≡ false
-    → reads_literal rest ≡ true
+-- an address with `]` behind it is parsed
+closed_parsed : (rest : List ℕ) → (starts 118 rest || starts 86 rest) ≡ false
+    → parses_literal rest ≡ true
     → (left rest ≡ Some (from_any (codes "]") rest))
     × (starts 93 (from_any (codes "]") rest) ≡ true)
-unfolding is_literal reads_literal
-closed_read rest plain e =
+unfolding is_literal parses_literal
+closed_parsed rest plain e =
     let cut = IsCut-any (codes "]") rest in
     let before = before_any (codes "]") rest in
     let from = from_any (codes "]") rest in
     let p = and_parts _ _ e in
     let no_future = unlettered before from (rw cut.whole plain) in
     let (segments, value) = value_of (ipv6_value before) _ p.1 no_future in
-    let read = read_ipv6_complete before segments from (ipv6_value-sound before segments value)
+    let found = read_ipv6_complete before segments from (ipv6_value-sound before segments value)
     (ends from p.0) in
-    (ap (option_map (λ p. p.1)) (ap read_ipv6 (sym cut.whole) ∙ read), p.0)
+    (ap (option_map (λ p. p.1)) (ap read_ipv6 (sym cut.whole) ∙ found), p.0)
 
 not_true : (b : Bool) → (b ≡ true → ⊥) → b ≡ false
 not_true true k = absurd (k refl)
 not_true false k = refl
 
-pub unread : (rest : List ℕ) → (starts 118 rest || starts 86 rest) ≡ false → None ≡ left rest
-    → reads_literal rest ≡ false
-unread rest plain e = not_true _ λ t. none-some _ (e ∙ (closed_read rest plain t).0)
+pub unparsed : (rest : List ℕ) → (starts 118 rest || starts 86 rest) ≡ false → None ≡ left rest
+    → parses_literal rest ≡ false
+unparsed rest plain e = not_true _ λ t. none-some _ (e ∙ (closed_parsed rest plain t).0)
 
 pub unclosed : (rest behind : List ℕ) → (starts 118 rest || starts 86 rest) ≡ false
-    → Some behind ≡ left rest → starts 93 behind ≡ false → reads_literal rest ≡ false
+    → Some behind ≡ left rest → starts 93 behind ≡ false → parses_literal rest ≡ false
 unclosed rest behind plain e other = not_true _ λ t.
-    let c = closed_read rest plain t in
+    let c = closed_parsed rest plain t in
     let same : behind ≡ from_any (codes "]") rest = same_Some _ _ (e ∙ c.0) in
     false≢true (sym other ∙ ap (starts 93) same ∙ c.1)

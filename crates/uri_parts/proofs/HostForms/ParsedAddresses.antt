@@ -1,4 +1,4 @@
--- What std reads of the text of an address.
+-- What std parses of the text of an address.
 use Rattle.std.proofs.Common.{◌≡◌, List, ℕ, Some, None, sym, ⊎_elim}
 use Rattle.std.specs.declared.net.ipv4_addr.Ipv4Addr.{Ipv4Addr}
 use Rattle.std.specs.declared.net.ipv6_addr.Ipv6Addr.{Ipv6Addr}

@@ -10,8 +10,8 @@ use Rattle.uri_pct.specs.Models.Fronts.{front, after}
 use Rattle.uri_pct.specs.Texts.{IsStrayPercent}
 use Rattle.uri_pct.proofs.ValidTexts.Fronts.{front-after, stray-digits}
 use Rattle.uri_parts.specs.Components.{starts}
-use Rattle.uri_parts.specs.Models.AuthorityReading.{begins_any}
-use Rattle.uri_parts.specs.Models.Reading.{is_end}
+use Rattle.uri_parts.specs.Models.AuthorityParsing.{begins_any}
+use Rattle.uri_parts.specs.Models.Parsing.{is_end}
 
 pub starts_at : (mark i : ℕ) (text : List ℕ)
     → starts mark (drop i text) ≡ (ltb i (length text) && eqb (get_or text i 0) mark)

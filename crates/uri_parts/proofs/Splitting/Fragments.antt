@@ -67,7 +67,7 @@ is_split : (text : List ℕ) (p : Components) (fragment : Option (List ℕ)) →
     → (let q = record p { fragment = fragment } in IsSplitOf (recompose q) q)
 is_split text p fragment split =
     let before = before_hash p in
-    let read : has_scheme text ≡ has_scheme before =
+    let same : has_scheme text ≡ has_scheme before =
     ap has_scheme (before_hash-append text p split)
     ∙ has_scheme-append before (fragment_text p.fragment) (Begins-fragment_text p.fragment) in
     let made : has_scheme (recompose (record p { fragment = fragment })) ≡ has_scheme before =
@@ -79,7 +79,7 @@ is_split text p fragment split =
       authority = split.authority;
       path = split.path;
       query = split.query;
-      no_scheme = none_as p.scheme _ _ (λ e. made ∙ sym read ∙ e) split.no_scheme;
+      no_scheme = none_as p.scheme _ _ (λ e. made ∙ sym same ∙ e) split.no_scheme;
       no_authority = split.no_authority;
     }
 

@@ -36,24 +36,24 @@ starts-fragment_text : (fragment : Option (List ℕ)) → starts 63 (fragment_te
 starts-fragment_text None = refl
 starts-fragment_text (Some f) = refl
 
--- the fragment that is read in such a text is that fragment
-pub fragment-read : (fragment : Option (List ℕ))
+-- the fragment that is found in such a text is that fragment
+pub fragment-found : (fragment : Option (List ℕ))
     → when (starts 35 (fragment_text fragment)) (drop 1 (fragment_text fragment)) ≡ fragment
-fragment-read None = refl
-fragment-read (Some f) = ap Some (append-nil f)
+fragment-found None = refl
+fragment-found (Some f) = ap Some (append-nil f)
 
--- the query that is read, and what is left behind it
-pub query-read : (query fragment : Option (List ℕ)) → IfSome query (λ q. Lacks (codes "#") q) →
+-- the query that is found, and what is left behind it
+pub query-found : (query fragment : Option (List ℕ)) → IfSome query (λ q. Lacks (codes "#") q) →
     (when (starts 63 (query_text query fragment))
     (before_any (codes "#") (drop 1 (query_text query fragment))) ≡ query)
     × (after_query (query_text query fragment) ≡ fragment_text fragment)
-query-read None fragment lacks =
+query-found None fragment lacks =
     let e = starts-fragment_text fragment in (
       ap (λ t. when t (before_any (codes "#") (drop 1 (fragment_text fragment)))) e,
       cond-false _ _ _
           e,
     )
-query-read (Some q) fragment lacks =
+query-found (Some q) fragment lacks =
     let cut = cut-append (codes "#") q (fragment_text fragment) lacks
     (Begins-fragment_text fragment) in
     let e : (q ++ []) ++ fragment_text fragment ≡ q ++ fragment_text fragment =
@@ -87,18 +87,18 @@ Begins-rooted [] tail rooted begins =
 Begins-rooted (c ∷ path) tail rooted begins =
     ⊎_elim (λ e. absurd (nil_cons c path e)) (λ e. slash_mark c (true_of _ e)) rooted
 
--- the authority that is read, and what is left behind it
-pub authority-read : (authority : Option (List ℕ)) (path tail : List ℕ) →
+-- the authority that is found, and what is left behind it
+pub authority-found : (authority : Option (List ℕ)) (path tail : List ℕ) →
     IfSome authority (λ a. Lacks (codes "/?#") a × IsRooted path)
     → IfNone authority (has_authority path ≡ false) → Begins (codes "?#") tail →
     (when (has_authority (marked (codes "//") authority [] ++ (path ++ tail)))
     (before_any (codes "/?#") (drop 2 (marked (codes "//") authority [] ++ (path ++ tail))))
     ≡ authority)
     × (after_authority (marked (codes "//") authority [] ++ (path ++ tail)) ≡ path ++ tail)
-authority-read None path tail some none begins =
+authority-found None path tail some none begins =
     let e : has_authority (path ++ tail) ≡ false = has_authority-append path tail begins ∙ none in
     (ap (λ t. when t (before_any (codes "/?#") (drop 2 (path ++ tail)))) e, cond-false _ _ _ e)
-authority-read (Some a) path tail some none begins =
+authority-found (Some a) path tail some none begins =
     let cut = cut-append (codes "/?#") a (path ++ tail) some.0
     (Begins-rooted path tail some.1 begins) in
     let e : (a ++ []) ++ (path ++ tail) ≡ a ++ (path ++ tail) =
@@ -113,16 +113,16 @@ scheme_first : (s rest : List ℕ) → 0 < length s → Lacks (codes ":/?#") s
 scheme_first [] rest h lacks = absurd (omega arith)
 scheme_first (c ∷ s) rest h lacks = no_colon c (lacks 0 0 (omega arith))
 
--- the scheme that is read, and what is left behind it
-pub scheme-read : (scheme : Option (List ℕ)) (rest : List ℕ) →
+-- the scheme that is found, and what is left behind it
+pub scheme-found : (scheme : Option (List ℕ)) (rest : List ℕ) →
     IfSome scheme (λ s. (0 < length s) × Lacks (codes ":/?#") s)
     → IfNone scheme (has_scheme (marked [] scheme (codes ":") ++ rest) ≡ false) →
     (when (has_scheme (marked [] scheme (codes ":") ++ rest))
     (before_any (codes ":/?#") (marked [] scheme (codes ":") ++ rest)) ≡ scheme)
     × (after_scheme (marked [] scheme (codes ":") ++ rest) ≡ rest)
-scheme-read None rest some none =
+scheme-found None rest some none =
     (ap (λ t. when t (before_any (codes ":/?#") rest)) none, cond-false _ _ _ none)
-scheme-read (Some s) rest some none =
+scheme-found (Some s) rest some none =
     let text : List ℕ = (s ++ codes ":") ++ rest in
     let e : text ≡ s ++ (58 ∷ rest) = append_assoc s (codes ":") rest in
     let cut = cut-append (codes ":/?#") s (58 ∷ rest) some.1 refl in

@@ -12,17 +12,17 @@ use Rattle.std.proofs.lemmas.Bool.Decides.{nat_tests}
 use Rattle.uri_pct.specs.Sets.{TableSet, LacksPercent, is_one_of, scheme_set}
 use Rattle.uri_pct.specs.Models.Fronts.{front_from, front, after, allows_first, begins_hex}
 use Rattle.uri_pct.proofs.ValidTexts.Cuts.{to_mark, excludes, front_zero_mark, front_cons}
-use Rattle.uri_pct.proofs.ValidTexts.Fronts.{front-after, front-within, none_read}
+use Rattle.uri_pct.proofs.ValidTexts.Fronts.{front-after, front-within, none_scanned}
 use Rattle.uri_parts.specs.Components.{before_any, from_any, starts, has_scheme}
 use Rattle.uri_parts.specs.Grammar.{Kind, has_colon_first}
-use Rattle.uri_parts.specs.Models.Reading.{is_stray, reads_end, reads_path, reads_relative}
-use Rattle.uri_parts.proofs.Parsing.ReadingStops.{stop_cases}
+use Rattle.uri_parts.specs.Models.Parsing.{is_stray, parses_end, parses_path, parses_relative}
+use Rattle.uri_parts.proofs.Parsing.ScanStops.{stop_cases}
 use Rattle.uri_parts.proofs.TextKinds.Separations.{Separates}
 use Rattle.uri_parts.proofs.Parsing.Accepts.{end_stuck, none_of_four}
 use Rattle.uri_parts.proofs.Splitting.Cuts.{before_past_other, from_past_other, before_at_mark}
 use Rattle.uri_parts.proofs.Splitting.Cuts.{from_at_mark}
 
--- where reading stops at a mark it stops at the first
+-- where a scan stops at a mark it stops at the first
 pub stops_at : (marks : List ℕ) (mark : ℕ) → is_one_of marks mark ≡ true → (set : TableSet)
     → LacksPercent set → excludes set marks ≡ true → (bs : List ℕ) → IsUtf8 bs
     → starts mark (after set bs) ≡ true → front set bs ≡ to_mark marks bs
@@ -36,7 +36,7 @@ pub stops_at_colon : (set : TableSet) → LacksPercent set → excludes set (cod
     → front set bs ≡ to_mark (codes ":/?#") bs
 stops_at_colon = stops_at (codes ":/?#") 58 refl
 
--- nothing is read of a text that begins with `:`
+-- nothing is scanned of a text that begins with `:`
 pub at_colon : (set : TableSet) → LacksPercent set → excludes set (codes ":/?#") ≡ true
     → (bs : List ℕ) → starts 58 bs ≡ true → after set bs ≡ bs
 at_colon set lacks outside [] e = absurd (false≢true e)
@@ -135,74 +135,75 @@ module _ (segment : TableSet) (kind : Kind) (w : Separates segment kind) where
       0)) w.octets
       ∙ ⊎_elim
       (λ o. cond-true _ _ _ o ∙ ⊎_elim
-      (λ h. absurd (none_read (front_from segment 2 rest)
+      (λ h. absurd (none_scanned (front_from segment 2 rest)
       (sym (cond-true _ _ _ h) ∙ sym (cond-true _ _ _ o) ∙ sym c ∙ z)))
       (λ h. cond-false _ _ _ h) (cases_Bool (begins_hex rest)))
       (λ o. cond-false _ _ _ o ∙ ⊎_elim
-      (λ a. absurd (none_read (front_from segment (continuation_len b) rest)
+      (λ a. absurd (none_scanned (front_from segment (continuation_len b) rest)
       (sym (cond-true _ _ _ a) ∙ sym (cond-false _ _ _ o) ∙ sym c ∙ z)))
       (λ a. cond-false _ _ _ (w.rest b rest e a)) (cases_Bool (allows_first segment b rest)))
       (cases_Bool (segment.pct_encoded && eqb b 37))
 
   path_stuck : (b : ℕ) (rest : List ℕ) → is_one_of (codes ":/?#") b ≡ false
-      → front segment (b ∷ rest) ≡ 0 → reads_path kind (b ∷ rest) ≡ false
-  unfolding reads_path
+      → front segment (b ∷ rest) ≡ 0 → parses_path kind (b ∷ rest) ≡ false
+  unfolding parses_path
   path_stuck b rest e z =
       let p = none_of_four b e in
       let r : List ℕ = after kind.path (b ∷ rest) in
-      and_right (not (is_stray kind.path r)) (reads_end kind r)
-      (ap (λ n. reads_end kind (drop n (b ∷ rest))) (stuck_too b rest p.0 z)
+      and_right (not (is_stray kind.path r)) (parses_end kind r)
+      (ap (λ n. parses_end kind (drop n (b ∷ rest))) (stuck_too b rest p.0 z)
       ∙ end_stuck segment kind w b rest p.1)
 
   pub after_within : (bs : List ℕ) → after kind.path (after segment bs) ≡ after kind.path bs
   after_within bs = drop-drop (front kind.path (after segment bs)) (front segment bs) bs
       ∙ ap (λ n. drop n bs) (sym (front-within segment kind.path w.within w.segment_lacks bs))
 
-  pub path_after : (bs : List ℕ) → reads_path kind (after segment bs) ≡ reads_path kind bs
-  unfolding reads_path
-  path_after bs = ap (λ r. not (is_stray kind.path r) && reads_end kind r) (after_within bs)
+  pub path_after : (bs : List ℕ) → parses_path kind (after segment bs) ≡ parses_path kind bs
+  unfolding parses_path
+  path_after bs = ap (λ r. not (is_stray kind.path r) && parses_end kind r) (after_within bs)
 
   percent_path : (r : List ℕ) → starts 37 r ≡ true → front segment r ≡ 0 → is_stray segment r ≡ true
-      → reads_path kind r ≡ false
-  unfolding reads_path
+      → parses_path kind r ≡ false
+  unfolding parses_path
   percent_path [] e z s = absurd (false≢true e)
   percent_path (b ∷ rest) e z s =
       let marks : is_one_of (codes ":/") b ≡ false =
       ap (is_one_of (codes ":/")) (eqb-true b 37 e) in
       let n = stuck_too b rest marks z in
       let stray : is_stray kind.path (b ∷ rest) ≡ true = ap (λ t. t && eqb b 37) w.octets ∙ s in
-      ap (λ n. not (is_stray kind.path (drop n (b ∷ rest))) && reads_end kind (drop n (b ∷ rest))) n
+      ap (λ n. not (is_stray kind.path (drop n (b ∷ rest)))
+      && parses_end kind (drop n (b ∷ rest))) n
       ∙ and_left _ _ (not_from_true _ stray)
 
   -- a stray `%` stops the path as well
   no_matter : (bs : List ℕ) (x : Bool)
-      → (not (is_stray segment (after segment bs)) && (x && reads_path kind (after segment bs)))
-      ≡ (x && reads_path kind (after segment bs))
+      → (not (is_stray segment (after segment bs)) && (x && parses_path kind (after segment bs)))
+      ≡ (x && parses_path kind (after segment bs))
   no_matter bs x = ⊎_elim
       (λ s. and_left _ _ (not_from_true _ s)
       ∙ sym
       (and_right _ _
       (percent_path (after segment bs) (and_parts _ _ s).1 (front-after segment bs) s)))
-      (λ s. ap (λ t. not t && (x && reads_path kind (after segment bs))) s)
+      (λ s. ap (λ t. not t && (x && parses_path kind (after segment bs))) s)
       (cases_Bool (is_stray segment (after segment bs)))
 
   pub relative_lemma : (bs : List ℕ) → IsUtf8 bs → has_scheme bs ≡ false
-      → reads_relative segment kind bs ≡ (not (starts 58 bs) && reads_path kind bs)
-  unfolding reads_relative
+      → parses_relative segment kind bs ≡ (not (starts 58 bs) && parses_path kind bs)
+  unfolding parses_relative
   relative_lemma bs u e =
       no_matter bs (not (starts 58 (after segment bs)))
-      ∙ ap (λ t. not t && reads_path kind (after segment bs)) (colon_same bs u e)
+      ∙ ap (λ t. not t && parses_path kind (after segment bs)) (colon_same bs u e)
       ∙ ap (λ t. not (starts 58 bs) && t) (path_after bs)
 
   pub relative_false : (bs : List ℕ) → IsUtf8 bs → has_scheme bs ≡ true
-      → reads_relative segment kind bs ≡ false
-  unfolding reads_relative
+      → parses_relative segment kind bs ≡ false
+  unfolding parses_relative
   relative_false bs u e =
       no_matter bs (not (starts 58 (after segment bs)))
       ∙ ⊎_elim
       (λ h.
       and_left _ _ (not_from_true _ (ap (λ n. starts 58 (drop n bs)) h ∙ (and_parts _ _ e).0)))
-      (λ s. and_right _ _ (ap (reads_path kind) s.left ∙ path_stuck s.byte s.rest s.other s.stuck))
+      (λ s. and_right _ _ (ap (parses_path kind) s.left ∙ path_stuck s.byte s.rest s.other s.stuck))
       (stop_cases (codes ":/?#") segment w.segment_lacks w.segment_marks bs u)
 
   -- what might have been a scheme is the beginning of the segment
@@ -211,7 +212,7 @@ module _ (segment : TableSet) (kind : Kind) (w : Separates segment kind) where
       ∙ ap (λ n. drop n bs) (sym (front-within scheme_set segment w.scheme_within scheme_lacks bs))
 
   pub relative_within : (bs : List ℕ)
-      → reads_relative segment kind (after scheme_set bs) ≡ reads_relative segment kind bs
-  unfolding reads_relative
+      → parses_relative segment kind (after scheme_set bs) ≡ parses_relative segment kind bs
+  unfolding parses_relative
   relative_within bs = ap (λ r. not (is_stray segment r)
-      && (not (starts 58 r) && reads_path kind r)) (segment_within bs)
+      && (not (starts 58 r) && parses_path kind r)) (segment_within bs)

@@ -5,8 +5,8 @@ use Rattle.uri_parts.specs.Components.{Components, IsSplitOf, recompose, marked,
 use Rattle.uri_parts.specs.Components.{has_authority, after_scheme, after_authority, after_query}
 use Rattle.uri_parts.specs.Components.{components, when, before_any, from_any}
 use Rattle.uri_parts.proofs.Splitting.Cuts.{cut-append}
-use Rattle.uri_parts.proofs.Splitting.Marks.{query_text, Begins-query_text, fragment-read}
-use Rattle.uri_parts.proofs.Splitting.Marks.{query-read, authority-read, scheme-read}
+use Rattle.uri_parts.proofs.Splitting.Marks.{query_text, Begins-query_text, fragment-found}
+use Rattle.uri_parts.proofs.Splitting.Marks.{query-found, authority-found, scheme-found}
 
 same_components : {s1 s2 a1 a2 q1 q2 f1 f2 : Option (List ℕ)} {p1 p2 : List ℕ} → s1 ≡ s2 → a1 ≡ a2
     → p1 ≡ p2 → q1 ≡ q2 → f1 ≡ f2
@@ -20,12 +20,12 @@ of_recomposed : (p : Components) → IsSplitOf (recompose p) p → components (r
 of_recomposed p split =
     let tail = query_text p.query p.fragment in
     let rest : List ℕ = marked (codes "//") p.authority [] ++ (p.path ++ tail) in
-    let scheme = scheme-read p.scheme rest split.scheme split.no_scheme in
-    let authority = authority-read p.authority p.path tail split.authority split.no_authority
+    let scheme = scheme-found p.scheme rest split.scheme split.no_scheme in
+    let authority = authority-found p.authority p.path tail split.authority split.no_authority
     (Begins-query_text p.query p.fragment) in
     let path = cut-append (codes "?#") p.path tail split.path
     (Begins-query_text p.query p.fragment) in
-    let query = query-read p.query p.fragment split.query in
+    let query = query-found p.query p.fragment split.query in
     let behind : after_authority (after_scheme (recompose p)) ≡ p.path ++ tail =
     ap after_authority scheme.1
     ∙ authority.1 in
@@ -37,7 +37,7 @@ of_recomposed p split =
     (ap (before_any (codes "?#")) behind ∙ path.0)
     (ap (λ e. when (starts 63 e) (before_any (codes "#") (drop 1 e))) end ∙ query.0)
     (ap (λ e. when (starts 35 (after_query e)) (drop 1 (after_query e))) end
-    ∙ ap (λ r. when (starts 35 r) (drop 1 r)) query.1 ∙ fragment-read p.fragment)
+    ∙ ap (λ r. when (starts 35 r) (drop 1 r)) query.1 ∙ fragment-found p.fragment)
 
 -- a text has no split but its components
 pub components-recompose : (text : List ℕ) (p : Components) → IsSplitOf text p → components text ≡ p

@@ -1,4 +1,4 @@
--- What the sets of a kind have to keep apart for its texts to be read from left to right.
+-- What the sets of a kind have to keep apart for its texts to be parsed from left to right.
 use Rattle.std.proofs.Common.{◌≡◌, ℕ, true, false, List}
 use Rattle.std.specs.Prelude.{codes}
 use Rattle.uri_pct.specs.Sets.{TableSet, LacksPercent, IsSubset, is_one_of, scheme_set, digit_set}

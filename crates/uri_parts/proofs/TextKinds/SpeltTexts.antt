@@ -10,10 +10,10 @@ use Rattle.uri_pct.specs.Sets.{TableSet, LacksPercent, is_one_of}
 use Rattle.uri_pct.specs.Tokens.{is_valid_for}
 use Rattle.uri_pct.specs.Models.Fronts.{front}
 use Rattle.uri_pct.proofs.ValidTexts.Cuts.{to_mark, excludes, of_each, front_le_mark}
-use Rattle.uri_pct.proofs.ValidTexts.Cuts.{valid_where_read}
+use Rattle.uri_pct.proofs.ValidTexts.Cuts.{valid_where_scanned}
 use Rattle.uri_parts.specs.Components.{Lacks, before_any}
 use Rattle.uri_parts.proofs.Splitting.Cuts.{IsCut-any}
-use Rattle.uri_parts.proofs.Parsing.ReadingStops.{utf8_tail}
+use Rattle.uri_parts.proofs.Parsing.ScanStops.{utf8_tail}
 
 inside_seam : (xs : List ℕ) (c : ℕ) (ys : List ℕ) → length xs < length (xs ++ c ∷ ys)
 inside_seam xs c ys = omega (arith, length-append xs (c ∷ ys))
@@ -41,8 +41,8 @@ mark_outside set marks outside c m =
 pub valid_lacks : (set : TableSet) (marks : List ℕ) → LacksPercent set → excludes set marks ≡ true
     → (text : List ℕ) → IsUtf8 text → is_valid_for set text ≡ true → Lacks marks text
 valid_lacks set marks lacks outside text u valid =
-    let read : front set text ≡ length text =
-    eqb-true _ _ (sym (valid_where_read set text lacks u) ∙ valid) in
+    let scanned : front set text ≡ length text =
+    eqb-true _ _ (sym (valid_where_scanned set text lacks u) ∙ valid) in
     let le : front set text ≤ to_mark marks text = front_le_mark marks set lacks outside text u in
     let whole : before_any marks text ≡ text = take_all _ text (omega arith) in
     subst (Lacks marks) whole (IsCut-any marks text).lacks

@@ -1,4 +1,4 @@
--- What the parser reads of an address in brackets, behind the `[`: RFC 3986, section 3.2.2.
+-- What the parser takes of an address in brackets, behind the `[`: RFC 3986, section 3.2.2.
 use Rattle.std.specs.Prelude.{◌≡◌, ℕ, ◌+◌, ◌<◌, ◌≤◌, Bool, ◌&&◌, ◌||◌, List, length, take, drop}
 use Rattle.std.specs.Prelude.{codes, nat_lt, slice_index, is_some, ⊤}
 use Rattle.std.specs.Char.{digit_value}
@@ -38,8 +38,8 @@ abbrev pub literal_before : List ℕ → List ℕ
 literal_before rest = before_any (codes "]") rest
 
 -- an address and `]` come first
-unfoldable pub reads_literal : List ℕ → Bool
-reads_literal rest = starts right_bracket (from_any (codes "]") rest)
+unfoldable pub parses_literal : List ℕ → Bool
+parses_literal rest = starts right_bracket (from_any (codes "]") rest)
     && is_literal (literal_before rest)
 
 -- the length of both
@@ -47,8 +47,8 @@ unfoldable pub literal_length : List ℕ → ℕ
 literal_length rest = length (literal_before rest) + 1
 
 -- one or more characters of the set come first, and then the mark
-unfoldable pub reads_marked : TableSet → ℕ → List ℕ → Bool
-reads_marked set mark rest = nat_lt 0 (front set rest) && starts mark (after set rest)
+unfoldable pub parses_marked : TableSet → ℕ → List ℕ → Bool
+parses_marked set mark rest = nat_lt 0 (front set rest) && starts mark (after set rest)
 
 unfoldable pub length_to_mark : TableSet → List ℕ → ℕ
 length_to_mark set rest = front set rest + 1
@@ -58,10 +58,10 @@ abbrev pub behind_version : List ℕ → List ℕ
 behind_version rest = drop (length_to_mark hexdig_set rest) rest
 
 -- behind a `v`, the rest of an IPvFuture address and `]` come first
-unfoldable pub reads_future : List ℕ → Bool
-reads_future rest =
-    reads_marked hexdig_set full_stop rest
-    && reads_marked ipv_future_set right_bracket (behind_version rest)
+unfoldable pub parses_future : List ℕ → Bool
+parses_future rest =
+    parses_marked hexdig_set full_stop rest
+    && parses_marked ipv_future_set right_bracket (behind_version rest)
 
 unfoldable pub future_length : List ℕ → ℕ
 future_length rest =

@@ -1,4 +1,4 @@
--- A run of ASCII characters that a set allows is read, and behind it the text has a character's
+-- A run of ASCII characters that a set allows is scanned, and behind it the text has a character's
 -- boundary.
 use Rattle.std.proofs.Common.{◌≡◌, ℕ, zero, suc, ◌+◌, ◌-◌, ◌<◌, ◌≤◌, true, List, length, get_or}
 use Rattle.std.proofs.Common.{drop, arith, subst}
@@ -12,31 +12,32 @@ use Rattle.uri_pct.proofs.ValidTexts.Fronts.{front-char}
 module _ (set : TableSet) (lacks : LacksPercent set)
     (ascii : (b : ℕ) → set.ascii b ≡ true → b < 128) (bs : List ℕ) (u : IsUtf8 bs) (start : ℕ)
     (here : IsCharBoundary bs start) where
-  abbrev IsReadTo : ℕ → Type 0
-  IsReadTo i = (i + front set (drop i bs) ≡ start + front set (drop start bs)) × IsCharBoundary bs i
+  abbrev IsScannedTo : ℕ → Type 0
+  IsScannedTo i =
+      (i + front set (drop i bs) ≡ start + front set (drop start bs)) × IsCharBoundary bs i
 
-  read_on : (n : ℕ) → start + n ≤ length bs
+  goes_on : (n : ℕ) → start + n ≤ length bs
       → ((k : ℕ) → start ≤ k → k < start + n → set.ascii (get_or bs k 0) ≡ true)
-      → IsReadTo (start + n)
-  read_on zero room pass = let e : start ≡ start + zero = omega arith in
-      subst IsReadTo e (omega arith, here)
-  read_on (suc n) room pass =
-      let before = read_on n (omega arith) (λ k from to. pass k from (omega arith)) in
+      → IsScannedTo (start + n)
+  goes_on zero room pass = let e : start ≡ start + zero = omega arith in
+      subst IsScannedTo e (omega arith, here)
+  goes_on (suc n) room pass =
+      let before = goes_on n (omega arith) (λ k from to. pass k from (omega arith)) in
       let held = pass (start + n) (omega arith) (omega arith) in
       let below = ascii (get_or bs (start + n) 0) held in
       let step = front-char set lacks bs (start + n) (omega arith) below held in
       let next : start + n + 1 ≡ start + suc n = omega arith in
-      subst IsReadTo next (
+      subst IsScannedTo next (
         omega (arith, before.0, step),
         IsCharBoundary-after_ascii bs (start + n)
             u (omega arith) below,
       )
 
-  pub run_read : (end : ℕ) → IsRun set.ascii bs start end
+  pub run_scanned : (end : ℕ) → IsRun set.ascii bs start end
       → (end + front set (drop end bs) ≡ start + front set (drop start bs)) × IsCharBoundary bs end
-  run_read end run =
+  run_scanned end run =
       let f = run.from in
       let w = run.within in
       let e : start + (end - start) ≡ end = omega arith in
-      subst IsReadTo e
-      (read_on (end - start) (omega arith) (λ k from to. run.pass k from (omega arith)))
+      subst IsScannedTo e
+      (goes_on (end - start) (omega arith) (λ k from to. run.pass k from (omega arith)))

@@ -341,7 +341,7 @@ module _ (marks : List ℕ) (set : TableSet) (lacks : LacksPercent set)
       (front_le (continuation_len b) bs s)))
       (cases_Bool (is_one_of marks b))
 
-  -- reading ends at the mark exactly where what lies before it is valid
+  -- a scan ends at the mark exactly where what lies before it is valid
   pub cut : (text : List ℕ) → IsUtf8 text
       → is_valid_for set (take (to_mark marks text) text)
       ≡ eqb (front set text) (to_mark marks text)
@@ -349,7 +349,7 @@ module _ (marks : List ℕ) (set : TableSet) (lacks : LacksPercent set)
       is_valid_for-bytes set lacks _ (IsUtf8-take text _ u (mark_boundary marks ascii text))
       ∙ cut_from 0 text (skips_text marks ascii text u)
 
-  -- reading ends at the first mark, or before it
+  -- a scan ends at the first mark, or before it
   pub front_le_mark : (text : List ℕ) → IsUtf8 text → front set text ≤ to_mark marks text
   front_le_mark text u = front_le 0 text (skips_text marks ascii text u)
 
@@ -357,10 +357,10 @@ none_len : (text : List ℕ) → to_mark [] text ≡ length text
 none_len text = prefix_len_is (λ c. not (is_one_of [] c)) text (length text) 0 (omega arith)
     (λ k h. refl) (λ h. absurd (omega arith))
 
--- a text is valid where it is read to its end
-pub valid_where_read : (set : TableSet) (text : List ℕ) → LacksPercent set → IsUtf8 text
+-- a text is valid where it is scanned to its end
+pub valid_where_scanned : (set : TableSet) (text : List ℕ) → LacksPercent set → IsUtf8 text
     → is_valid_for set text ≡ eqb (front set text) (length text)
-valid_where_read set text lacks u =
+valid_where_scanned set text lacks u =
     ap (is_valid_for set) (sym (take_all (length text) text (omega arith))
     ∙ ap (λ n. take n text) (sym (none_len text)))
     ∙ cut [] set lacks refl text u ∙ ap (eqb (front set text)) (none_len text)

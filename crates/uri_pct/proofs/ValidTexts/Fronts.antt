@@ -20,7 +20,7 @@ use Rattle.uri_pct.proofs.ValidTexts.Cuts.{front_cons}
 pub drop_one : (n : ℕ) (b : ℕ) (bs : List ℕ) → drop (n + 1) (b ∷ bs) ≡ drop n bs
 drop_one n b bs = rw add-one refl
 
--- nothing more is read at once
+-- nothing more is scanned at once
 front_after_from : (set : TableSet) (k : ℕ) (bs : List ℕ)
     → front_from set 0 (drop (front_from set k bs) bs) ≡ 0
 unfolding front_from
@@ -75,7 +75,7 @@ front_from_le set zero (b ∷ bs) = ⊎_elim
 pub front-le-length : (set : TableSet) (bs : List ℕ) → front set bs ≤ length bs
 front-le-length set bs = front_from_le set 0 bs
 
--- what a small set allows is read first of what a greater one allows
+-- what a small set allows is scanned first of what a greater one allows
 past_subset : (small great : TableSet) → IsSubset small great → (c : ℕ)
     → allows_past_ascii small c ≡ true → allows_past_ascii great c ≡ true
 unfolding allows_past_ascii
@@ -141,7 +141,7 @@ pub front-within : (small great : TableSet) → IsSubset small great → LacksPe
     → (bs : List ℕ) → front great bs ≡ front small bs + front great (after small bs)
 front-within small great w lacks bs = front_from_within small great w lacks 0 bs
 
--- one step of reading at a place in a text
+-- one step of a scan at a place in a text
 front_at : (set : TableSet) (bs : List ℕ) (i : ℕ) → i < length bs
     → front set (drop i bs)
     ≡ cond (set.pct_encoded && eqb (get_or bs i 0) 37)
@@ -252,21 +252,21 @@ pub digits-ascii : (bs : List ℕ) (i : ℕ) → has_digits bs i ≡ true → ge
 unfolding has_digits
 digits-ascii bs i e = hex_ascii _ (and_parts _ _ e).1
 
-pub none_read : (n : ℕ) → n + 1 ≡ 0 → ⊥
-none_read n e = omega arith
+pub none_scanned : (n : ℕ) → n + 1 ≡ 0 → ⊥
+none_scanned n e = omega arith
 
--- where nothing is read of a `%`, no octet begins
+-- where nothing is scanned of a `%`, no octet begins
 pub stray-digits : (set : TableSet) (bs : List ℕ) (i : ℕ) → i < length bs → set.pct_encoded ≡ true
     → get_or bs i 0 ≡ 37 → front set (drop i bs) ≡ 0 → has_digits bs i ≡ false
 stray-digits set bs i h o p z = ⊎_elim
     (λ e.
-    absurd (none_read _ (sym (cond-true _ _ _ (digits_at bs i ∙ e))
+    absurd (none_scanned _ (sym (cond-true _ _ _ (digits_at bs i ∙ e))
     ∙ sym (cond-true _ _ _ (and_from _ _ o (eq-eqb _ _ p))) ∙ sym (front_at set bs i h)
     ∙ z)))
     (λ e. e)
     (cases_Bool (has_digits bs i))
 
--- where no ASCII is allowed and reading may not go on
+-- where no ASCII is allowed and a scan may not go on
 flags_off : (set : TableSet) → (set.ucschar || set.iprivate) ≡ false → (c : ℕ)
     → allows_past_ascii set c ≡ false
 unfolding allows_past_ascii

@@ -91,7 +91,7 @@ kept_chars set (c ∷ cs) s =
     (λ a. subst (IsKept set text) (sym (first ∙ cond-false _ _ _ a)) refl)
     (cases_Bool (allows set c))
 
--- what is read of a text stands for itself
+-- what is scanned of a text stands for itself
 pub front_kept : (set : TableSet) (text : List ℕ) → IsUtf8 text
     → IsKept set text (front (plain_set set) text)
 front_kept set text u = subst (λ t. IsKept set t (front (plain_set set) t)) u.1.1

@@ -1,4 +1,4 @@
--- Bytes and octets that are spelt by what a set allows are read.
+-- Bytes and octets that are spelt by what a set allows are scanned.
 use Rattle.std.proofs.Common.{◌≡◌, ℕ, zero, suc, ◌+◌, ◌<◌, ◌≤◌, Bool, true, false, List, length}
 use Rattle.std.proofs.Common.{get_or, drop, refl, sym, ap, subst, ◌∙◌, arith, ⊎_elim}
 use Rattle.std.specs.Char.{is_ascii_hexdigit}
@@ -25,8 +25,8 @@ module _ (set : TableSet) (lacks : LacksPercent set) (pct : set.pct_encoded ≡ 
   abbrev IsFresh : ℕ → Type 0
   IsFresh k = (j : ℕ) → j < k → k ≤ j + 2 → oct j ≡ false
 
-  abbrev IsRead : ℕ → Type 0
-  IsRead k = (i + n + front set (drop (i + n) bs) ≡ i + k + front set (drop (i + k) bs))
+  abbrev IsScanned : ℕ → Type 0
+  IsScanned k = (i + n + front set (drop (i + n) bs) ≡ i + k + front set (drop (i + k) bs))
       × IsCharBoundary bs (i + n)
 
   plain : (k : ℕ) → (get_or bs (i + k) 0 ≡ 37 → ⊥) → oct k ≡ false
@@ -57,14 +57,14 @@ module _ (set : TableSet) (lacks : LacksPercent set) (pct : set.pct_encoded ≡ 
       plain j (λ p. none.1 (ap (λ m. get_or bs m 0) (omega arith) ∙ p)))
       (cases_lt j (k + 2))
 
-  stay : (k : ℕ) → n ≡ k → IsCharBoundary bs (i + k) → IsRead k
+  stay : (k : ℕ) → n ≡ k → IsCharBoundary bs (i + k) → IsScanned k
   stay k e b = (
     ap (λ m. i + m + front set (drop (i + m) bs)) e,
     subst (λ m. IsCharBoundary bs (i + m))
         (sym e) b,
   )
 
-  walk : (steps k : ℕ) → n ≤ k + steps → k ≤ n → IsFresh k → IsCharBoundary bs (i + k) → IsRead k
+  walk : (steps k : ℕ) → n ≤ k + steps → k ≤ n → IsFresh k → IsCharBoundary bs (i + k) → IsScanned k
   walk zero k far near fresh b = stay k (omega arith) b
   walk (suc steps) k far near fresh b = ⊎_elim
       (λ (inside : k < n). ⊎_elim
@@ -76,7 +76,7 @@ module _ (set : TableSet) (lacks : LacksPercent set) (pct : set.pct_encoded ≡ 
       let last : i + k + 2 + 1 ≡ i + (k + 3) = omega arith in
       let behind = IsCharBoundary-after_ascii bs (i + k + 2) u (omega arith)
       (digits-ascii bs (i + k) (digits k o)) in
-      let r : IsRead (k + 3) = walk steps (k + 3) (omega arith) w (fresh_3 k o)
+      let r : IsScanned (k + 3) = walk steps (k + 3) (omega arith) w (fresh_3 k o)
       (subst (IsCharBoundary bs) last behind) in
       let f : front set (drop (i + k) bs) ≡ front set (drop (i + (k + 3)) bs) + 3 = e
       ∙ ap (λ m. front set (drop m bs) + 3) next in
@@ -86,7 +86,7 @@ module _ (set : TableSet) (lacks : LacksPercent set) (pct : set.pct_encoded ≡ 
       let e = front-char set lacks bs (i + k) (omega arith) (ascii _ a) a in
       let next : i + k + 1 ≡ i + (k + 1) = omega arith in
       let behind = IsCharBoundary-after_ascii bs (i + k) u (omega arith) (ascii _ a) in
-      let r : IsRead (k + 1) = walk steps (k + 1) (omega arith) (omega arith) (fresh_1 k fresh o)
+      let r : IsScanned (k + 1) = walk steps (k + 1) (omega arith) (omega arith) (fresh_1 k fresh o)
       (subst (IsCharBoundary bs) next behind) in
       let f : front set (drop (i + k) bs) ≡ front set (drop (i + (k + 1)) bs) + 1 = e
       ∙ ap (λ m. front set (drop m bs) + 1) next in
@@ -95,27 +95,28 @@ module _ (set : TableSet) (lacks : LacksPercent set) (pct : set.pct_encoded ≡ 
       (λ (end : n ≤ k). stay k (omega arith) b)
       (cases_lt k n)
 
-  pub all_read : (i + n + front set (drop (i + n) bs) ≡ i + front set (drop i bs))
+  pub all_scanned : (i + n + front set (drop (i + n) bs) ≡ i + front set (drop i bs))
       × IsCharBoundary bs (i + n)
-  all_read =
+  all_scanned =
       let z : i + 0 ≡ i = omega arith in
       let r = walk n 0 (omega arith) (omega arith) (λ j l h. absurd (omega arith))
       (subst (IsCharBoundary bs) (sym z) here) in
       (r.0 ∙ ap (λ m. m + front set (drop m bs)) z, r.1)
 
-pub spelt_read : (set : TableSet) → LacksPercent set → set.pct_encoded ≡ true
+pub spelt_scanned : (set : TableSet) → LacksPercent set → set.pct_encoded ≡ true
     → ((b : ℕ) → set.ascii b ≡ true → b < 128) → (bs : List ℕ) (i n : ℕ) → i + n ≤ length bs
     → IsUtf8 bs → IsCharBoundary bs i → AreSpelt set.ascii bs i n
     → (i + n + front set (drop (i + n) bs) ≡ i + front set (drop i bs)) × IsCharBoundary bs (i + n)
-spelt_read set lacks pct ascii bs i n room u here are =
-    all_read set lacks pct ascii bs i n room are.octet are.pass are.percent are.digits are.whole u
+spelt_scanned set lacks pct ascii bs i n room u here are =
+    all_scanned set lacks pct ascii bs i n room are.octet are.pass are.percent are.digits are.whole
+    u
     here
 
--- an octet is read
-pub octet_read : (set : TableSet) (bs : List ℕ) (i : ℕ) → IsUtf8 bs → set.pct_encoded ≡ true
+-- an octet is scanned
+pub octet_scanned : (set : TableSet) (bs : List ℕ) (i : ℕ) → IsUtf8 bs → set.pct_encoded ≡ true
     → i + 2 < length bs → get_or bs i 0 ≡ 37 → has_digits bs i ≡ true
     → (i + 3 + front set (drop (i + 3) bs) ≡ i + front set (drop i bs)) × IsCharBoundary bs (i + 3)
-octet_read set bs i u pct within percent digits =
+octet_scanned set bs i u pct within percent digits =
     let e = front-octet set bs i within pct percent digits in
     let f : i + 2 + 1 ≡ i + 3 = omega arith in (
       omega arith,

@@ -2,9 +2,9 @@
 
 use crate::ask::Ask::{Authority, Host, Parts, Refused};
 use crate::ask::Row;
-use crate::reading::HostValue::{Ipv6, RegName};
-use crate::reading::Kind::{Iri, IriRef, Uri, UriRef};
-use crate::reading::{AuthorityParts, EMPTY, Parts as Components};
+use crate::parsed::HostValue::{Ipv6, RegName};
+use crate::parsed::Kind::{Iri, IriRef, Uri, UriRef};
+use crate::parsed::{AuthorityParts, EMPTY, Parts as Components};
 use fluent_uri::ParseErrorKind::{InvalidIpv6Addr, InvalidPctEncodedOctet, UnexpectedChar};
 
 const ROWS: &[Row] = &[

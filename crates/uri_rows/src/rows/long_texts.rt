@@ -2,7 +2,7 @@
 
 use crate::ask::Ask::{Repeated, Target};
 use crate::ask::Row;
-use crate::reading::Kind::{IriRef, Uri, UriRef};
+use crate::parsed::Kind::{IriRef, Uri, UriRef};
 
 const ROWS: &[Row] = &[
     Row(

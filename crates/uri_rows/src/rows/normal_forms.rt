@@ -2,7 +2,7 @@
 
 use crate::ask::Ask::{Normal, NormalUnder, Repeated};
 use crate::ask::Row;
-use crate::reading::Kind::{Iri, IriRef, Uri, UriRef};
+use crate::parsed::Kind::{Iri, IriRef, Uri, UriRef};
 
 const ROWS: &[Row] = &[
     Row("R8.1", &[Normal(UriRef, "foo:/.//@@", "foo:/.//@@")]),

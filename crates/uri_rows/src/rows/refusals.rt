@@ -2,7 +2,7 @@
 
 use crate::ask::Ask::Refused;
 use crate::ask::Row;
-use crate::reading::Kind::{Uri, UriRef};
+use crate::parsed::Kind::{Uri, UriRef};
 use fluent_uri::ParseErrorKind::{InvalidIpv6Addr, InvalidPctEncodedOctet, UnexpectedChar};
 
 const ROWS: &[Row] = &[

@@ -2,7 +2,7 @@
 
 use crate::ask::Ask::Target;
 use crate::ask::Row;
-use crate::reading::Kind::Uri;
+use crate::parsed::Kind::Uri;
 
 /// The base of each row.
 const BASE: &str = "http://a/b/c/d;p?q";

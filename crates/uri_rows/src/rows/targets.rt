@@ -2,7 +2,7 @@
 
 use crate::ask::Ask::{NoTarget, NormalTarget, Target};
 use crate::ask::Row;
-use crate::reading::Kind::{Iri, Uri};
+use crate::parsed::Kind::{Iri, Uri};
 use fluent_uri::resolve::ResolveError::InvalidReferenceAgainstOpaqueBase;
 
 const ROWS: &[Row] = &[

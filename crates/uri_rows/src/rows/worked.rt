@@ -5,9 +5,9 @@ use crate::ask::Ask::{
     Returned, Strict, Target,
 };
 use crate::ask::Row;
-use crate::reading::HostValue::{Ipv4, RegName};
-use crate::reading::Kind::{Iri, IriRef, Uri, UriRef};
-use crate::reading::{AuthorityParts, EMPTY, Parts as Components};
+use crate::parsed::HostValue::{Ipv4, RegName};
+use crate::parsed::Kind::{Iri, IriRef, Uri, UriRef};
+use crate::parsed::{AuthorityParts, EMPTY, Parts as Components};
 use fluent_uri::ParseErrorKind::{InvalidIpv6Addr, InvalidPctEncodedOctet, UnexpectedChar};
 use fluent_uri::resolve::ResolveError::{BaseWithFragment, InvalidReferenceAgainstOpaqueBase};
 

@@ -1,6 +1,6 @@
 use Rattle.std.proofs.Common.{sym, subst}
 use Rattle.fluent_uri.specs.Grammar.{IsOfKind, uri, uri_ref, iri, iri_ref}
-use Rattle.uri_commands.proofs.Refusals.{mapped_refused, mapped_read}
+use Rattle.uri_commands.proofs.Refusals.{mapped_refused, mapped_parsed}
 use Rattle.uri_commands.specs.Commands.{Resolve, kind_of_base, kind_of_references}
 use Rattle.uri_commands.specs.Refusals.{IsErrorOf, IsRefusalOf}
 use Rattle.uri_commands.specs.declared.refusal.Refusal.TheVariants.{Base, Reference}
@@ -16,7 +16,7 @@ returns-in_err-base-in-Uri-clause-refused c =
 
 pub returns-in_err-reference-in-Uri-clause-refused : goal.returns-in_err-reference-in-Uri-clause-refused
 returns-in_err-reference-in-Uri-clause-refused c =
-    let base = mapped_read uri c.args.base.now c.parse.result c.map_err.result _
+    let base = mapped_parsed uri c.args.base.now c.parse.result c.map_err.result _
     c.parse.ensures.accepts c.map_err.ensures.variant c.in_ok-base-in-Uri.was in
     mapped_refused (IsRefusalOf (Resolve c.args.kind c.args.base.now c.args.reference.now))
     Reference uri_ref c.args.reference.now c.parse-in-Uri.result c.map_err-in-Uri.result
@@ -37,7 +37,7 @@ returns-in_err-base-in-Iri-clause-refused c =
 
 pub returns-in_err-reference-in-Iri-clause-refused : goal.returns-in_err-reference-in-Iri-clause-refused
 returns-in_err-reference-in-Iri-clause-refused c =
-    let base = mapped_read iri c.args.base.now c.parse-in-Iri.result c.map_err-in-Iri.result _
+    let base = mapped_parsed iri c.args.base.now c.parse-in-Iri.result c.map_err-in-Iri.result _
     c.parse-in-Iri.ensures.accepts c.map_err-in-Iri.ensures.variant c.in_ok-base-in-Iri.was in
     mapped_refused (IsRefusalOf (Resolve c.args.kind c.args.base.now c.args.reference.now))
     Reference iri_ref c.args.reference.now c.parse-in-Iri-2.result c.map_err-in-Iri-2.result

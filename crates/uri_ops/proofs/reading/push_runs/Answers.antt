@@ -1,4 +1,5 @@
-use Rattle.std.proofs.Common.{◌≡◌, ◌+◌, ◌*◌, ◌-◌, ◌++◌, ◌<◌, ◌≤◌, ◌⊎◌, inl, inr, false, true, not, eqb}
+use Rattle.std.proofs.Common.{◌≡◌, ◌+◌, ◌*◌, ◌-◌, ◌++◌, ◌<◌, ◌≤◌, ◌⊎◌, inl, inr, false, true, not}
+use Rattle.std.proofs.Common.{eqb}
 use Rattle.std.proofs.Common.{get_or, length, drop, refl, sym, ap, ◌∙◌, subst, arith, string_bytes}
 use Rattle.std.specs.Char.{digit_value}
 use Rattle.std.specs.List.{position_or_len}

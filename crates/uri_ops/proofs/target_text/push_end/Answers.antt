@@ -1,4 +1,5 @@
-use Rattle.std.proofs.Common.{◌≡◌, ◌+◌, ◌++◌, [], ap, length, option_map, subst, sym, ◌∙◌, string_bytes}
+use Rattle.std.proofs.Common.{◌≡◌, ◌+◌, ◌++◌, [], ap, length, option_map, subst, sym, ◌∙◌}
+use Rattle.std.proofs.Common.{string_bytes}
 use Rattle.std.proofs.Common.{append_assoc}
 use Rattle.std.specs.Prelude.{codes, IfOk, OnOk}
 use Rattle.std.proofs.lemmas.Bool.{cond-false, cond-true}

@@ -1,8 +1,8 @@
 use Rattle.std.proofs.Common.{◌≡◌, ◌≤◌, true, false, length, arith, sym, ap, ◌∙◌, length-drop}
 use Rattle.std.proofs.lemmas.Str.{IsUtf8-drop}
 use Rattle.uri_parts.specs.Components.{starts}
-use Rattle.uri_parts.proofs.HostForms.FutureReads.{reads_at, end_at}
-use Rattle.uri_parts.proofs.HostForms.Ipv6Literals.{follows, place_behind, accepted, unread}
+use Rattle.uri_parts.proofs.HostForms.FutureParsing.{parses_at, end_at}
+use Rattle.uri_parts.proofs.HostForms.Ipv6Literals.{follows, place_behind, accepted, unparsed}
 use Rattle.uri_parts.proofs.HostForms.Ipv6Literals.{unclosed}
 use Rattle.uri_parts.proofs.literal.literal_end.Goals.{in-Some+else-sees, in_default}
 use Rattle.uri_parts.proofs.literal.literal_end.Goals as goal
@@ -11,7 +11,7 @@ pub returns-then-is_lettered-clause-accepts : goal.returns-then-is_lettered-clau
 returns-then-is_lettered-clause-accepts c =
     let u = IsUtf8-drop c.args.text.now c.args.start c.utf8.text c.requires in
     let v = sym c.is_lettered.ensures.value ∙ c.if-is_lettered.true in
-    c.future_end.ensures.accepts ∙ sym (reads_at c.args.text.now c.args.start u v)
+    c.future_end.ensures.accepts ∙ sym (parses_at c.args.text.now c.args.start u v)
 
 pub returns-then-is_lettered-clause-end : goal.returns-then-is_lettered-clause-end
 returns-then-is_lettered-clause-end c =
@@ -65,5 +65,5 @@ returns-clause-accepts c =
       | in_default w ↦
           let e = rw (c.as_bytes.ensures.value, c.range_from-address.ensures.value) at
           w.in_default.ensures in
-          sym (unread _ plain e)
+          sym (unparsed _ plain e)
     ]

@@ -1,17 +1,17 @@
 use Rattle.std.proofs.Common.{sym, ◌∙◌}
-use Rattle.uri_parts.proofs.Theorems.{answered, whole_positions, whole_read}
+use Rattle.uri_parts.proofs.Theorems.{answered, whole_positions, whole_parse}
 use Rattle.uri_parts.proofs.parse.parse.Goals as goal
 
 pub returns-clause-accepts : goal.returns-clause-accepts
 returns-clause-accepts g c =
-    let same = c.read_text.ensures.accepts
-    ∙ whole_read g.K.Kind.kind _ _ g.met.K.Kind.known c.tables.ensures.kind
+    let same = c.parse_text.ensures.accepts
+    ∙ whole_parse g.K.Kind.kind _ _ g.met.K.Kind.known c.tables.ensures.kind
     c.tables.ensures.first_segment _ c.utf8.text in
     ((λ ok. sym same ∙ ok), (λ of_kind. same ∙ of_kind))
 
 pub returns-clause-positions : goal.returns-clause-positions
 returns-clause-positions g c =
-    answered _ _ c.args.text.now c.read_text.result c.read_text.ensures.accepts
+    answered _ _ c.args.text.now c.parse_text.result c.parse_text.ensures.accepts
     (whole_positions g.K.Kind.kind _ _ g.met.K.Kind.known c.tables.ensures.kind
     c.tables.ensures.first_segment _ c.utf8.text)
-    c.read_text.ensures.places
+    c.parse_text.ensures.places

@@ -11,40 +11,40 @@ pub new_or_panic-requires : goal.new_or_panic-requires
 new_or_panic-requires g c =
     let host = c.host-host.result.now in
     let s : starts 91 host ≡ false = sym c.in-None.ensures.begins in
-    let v : ipv4_value host ≡ None = sym c.in-None-read-2.ensures in
+    let v : ipv4_value host ≡ None = sym c.in-None-parse-2.ensures in
     let w = (holds g.U.Encoder.set g.R.Encoder.set c.args.self.text.now c.args.self.valid).host in
     name_valid g.R.Encoder.set host (rw c.host-host.ensures w) s v
 
-pub returns-in-Some-read-clause-kind : goal.returns-in-Some-read-clause-kind
-returns-in-Some-read-clause-kind g c =
+pub returns-in-Some-parse-clause-kind : goal.returns-in-Some-parse-clause-kind
+returns-in-Some-parse-clause-kind g c =
     let host = c.host-host.result.now in
     let s : starts 91 host ≡ true = sym c.in-Some.ensures.begins in
     let a : c.cut_before.result.0.now ≡ before_any (codes "]") (drop 1 host) =
     c.cut_before.ensures.before
     ∙ ap (before_any (codes "]")) c.in-Some.ensures.rest in
-    literal_kind_of host c.cut_before.result.0.now (Some (ipv6_segments c.in-Some-read.address)) s a
-    c.in-Some-read.ensures
+    literal_kind_of host c.cut_before.result.0.now (Some (ipv6_segments c.in-Some-parse.address)) s
+    a c.in-Some-parse.ensures
     ∙ ap host_kind c.host-host.ensures
 
-pub returns-in-None-read-clause-kind : goal.returns-in-None-read-clause-kind
-returns-in-None-read-clause-kind g c =
+pub returns-in-None-parse-clause-kind : goal.returns-in-None-parse-clause-kind
+returns-in-None-parse-clause-kind g c =
     let host = c.host-host.result.now in
     let s : starts 91 host ≡ true = sym c.in-Some.ensures.begins in
     let a : c.cut_before.result.0.now ≡ before_any (codes "]") (drop 1 host) =
     c.cut_before.ensures.before
     ∙ ap (before_any (codes "]")) c.in-Some.ensures.rest in
-    literal_kind_of host c.cut_before.result.0.now None s a c.in-None-read.ensures
+    literal_kind_of host c.cut_before.result.0.now None s a c.in-None-parse.ensures
     ∙ ap host_kind c.host-host.ensures
 
-pub returns-in-Some-read-2-clause-kind : goal.returns-in-Some-read-2-clause-kind
-returns-in-Some-read-2-clause-kind g c =
+pub returns-in-Some-parse-2-clause-kind : goal.returns-in-Some-parse-2-clause-kind
+returns-in-Some-parse-2-clause-kind g c =
     let host = c.host-host.result.now in
     let s : starts 91 host ≡ false = sym c.in-None.ensures.begins in
-    name_kind_of host (Some (ipv4_octets c.in-Some-read-2.address)) s c.in-Some-read-2.ensures
+    name_kind_of host (Some (ipv4_octets c.in-Some-parse-2.address)) s c.in-Some-parse-2.ensures
     ∙ ap host_kind c.host-host.ensures
 
-pub returns-in-None-read-2-clause-kind : goal.returns-in-None-read-2-clause-kind
-returns-in-None-read-2-clause-kind g c =
+pub returns-in-None-parse-2-clause-kind : goal.returns-in-None-parse-2-clause-kind
+returns-in-None-parse-2-clause-kind g c =
     let host = c.host-host.result.now in
     let s : starts 91 host ≡ false = sym c.in-None.ensures.begins in
-    name_kind_of host None s c.in-None-read-2.ensures ∙ ap host_kind c.host-host.ensures
+    name_kind_of host None s c.in-None-parse-2.ensures ∙ ap host_kind c.host-host.ensures

@@ -10,9 +10,9 @@ returns-in_err-parse-in-Some-clause-number g c =
     ∙ c.port.ensures in
     let long = ap (λ t. eqb (length t) 0) c.as_str.ensures.text ∙ sym c.is_empty.ensures
     ∙ c.if-not-is_empty.true in
-    let read = port_parsed _ c.as_str.result.now c.parse.result is c.as_str.utf8
+    let parsed = port_parsed _ c.as_str.result.now c.parse.result is c.as_str.utf8
     c.as_str.ensures.valid long c.parse.ensures.value.0 c.parse.ensures.value.1 in
-    let refused = read.err c.in_err-parse-in-Some.field-0.0 c.in_err-parse-in-Some.was in
+    let refused = parsed.err c.in_err-parse-in-Some.field-0.0 c.in_err-parse-in-Some.was in
     search rules
 
 pub returns-in_err-parse-in-Some-clause-refused : goal.returns-in_err-parse-in-Some-clause-refused
@@ -21,9 +21,9 @@ returns-in_err-parse-in-Some-clause-refused g c =
     ∙ c.port.ensures in
     let long = ap (λ t. eqb (length t) 0) c.as_str.ensures.text ∙ sym c.is_empty.ensures
     ∙ c.if-not-is_empty.true in
-    let read = port_parsed _ c.as_str.result.now c.parse.result is c.as_str.utf8
+    let parsed = port_parsed _ c.as_str.result.now c.parse.result is c.as_str.utf8
     c.as_str.ensures.valid long c.parse.ensures.value.0 c.parse.ensures.value.1 in
-    let refused = read.err c.in_err-parse-in-Some.field-0.0 c.in_err-parse-in-Some.was in
+    let refused = parsed.err c.in_err-parse-in-Some.field-0.0 c.in_err-parse-in-Some.was in
     search rules
 
 pub returns-in_ok-parse-in-Some-clause-number : goal.returns-in_ok-parse-in-Some-clause-number
@@ -32,6 +32,6 @@ returns-in_ok-parse-in-Some-clause-number g c =
     ∙ c.port.ensures in
     let long = ap (λ t. eqb (length t) 0) c.as_str.ensures.text ∙ sym c.is_empty.ensures
     ∙ c.if-not-is_empty.true in
-    let read = port_parsed _ c.as_str.result.now c.parse.result is c.as_str.utf8
+    let parsed = port_parsed _ c.as_str.result.now c.parse.result is c.as_str.utf8
     c.as_str.ensures.valid long c.parse.ensures.value.0 c.parse.ensures.value.1 in
-    read.ok c.in_ok-parse-in-Some.field-0 c.in_ok-parse-in-Some.was
+    parsed.ok c.in_ok-parse-in-Some.field-0 c.in_ok-parse-in-Some.was

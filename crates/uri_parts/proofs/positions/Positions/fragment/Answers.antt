@@ -1,5 +1,6 @@
 use Rattle.std.proofs.Common.{ap, sym, ◌∙◌, Some}
-use Rattle.uri_parts.proofs.Splitting.PlacedComponents.{fragment_bytes, fragment_place, no_fragment_place}
+use Rattle.uri_parts.proofs.Splitting.PlacedComponents.{fragment_bytes, fragment_place}
+use Rattle.uri_parts.proofs.Splitting.PlacedComponents.{no_fragment_place}
 use Rattle.uri_parts.proofs.positions.Positions.fragment.Goals as goal
 
 pub range_from-requires : goal.range_from-requires

@@ -3,7 +3,7 @@ use Rattle.std.proofs.lemmas.Str.{IsCharBoundary-after_ascii}
 use Rattle.uri_pct.specs.Models.ByteRuns.{IsRun}
 use Rattle.uri_pct.specs.Masks.{has_bit}
 use Rattle.uri_pct.specs.Tables.{set_of}
-use Rattle.uri_pct.proofs.LaneScans.AsciiRuns.{run_read}
+use Rattle.uri_pct.proofs.LaneScans.AsciiRuns.{run_scanned}
 use Rattle.uri_pct.proofs.ValidTexts.Fronts.{front-char}
 use Rattle.uri_pct.proofs.TableSets.Masks.{bit_ascii}
 use Rattle.uri_pct.proofs.TableSets.Percent.{lacks_percent}
@@ -14,7 +14,7 @@ returns-then-bytes-ge-LANES-clause-total c =
     let table = c.args.self.now in
     let run = subst (λ f. IsRun f c.args.text.now c.args.start c.run_end.result) c.masks-low.ensures
     (rw (← c.as_bytes-bytes.ensures.value) c.run_end.ensures) in
-    (run_read (set_of table) (lacks_percent table) (bit_ascii _ _) c.args.text.now c.utf8.text
+    (run_scanned (set_of table) (lacks_percent table) (bit_ascii _ _) c.args.text.now c.utf8.text
     c.args.start c.requires c.run_end.result run).0
 
 pub returns-then-bytes-ge-LANES-clause-boundary : goal.returns-then-bytes-ge-LANES-clause-boundary
@@ -22,7 +22,7 @@ returns-then-bytes-ge-LANES-clause-boundary c =
     let table = c.args.self.now in
     let run = subst (λ f. IsRun f c.args.text.now c.args.start c.run_end.result) c.masks-low.ensures
     (rw (← c.as_bytes-bytes.ensures.value) c.run_end.ensures) in
-    (run_read (set_of table) (lacks_percent table) (bit_ascii _ _) c.args.text.now c.utf8.text
+    (run_scanned (set_of table) (lacks_percent table) (bit_ascii _ _) c.args.text.now c.utf8.text
     c.args.start c.requires c.run_end.result run).1
 
 pub loop-i-preserved : goal.loop-i-preserved

@@ -7,7 +7,7 @@ use Rattle.uri_pct.specs.Tables.{set_of}
 use Rattle.uri_pct.specs.declared.table.Table.{Table}
 use Rattle.uri_pct.proofs.TableSets.Masks.{bit_ascii}
 use Rattle.uri_pct.proofs.TableSets.Percent.{lacks_percent}
-use Rattle.uri_pct.proofs.ValidTexts.SpeltRuns.{spelt_read}
+use Rattle.uri_pct.proofs.ValidTexts.SpeltRuns.{spelt_scanned}
 use Rattle.uri_pct.proofs.table.Table.pass_blocks.Goals as goal
 
 -- one block further
@@ -18,7 +18,7 @@ step : (t : Table) (low high : ℕ) (bs : List ℕ) (start i n : ℕ)
     → (i + n + front (set_of t) (drop (i + n) bs) ≡ start + front (set_of t) (drop start bs))
     × IsCharBoundary bs (i + n)
 step t low high bs start i n masks pct u here room few spelt before =
-    let r = spelt_read (set_of t) (lacks_percent t) pct (bit_ascii t.low t.high) bs i n
+    let r = spelt_scanned (set_of t) (lacks_percent t) pct (bit_ascii t.low t.high) bs i n
     (omega arith) u here (subst (λ f. AreSpelt f bs i n) masks spelt) in
     (r.0 ∙ before, r.1)
 

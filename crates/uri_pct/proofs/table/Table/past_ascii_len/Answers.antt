@@ -6,7 +6,7 @@ use Rattle.std.proofs.lemmas.Bool.{and_parts, cond-false}
 use Rattle.uri_pct.specs.Models.Fronts.{front}
 use Rattle.uri_pct.specs.Tables.{set_of}
 use Rattle.uri_pct.proofs.ValidTexts.Fronts.{front-past-at}
-use Rattle.uri_pct.proofs.TableSets.LeadBytes.{two_read, three_read, char_read, lead_range}
+use Rattle.uri_pct.proofs.TableSets.LeadBytes.{two_scanned, three_scanned, char_scanned, lead_range}
 use Rattle.uri_pct.proofs.table.Table.past_ascii_len.Goals as goal
 
 two : (c : goal.Then-byte-lt224)
@@ -22,7 +22,7 @@ two c =
     (sym c.allows_lead.ensures ∙ c.if-allows_lead.true) in
     let range = lead_range (slice_index text i)
     (ap (λ t. is_in_range 195 237 (slice_index t i)) (sym same) ∙ told.1) in
-    two_read (set_of c.args.self.now) text i c.utf8.text c.requires.here c.requires.inside told.0
+    two_scanned (set_of c.args.self.now) text i c.utf8.text c.requires.here c.requires.inside told.0
     range.0 (subst (λ t. slice_index t i < 224) same c.if-byte-lt224.true)
 
 pub returns-then-byte-lt224-clause-boundary : goal.returns-then-byte-lt224-clause-boundary
@@ -44,7 +44,8 @@ three c =
     (sym c.allows_lead.ensures ∙ c.if-allows_lead.true) in
     let range = lead_range (slice_index text i)
     (ap (λ t. is_in_range 195 237 (slice_index t i)) (sym same) ∙ told.1) in
-    three_read (set_of c.args.self.now) text i c.utf8.text c.requires.here c.requires.inside told.0
+    three_scanned (set_of c.args.self.now) text i c.utf8.text c.requires.here c.requires.inside
+    told.0
     (subst (λ t. 224 ≤ slice_index t i) same c.if-byte-lt224.false) range.1
 
 pub returns-then-allows_lead-clause-boundary : goal.returns-then-allows_lead-clause-boundary
@@ -65,7 +66,7 @@ read_char : (c : goal.After-len_utf8)
     + c.len_utf8.result)
     × IsCharBoundary c.args.text.now (c.args.index + c.len_utf8.result)
 read_char c =
-    char_read (set_of c.args.self.now) c.args.text.now _ c.args.index c.char_at-ch.result
+    char_scanned (set_of c.args.self.now) c.args.text.now _ c.args.index c.char_at-ch.result
     c.len_utf8.result c.utf8.text c.requires.here c.requires.inside c.requires.past
     c.char_at-ch.ensures
     (sym c.allows_past_ascii.ensures ∙ c.if-not-allows_past_ascii.false)

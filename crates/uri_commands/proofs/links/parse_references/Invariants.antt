@@ -1,0 +1,13 @@
+use Rattle.std.proofs.Common.{◌≡◌, ◌∷◌, true, false, map, take}
+use Rattle.fluent_uri.specs.Grammar.{uri_ref}
+use Rattle.fluent_uri.specs.Uris.{uri_ref_text}
+use Rattle.uri_commands.specs.Commands.{are_of_kind, texts}
+use Rattle.uri_commands.proofs.links.parse_references.Given as goal
+
+-- the words so far are parsed, and kept where memory is there
+abbrev pub invariant-loop-word : goal.invariant-loop-word
+invariant-loop-word l = record {
+  of_kind : are_of_kind uri_ref (l.reference ∷ texts (take l.word-index l.others)) ≡ true;
+  kept : l.is_refused ≡ false
+      → map uri_ref_text l.references.items ≡ l.reference ∷ texts (take l.word-index l.others);
+}

@@ -1,0 +1,93 @@
+-- Where a scan for a set stops: at the first mark, or at a character that is neither.
+use Rattle.std.proofs.Common.{◌≡◌, ℕ, ◌<◌, Bool, true, false, not, List, [], ◌∷◌, length, get_or}
+use Rattle.std.proofs.Common.{drop, refl, sym, ap, ◌∙◌, arith, ◌&&◌, ⊎_elim, inl, inr, ◌⊎◌}
+use Rattle.std.specs.Str.{IsUtf8}
+use Rattle.std.proofs.lemmas.Str.{IsUtf8-drop, IsCharBoundary-after_ascii}
+use Rattle.std.proofs.lemmas.List.{drop_more}
+use Rattle.std.proofs.lemmas.List.Sums.{prefix_len-le-length, prefix_len_passes}
+use Rattle.std.proofs.lemmas.Bool.{and_left, and_right, and_parts, eq-eqb, eqb-true, ne_eqb}
+use Rattle.std.proofs.lemmas.Bool.{not-true, cases_eq, false≢true}
+use Rattle.uri_pct.specs.Sets.{TableSet, LacksPercent, is_one_of}
+use Rattle.uri_pct.specs.Tokens.{is_valid_for}
+use Rattle.uri_pct.specs.Models.Fronts.{front, after}
+use Rattle.uri_pct.proofs.ValidTexts.Cuts.{AreAscii, to_mark, excludes, mark_percent, mark_boundary}
+use Rattle.uri_pct.proofs.ValidTexts.Cuts.{from_mark, cut, front_le_mark}
+use Rattle.uri_pct.proofs.ValidTexts.Fronts.{front-after}
+use Rattle.uri_parts.specs.Components.{before_any, from_any, starts, has_authority}
+use Rattle.uri_parts.specs.Models.Parsing.{is_stray, parses_after}
+
+pub utf8_from : (marks bs : List ℕ) → AreAscii marks → IsUtf8 bs → IsUtf8 (from_any marks bs)
+utf8_from marks bs ascii u = IsUtf8-drop bs _ u (mark_boundary marks ascii bs)
+
+pub utf8_tail : (b : ℕ) (rest : List ℕ) → b < 128 → IsUtf8 (b ∷ rest) → IsUtf8 rest
+utf8_tail b rest h u = IsUtf8-drop (b ∷ rest) 1 u
+    (IsCharBoundary-after_ascii (b ∷ rest) 0 u (omega arith) h)
+
+pub utf8_past : (mark : ℕ) → mark < 128 → (bs : List ℕ) → starts mark bs ≡ true → IsUtf8 bs
+    → IsUtf8 (drop 1 bs)
+utf8_past mark h [] e u = u
+utf8_past mark h (b ∷ rest) e u = utf8_tail b rest (let d = eqb-true b mark e in omega arith) u
+
+pub utf8_slashes : (rest : List ℕ) → has_authority rest ≡ true → IsUtf8 rest → IsUtf8 (drop 2 rest)
+utf8_slashes [] e u = u
+utf8_slashes (a ∷ []) e u = absurd (false≢true (sym (and_right _ _ refl) ∙ e))
+utf8_slashes (a ∷ b ∷ r) e u =
+    let p = and_parts _ _ e in
+    let c = eqb-true a 47 p.0 in
+    let d = eqb-true b 47 p.1 in
+    utf8_tail b r (omega arith) (utf8_tail a (b ∷ r) (omega arith) u)
+
+-- a scan stops at the first mark, or at a byte that is none
+pub record StopsWithin (marks : List ℕ) (set : TableSet) (bs : List ℕ) : Type 0 where
+  pub byte : ℕ
+  pub rest : List ℕ
+  pub other : is_one_of marks byte ≡ false
+  pub left : after set bs ≡ byte ∷ rest
+  pub stuck : front set (byte ∷ rest) ≡ 0
+  pub apart : front set bs ≡ to_mark marks bs → ⊥
+
+module _ (marks : List ℕ) (set : TableSet) (lacks : LacksPercent set)
+    (outside : excludes set marks ≡ true) where
+  pub stop_cases : (bs : List ℕ) → IsUtf8 bs
+      → (front set bs ≡ to_mark marks bs) ⊎ StopsWithin marks set bs
+  stop_cases bs u =
+      let m = to_mark marks bs in
+      let n = front set bs in
+      let le = front_le_mark marks set lacks outside bs u in
+      ⊎_elim (λ e. inl e)
+      (λ d.
+      let lt : n < length bs =
+      omega (arith, le, prefix_len-le-length (λ c. not (is_one_of marks c)) bs) in
+      let more = drop_more bs n 0 lt in
+      inr (record {
+        byte = get_or bs n 0;
+        rest = _;
+        other = not-true _
+            (prefix_len_passes (λ c. not (is_one_of marks c)) bs n 0 (omega (arith, le)));
+        left = more;
+        stuck = ap (front set) (sym more) ∙ front-after set bs;
+        apart = d;
+      }))
+      (cases_eq n m)
+
+  pub no_stray : (bs : List ℕ) → is_stray set (from_any marks bs) ≡ false
+  no_stray bs = from_mark marks (λ r. is_stray set r ≡ false) (and_right _ _ refl)
+      (λ b rest m. and_right _ _ (mark_percent set marks outside b m)) bs
+
+  -- what a test takes behind the longest front, where it takes nothing but the end and marks
+  pub piece : (test : List ℕ → Bool)
+      → ((b : ℕ) (rest : List ℕ) → is_one_of marks b ≡ false → front set (b ∷ rest) ≡ 0
+      → test (b ∷ rest) ≡ false)
+      → (bs : List ℕ) → IsUtf8 bs
+      → parses_after set test bs
+      ≡ (is_valid_for set (before_any marks bs) && test (from_any marks bs))
+  piece test stuck bs u = ⊎_elim
+      (λ e.
+      ap (λ n. not (is_stray set (drop n bs)) && test (drop n bs)) e
+      ∙ ap (λ t. not t && test (from_any marks bs)) (no_stray bs)
+      ∙ sym (ap (λ t. t && test (from_any marks bs))
+      (cut marks set lacks outside bs u ∙ eq-eqb _ _ e)))
+      (λ w.
+      and_right _ _ (ap test w.left ∙ stuck w.byte w.rest w.other w.stuck)
+      ∙ sym (and_left _ _ (cut marks set lacks outside bs u ∙ ne_eqb _ _ w.apart)))
+      (stop_cases bs u)

@@ -1,0 +1,271 @@
+//! An authority, parsed from left to right (RFC 3986, section 3.2).
+//!
+//! What passes as a name and a port is the front of userinfo, so nothing is scanned again to tell
+//! the two apart, nor to tell where and why an authority is refused.
+ghost use Rattle.std.specs.Prelude.{◌≡◌, ◌≤◌, ◌+◌, drop, length, true, IfErr, IfOk, IfSome, OnOk};
+ghost use Rattle.std.specs.Prelude.{is_ok, is_some};
+ghost use Rattle.std.specs.Str.{IsCharBoundary};
+ghost use Rattle.uri_pct.specs.Delimiters.{at_sign, left_bracket};
+ghost use Rattle.uri_pct.specs.Models.Fronts.{front};
+ghost use Rattle.uri_pct.specs.Tables.{set_of};
+ghost use Rattle.uri_parts.specs.Models.AuthorityParsing.{port_length, name_length, finds_name};
+ghost use Rattle.uri_parts.specs.Models.AuthorityParsing.{host_end, host_length, finds_host};
+ghost use Rattle.uri_parts.specs.Models.AuthorityParsing.{more_user, user_length, passes_user};
+ghost use Rattle.uri_parts.specs.Models.AuthorityParsing.{finds_other};
+ghost use Rattle.uri_parts.specs.Models.AuthorityParsing.{other_authority, finds_authority};
+ghost use Rattle.uri_parts.specs.Models.AuthorityParsing.{found_length};
+ghost use Rattle.uri_parts.specs.Models.AuthorityParsing.{found_authority};
+ghost use Rattle.uri_parts.specs.Components.{starts};
+ghost use Rattle.uri_parts.specs.Errors.{IsErrorIn};
+ghost use Rattle.uri_parts.specs.KindTables.{kind_of};
+ghost use Rattle.uri_parts.specs.Models.Literals.{parses_literal, literal_length};
+ghost use Rattle.uri_parts.specs.Models.Cursors.{rest_of, cursor_text, place_of};
+
+use crate::error::{ParseError, ParseErrorKind};
+use crate::kind::Kind;
+use crate::kind_tables::KindTables;
+use crate::literal::literal_end;
+use crate::positions::AuthorityPositions;
+use crate::cursor::Cursor;
+use uri_pct::table::DIGIT;
+
+/// Passes a port with its mark, if one is next.
+#[tactic(auto, using(uri_pct::proofs::TableSets::Constants::digit_table, crate::proofs::Authorities::AuthorityCuts::behind_mark), unfolding(crate::specs::Models::AuthorityParsing::port_length))]
+#[inline(always)]
+fn pass_port(cursor: &mut Cursor<'_>)
+    ensures text { cursor_text cursor.new ≡ cursor_text cursor.old }
+    ensures place { place_of cursor.new ≡ place_of cursor.old + port_length (rest_of cursor.old) }
+    ensures rest { rest_of cursor.new ≡ drop (port_length (rest_of cursor.old))
+        (rest_of cursor.old) }
+{
+    if cursor.skip(b':') {
+        cursor.scan(&DIGIT);
+    }
+}
+
+/// Passes a registered name and the port behind it, if there is one. Answers where the name ends,
+/// if nothing else of the authority is left.
+#[tactic(auto, using(crate::proofs::Authorities::AuthorityCuts::behind), unfolding(crate::specs::Models::AuthorityParsing::finds_name, crate::specs::Models::AuthorityParsing::name_length))]
+#[inline(always)]
+fn find_name(cursor: &mut Cursor<'_>, tables: &KindTables) -> Option<usize>
+    ensures finds { is_some result ≡ finds_name (kind_of tables.now) (rest_of cursor.old) }
+    ensures end { IfSome result (λ n.
+        n ≡ place_of cursor.old + front (set_of tables.now.reg_name) (rest_of cursor.old)) }
+    ensures text { cursor_text cursor.new ≡ cursor_text cursor.old }
+    ensures place { place_of cursor.new
+        ≡ place_of cursor.old + name_length (kind_of tables.now) (rest_of cursor.old) }
+    ensures rest { rest_of cursor.new
+        ≡ drop (name_length (kind_of tables.now) (rest_of cursor.old)) (rest_of cursor.old) }
+{
+    cursor.scan(&tables.reg_name);
+    let name_end = cursor.position();
+    pass_port(cursor);
+    if cursor.ends_authority() {
+        Some(name_end)
+    } else {
+        None
+    }
+}
+
+/// The refusal of what is left over behind an authority: a malformed octet of the path that is
+/// scanned there, or else what is next.
+#[inline(always)]
+fn left_over(cursor: Cursor<'_>, tables: &KindTables) -> ParseError
+    ensures { IsErrorIn (cursor_text cursor.entry) result }
+{
+    let mut path = cursor;
+    match path.pass(&tables.path) {
+        Ok(()) => cursor.unexpected(),
+        Err(error) => error,
+    }
+}
+
+/// Where the last `:` stands from `start` to `end`, if there is one.
+fn last_colon(text: &str, start: usize, end: usize) -> Option<usize>
+    requires { end ≤ length text.now }
+    ensures { IfSome result (IsCharBoundary text.now) }
+{
+    let bytes = text.as_bytes();
+    let mut i = end;
+    while i > start {
+        i -= 1;
+        if bytes[i] == b':' {
+            return Some(i);
+        }
+    }
+    None
+}
+
+/// The refusal of what was scanned as userinfo up to `end`, where no `@` is next. Up to `start` it
+/// is a name and a port, and behind that stands the last of several `:`, or the port's first byte
+/// that is no digit.
+#[inline(always)]
+fn name_fault(start: Cursor<'_>, end: Cursor<'_>, tables: &KindTables) -> ParseError
+    requires { cursor_text end ≡ cursor_text start }
+    ensures { IsErrorIn (cursor_text start.entry) result }
+{
+    if start.position() == end.position() {
+        return left_over(end, tables);
+    }
+    match last_colon(end.text(), start.position(), end.position()) {
+        Some(colon) => ParseError::new(colon, ParseErrorKind::UnexpectedChar),
+        None => start.unexpected(),
+    }
+}
+
+/// Passes an address in brackets, of which the `[` is next.
+#[tactic(auto, using(crate::proofs::HostForms::LiteralFaults::literal_error))]
+#[inline(always)]
+fn pass_literal(cursor: &mut Cursor<'_>) -> Result<(), ParseError>
+    requires { starts left_bracket (rest_of cursor.old) ≡ true }
+    ensures accepts { is_ok result ≡ parses_literal (drop 1 (rest_of cursor.old)) }
+    ensures text { cursor_text cursor.new ≡ cursor_text cursor.old }
+    ensures place { OnOk result (place_of cursor.new
+        ≡ place_of cursor.old + (1 + literal_length (drop 1 (rest_of cursor.old)))) }
+    ensures rest { OnOk result (rest_of cursor.new
+        ≡ drop (1 + literal_length (drop 1 (rest_of cursor.old))) (rest_of cursor.old)) }
+    ensures err { IfErr result (IsErrorIn (cursor_text cursor.old)) }
+{
+    cursor.skip(b'[');
+    let end = literal_end(cursor.text(), cursor.position())?;
+    *cursor = Cursor::at(cursor.text(), end);
+    Ok(())
+}
+
+/// Passes a host and the port behind it, if there is one, which have to end the authority. Answers
+/// where the host ends.
+#[tactic(auto, using(crate::proofs::Authorities::AuthorityCuts::behind), unfolding(crate::specs::Models::AuthorityParsing::finds_host, crate::specs::Models::AuthorityParsing::passes_host, crate::specs::Models::AuthorityParsing::host_length, crate::specs::Models::AuthorityParsing::host_end))]
+#[inline(always)]
+fn find_host(cursor: &mut Cursor<'_>, tables: &KindTables) -> Result<usize, ParseError>
+    ensures accepts { is_ok result ≡ finds_host (kind_of tables.now) (rest_of cursor.old) }
+    ensures end { IfOk result (λ n.
+        n ≡ place_of cursor.old + host_end (kind_of tables.now) (rest_of cursor.old)) }
+    ensures text { cursor_text cursor.new ≡ cursor_text cursor.old }
+    ensures place { OnOk result (place_of cursor.new
+        ≡ place_of cursor.old + host_length (kind_of tables.now) (rest_of cursor.old)) }
+    ensures err { IfErr result (IsErrorIn (cursor_text cursor.old)) }
+{
+    if cursor.sees(b'[') {
+        pass_literal(cursor)?;
+    } else {
+        cursor.scan(&tables.reg_name);
+    }
+    let host_end = cursor.position();
+    pass_port(cursor);
+    if cursor.ends_authority() {
+        Ok(host_end)
+    } else {
+        Err(left_over(*cursor, tables))
+    }
+}
+
+/// Passes userinfo, of which a name and a port were passed, and its `@`.
+#[tactic(auto, using(crate::proofs::Authorities::AuthorityCuts::behind), unfolding(crate::specs::Models::AuthorityParsing::more_user))]
+#[inline(always)]
+fn pass_userinfo(cursor: &mut Cursor<'_>, tables: &KindTables) -> Result<(), ParseError>
+    ensures accepts { let rest = rest_of cursor.old in
+        is_ok result ≡ starts at_sign (drop (more_user (kind_of tables.now) rest) rest) }
+    ensures text { cursor_text cursor.new ≡ cursor_text cursor.old }
+    ensures place { OnOk result (place_of cursor.new
+        ≡ place_of cursor.old + (more_user (kind_of tables.now) (rest_of cursor.old) + 1)) }
+    ensures rest { OnOk result (rest_of cursor.new
+        ≡ drop (more_user (kind_of tables.now) (rest_of cursor.old) + 1) (rest_of cursor.old)) }
+    ensures err { IfErr result (IsErrorIn (cursor_text cursor.old)) }
+{
+    let start = *cursor;
+    if cursor.skip(b'@') {
+        return Ok(());
+    }
+    cursor.pass(&tables.userinfo)?;
+    if cursor.skip(b'@') {
+        Ok(())
+    } else {
+        Err(name_fault(start, *cursor, tables))
+    }
+}
+
+/// An authority that is more than a name and a port, of which these were passed: where it lies, and
+/// its host.
+#[tactic(auto, using(crate::proofs::Authorities::AuthorityCuts::behind), unfolding(crate::specs::Models::AuthorityParsing::finds_other, crate::specs::Models::AuthorityParsing::passes_user, crate::specs::Models::AuthorityParsing::user_length, crate::specs::Models::AuthorityParsing::host_place, crate::specs::Models::AuthorityParsing::other_authority))]
+#[inline(always)]
+fn find_other_authority(
+    start: Cursor<'_>,
+    behind_name: Cursor<'_>,
+    tables: &KindTables,
+) -> Result<AuthorityPositions, ParseError>
+    requires text { cursor_text behind_name ≡ cursor_text start }
+    requires place { place_of behind_name
+        ≡ place_of start + name_length (kind_of tables.now) (rest_of start) }
+    ensures accepts { is_ok result ≡ finds_other (kind_of tables.now) (rest_of start.entry) }
+    ensures found { IfOk result (λ a.
+        a ≡ other_authority (kind_of tables.now) (place_of start.entry) (rest_of start.entry)) }
+    ensures boundary { IfOk result (λ a. IsCharBoundary (cursor_text start.entry) a.end) }
+    ensures err { IfErr result (IsErrorIn (cursor_text start.entry)) }
+{
+    let mut cursor = start;
+    if !start.sees(b'[') {
+        cursor = behind_name;
+        pass_userinfo(&mut cursor, tables)?;
+    }
+    let host_start = cursor.position();
+    let host_end = find_host(&mut cursor, tables)?;
+    Ok(AuthorityPositions {
+        start: start.position(),
+        host_start,
+        host_end,
+        end: cursor.position(),
+    })
+}
+
+/// The same by the tables of the kind, which are constants here: handed on, they would be set out
+/// in memory, as cursors are.
+#[inline(never)]
+fn find_other_of_kind<K: Kind>(
+    text: &str,
+    start: usize,
+    behind_name: usize,
+) -> Result<AuthorityPositions, ParseError>
+    requires start { IsCharBoundary text.now start }
+    requires behind_name { IsCharBoundary text.now behind_name }
+    requires place { behind_name ≡ start + name_length K.kind (drop start text.now) }
+    ensures accepts { is_ok result ≡ finds_other K.kind (drop start text.now) }
+    ensures found { IfOk result (λ a. a ≡ other_authority K.kind start (drop start text.now)) }
+    ensures boundary { IfOk result (λ a. IsCharBoundary text.now a.end) }
+    ensures err { IfErr result (IsErrorIn text.now) }
+{
+    let behind_name = Cursor::at(text, behind_name);
+    find_other_authority(Cursor::at(text, start), behind_name, &K::tables())
+}
+
+/// An authority: where it lies, and its host.
+#[tactic(auto, unfolding(crate::specs::Models::AuthorityParsing::finds_authority, crate::specs::Models::AuthorityParsing::found_length, crate::specs::Models::AuthorityParsing::found_authority, crate::specs::Models::AuthorityParsing::other_length, crate::specs::Models::AuthorityParsing::other_authority))]
+#[inline(always)]
+pub(crate) fn find_authority<K: Kind>(
+    cursor: &mut Cursor<'_>,
+    tables: &KindTables,
+) -> Result<AuthorityPositions, ParseError>
+    requires { kind_of tables.now ≡ K.kind }
+    ensures accepts { is_ok result ≡ finds_authority (kind_of tables.now) (rest_of cursor.old) }
+    ensures found { IfOk result (λ a.
+        a ≡ found_authority (kind_of tables.now) (place_of cursor.old) (rest_of cursor.old)) }
+    ensures text { cursor_text cursor.new ≡ cursor_text cursor.old }
+    ensures place { OnOk result (place_of cursor.new
+        ≡ place_of cursor.old + found_length (kind_of tables.now) (rest_of cursor.old)) }
+    ensures rest { OnOk result (rest_of cursor.new
+        ≡ drop (found_length (kind_of tables.now) (rest_of cursor.old)) (rest_of cursor.old)) }
+    ensures err { IfErr result (IsErrorIn (cursor_text cursor.old)) }
+{
+    let start = cursor.position();
+    if let Some(host_end) = find_name(cursor, tables) {
+        return Ok(AuthorityPositions {
+            start,
+            host_start: start,
+            host_end,
+            end: cursor.position(),
+        });
+    }
+    let text = cursor.text();
+    let authority = find_other_of_kind::<K>(text, start, cursor.position())?;
+    *cursor = Cursor::at(text, authority.end);
+    Ok(authority)
+}

@@ -1,0 +1,193 @@
+//! A place in a text.
+ghost use Rattle.std.specs.Prelude.{◌≡◌, ◌<◌, ◌+◌, ◌==◌, not, drop, codes, OnOk};
+ghost use Rattle.std.specs.Prelude.{IfErr, is_ok, if◌then◌else◌};
+ghost use Rattle.std.specs.Str.{IsCharBoundary};
+
+use crate::error::{ParseError, ParseErrorKind};
+use std::alloc::AllocError;
+use uri_pct::table::Table;
+
+/// A place in a text, which goes from left to right.
+#[doc(hidden)]
+pub struct Cursor<'a> {
+    text: &'a str,
+    position: usize,
+    ghost boundary: { IsCharBoundary text.now position },
+}
+
+impl<'a> Clone for Cursor<'a> {
+    ghost use Rattle.std.specs.Prelude.{⊤};
+
+    ghost is_clone = { λ value copy. copy ≡ value };
+
+    ghost is_infallible = { λ _. ⊤ };
+
+    fn clone(&self) -> Result<Self, AllocError> {
+        Ok(*self)
+    }
+}
+
+impl<'a> Copy for Cursor<'a> {}
+
+impl<'a> Cursor<'a> {
+    ghost use Rattle.uri_pct.specs.Tables.{set_of};
+    ghost use Rattle.uri_pct.specs.Models.Fronts.{front, after};
+    ghost use Rattle.uri_parts.specs.Models.AuthorityParsing.{begins_any};
+    ghost use Rattle.uri_parts.specs.Components.{starts, has_authority};
+    ghost use Rattle.uri_parts.specs.Errors.{IsErrorIn};
+    ghost use Rattle.uri_parts.specs.Models.Parsing.{is_end, is_stray};
+    ghost use Rattle.uri_parts.specs.Models.Cursors.{rest_of, cursor_text, place_of};
+
+    /// The text from its beginning.
+    #[inline]
+    pub fn new(text: &'a str) -> Self
+        ensures text { cursor_text result ≡ text.now }
+        ensures place { place_of result ≡ 0 }
+        ensures rest { rest_of result ≡ text.now }
+    {
+        Cursor { text, position: 0 }
+    }
+
+    /// The text from a place on.
+    #[inline]
+    pub fn at(text: &'a str, position: usize) -> Self
+        requires { IsCharBoundary text.now position }
+        ensures text { cursor_text result ≡ text.now }
+        ensures place { place_of result ≡ position }
+        ensures rest { rest_of result ≡ drop position text.now }
+    {
+        Cursor { text, position }
+    }
+
+    /// The whole text, what was passed of it too.
+    #[inline]
+    pub fn text(&self) -> &'a str
+        ensures { result.now ≡ cursor_text self.now }
+    {
+        self.text
+    }
+
+    /// How many bytes were passed.
+    #[inline]
+    pub fn position(&self) -> usize
+        ensures place { result ≡ place_of self.now }
+        ensures boundary { IsCharBoundary (cursor_text self.now) result }
+    {
+        self.position
+    }
+
+    /// Passes the longest front of the rest that the table allows.
+    #[inline(always)]
+    pub fn scan(&mut self, table: &Table)
+        ensures text { cursor_text self.new ≡ cursor_text self.old }
+        ensures place { place_of self.new
+            ≡ place_of self.old + front (set_of table.now) (rest_of self.old) }
+        ensures rest { rest_of self.new ≡ after (set_of table.now) (rest_of self.old) }
+    {
+        self.position = table.scan(self.text, self.position);
+    }
+
+    /// Whether one of `/?#` is next, or nothing is left: what may stand behind an authority.
+    #[tactic(auto, using(crate::proofs::Parsing::NextBytes::ends_at, crate::proofs::Parsing::NextBytes::goes_on_at))]
+    #[inline]
+    pub fn ends_authority(&self) -> bool
+        ensures { result ≡ begins_any (codes "/?#") (rest_of self.now) }
+    {
+        match self.text.as_bytes().get(self.position) {
+            Some(byte) => matches!(byte, b'/' | b'?' | b'#'),
+            None => true,
+        }
+    }
+
+    /// Passes the longest front of the rest that the table allows; a `%` behind it that begins no
+    /// octet is refused, where the table allows octets.
+    #[tactic(auto, using(crate::proofs::Parsing::NextBytes::stray_fault, crate::proofs::Parsing::NextBytes::starts_at))]
+    #[inline(always)]
+    pub fn pass(&mut self, table: &Table) -> Result<(), ParseError>
+        ensures text { cursor_text self.new ≡ cursor_text self.old }
+        ensures place { OnOk result
+            (place_of self.new ≡ place_of self.old + front (set_of table.now) (rest_of self.old)) }
+        ensures rest { OnOk result
+            (rest_of self.new ≡ after (set_of table.now) (rest_of self.old)) }
+        ensures stray { is_ok result
+            ≡ not (is_stray (set_of table.now) (after (set_of table.now) (rest_of self.old))) }
+        ensures err { IfErr result (IsErrorIn (cursor_text self.old)) }
+    {
+        let end = table.scan(self.text, self.position);
+        let bytes = self.text.as_bytes();
+        if table.allows_pct_encoded() && end < bytes.len() && bytes[end] == b'%' {
+            return Err(ParseError::new(end, ParseErrorKind::InvalidPctEncodedOctet));
+        }
+        self.position = end;
+        Ok(())
+    }
+
+    /// Nothing is left.
+    #[tactic(auto, using(crate::proofs::Parsing::NextBytes::is_end_at))]
+    #[inline]
+    pub fn is_at_end(&self) -> bool
+        ensures { result ≡ is_end (rest_of self.now) }
+    {
+        self.position == self.text.len()
+    }
+
+    /// Whether this byte is next.
+    #[tactic(auto, using(crate::proofs::Parsing::NextBytes::starts_at))]
+    #[inline]
+    pub fn sees(&self, byte: u8) -> bool
+        ensures { result ≡ starts byte (rest_of self.now) }
+    {
+        let bytes = self.text.as_bytes();
+        self.position < bytes.len() && bytes[self.position] == byte
+    }
+
+    /// Passes this ASCII character, if it is next.
+    #[tactic(auto, using(crate::proofs::Parsing::NextBytes::starts_at))]
+    #[inline]
+    pub fn skip(&mut self, byte: u8) -> bool
+        requires { byte < 128 }
+        ensures value { result ≡ starts byte (rest_of self.old) }
+        ensures text { cursor_text self.new ≡ cursor_text self.old }
+        ensures place { place_of self.new
+            ≡ (if result then place_of self.old + 1 else place_of self.old) }
+        ensures rest { rest_of self.new
+            ≡ (if result then drop 1 (rest_of self.old) else rest_of self.old) }
+    {
+        let bytes = self.text.as_bytes();
+        let i = self.position;
+        if i < bytes.len() && bytes[i] == byte {
+            self.position = i + 1;
+            true
+        } else {
+            false
+        }
+    }
+
+    /// Passes `//`, if it is next.
+    #[inline]
+    pub fn skip_slashes(&mut self) -> bool
+        ensures value { result ≡ has_authority (rest_of self.old) }
+        ensures text { cursor_text self.new ≡ cursor_text self.old }
+        ensures place { place_of self.new
+            ≡ (if result then place_of self.old + 2 else place_of self.old) }
+        ensures rest { rest_of self.new
+            ≡ (if result then drop 2 (rest_of self.old) else rest_of self.old) }
+    {
+        let bytes = self.text.as_bytes();
+        let i = self.position;
+        if bytes.len() - i > 1 && bytes[i] == b'/' && bytes[i + 1] == b'/' {
+            self.position = i + 2;
+            true
+        } else {
+            false
+        }
+    }
+
+    /// The refusal of what is next.
+    #[inline]
+    pub fn unexpected(&self) -> ParseError
+        ensures { IsErrorIn (cursor_text self.now) result }
+    {
+        ParseError::new(self.position, ParseErrorKind::UnexpectedChar)
+    }
+}
