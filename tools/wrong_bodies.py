@@ -34,7 +34,7 @@ class Edit:
 
 
 class Room:
-    """A copy of a crate in a folder, and the work that the first check of it keeps there."""
+    """A copy of a crate in a folder, and the work that a check of it keeps there."""
 
     def __init__(self, rt, crate, folder):
         self.rt, self.crate, self.checks, self.seconds = rt, crate, 0, 0.0
@@ -44,9 +44,10 @@ class Room:
                 shutil.copytree(f"{crate.folder}/{part}", self.sources / part)
 
     def beside(self, folder):
-        """Another copy, over what this one keeps."""
+        """Another copy, over what this one keeps, if it was checked."""
         other = Room(self.rt, self.crate, folder)
-        other.kept = self.kept
+        if self.kept.exists():
+            other.kept = self.kept
         return other
 
     @contextlib.contextmanager

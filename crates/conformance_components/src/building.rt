@@ -1,13 +1,12 @@
 //! What is built of parts, and what is refused (RFC 3986, section 5.3).
 use checks::{equal, prints};
-use fluent_uri::build::state::{FragmentEnd, PathEnd, SchemeEnd, StateOf};
-use fluent_uri::build::{BuildError, Builder, To};
+use fluent_uri::build::state::FragmentEnd;
+use fluent_uri::build::{BuildError, Builder};
 use fluent_uri::component::{Authority, Host, Scheme};
 use fluent_uri::net::{IpAddr, Ipv4Addr, Ipv6Addr};
 use fluent_uri::pct_enc::EStr;
 use fluent_uri::pct_enc::encoder::{Encoder, IRegName, Port, RegName, Userinfo};
-use fluent_uri::{Iri, IriRef, RiMaybeRef, Uri, UriRef};
-use std::alloc::Global;
+use fluent_uri::{Iri, IriRef, Uri, UriRef};
 use std::process::Abort;
 
 fn part<'a, R: Abort, E: Encoder>(rt: &R, text: &'a str) -> EStr<'a, E> {
@@ -16,20 +15,6 @@ fn part<'a, R: Abort, E: Encoder>(rt: &R, text: &'a str) -> EStr<'a, E> {
 
 fn scheme<'a, R: Abort>(rt: &R, text: &'a str) -> Scheme<'a> {
     Scheme::new(text).expect(rt, text)
-}
-
-/// A builder of a URI with this scheme.
-fn with_scheme<A: Abort>(rt: &A, alloc: Global, text: &str) -> Builder<Uri<String>, SchemeEnd> {
-    Uri::<String>::builder(alloc).scheme(scheme(rt, text))
-}
-
-/// What is built where this path comes last.
-fn with_path<A: Abort, R: RiMaybeRef<Owned = R>, S: StateOf<R> + To<PathEnd>>(
-    rt: &A,
-    builder: Builder<R, S>,
-    path: &str,
-) -> Result<R, BuildError> {
-    builder.path(part(rt, path)).build()
 }
 
 fn is_uri<R: Abort>(rt: &R, built: Result<Uri<String>, BuildError>, wanted: &str) {
@@ -49,22 +34,31 @@ fn is_refused<R: Abort>(rt: &R, built: Result<UriRef<String>, BuildError>, wante
 /// RFC 3986, section 3.3: without an authority a path doesn't begin with `//`.
 #[test]
 fn path_with_two_slashes(rt: HostRuntime) {
-    let built = with_path(&rt, UriRef::<String>::builder(rt.alloc()), "//x");
+    let built = UriRef::<String>::builder(rt.alloc())
+        .path(part(&rt, "//x"))
+        .build();
     is_refused(&rt, built, BuildError::PathStartsWithDoubleSlash);
 }
 
 /// RFC 3986, section 4.2: a relative path has no `:` in its first segment.
 #[test]
 fn colon_in_the_first_segment(rt: HostRuntime) {
-    let built = with_path(&rt, UriRef::<String>::builder(rt.alloc()), "a:b");
+    let built = UriRef::<String>::builder(rt.alloc())
+        .path(part(&rt, "a:b"))
+        .build();
     is_refused(&rt, built, BuildError::FirstPathSegmentContainsColon);
-    let dotted = with_path(&rt, UriRef::<String>::builder(rt.alloc()), "./a:b");
+    let dotted = UriRef::<String>::builder(rt.alloc())
+        .path(part(&rt, "./a:b"))
+        .build();
     is_uri_ref(&rt, dotted, "./a:b");
 }
 
 #[test]
 fn colon_behind_a_scheme(rt: HostRuntime) {
-    let built = with_path(&rt, with_scheme(&rt, rt.alloc(), "foo"), "a:b");
+    let built = Uri::<String>::builder(rt.alloc())
+        .scheme(scheme(&rt, "foo"))
+        .path(part(&rt, "a:b"))
+        .build();
     is_uri(&rt, built, "foo:a:b");
 }
 
@@ -113,9 +107,11 @@ fn international_parts(rt: HostRuntime) {
 
 #[test]
 fn empty_authority(rt: HostRuntime) {
-    let builder = with_scheme(&rt, rt.alloc(), "file")
-        .authority(Authority::EMPTY);
-    let built = with_path(&rt, builder, "/path/to/file");
+    let built = Uri::<String>::builder(rt.alloc())
+        .scheme(scheme(&rt, "file"))
+        .authority(Authority::EMPTY)
+        .path(part(&rt, "/path/to/file"))
+        .build();
     is_uri(&rt, built, "file:///path/to/file");
 }
 
@@ -123,9 +119,11 @@ fn empty_authority(rt: HostRuntime) {
 fn authority_of_another_uri(rt: HostRuntime) {
     let text = "foo://user@example.com:8042";
     let other = Uri::<&str>::parse(text).expect(&rt, text);
-    let builder = with_scheme(&rt, rt.alloc(), "http")
-        .authority(other.authority().expect(&rt, text));
-    let built = with_path(&rt, builder, "");
+    let built = Uri::<String>::builder(rt.alloc())
+        .scheme(scheme(&rt, "http"))
+        .authority(other.authority().expect(&rt, text))
+        .path(part(&rt, ""))
+        .build();
     is_uri(&rt, built, "http://user@example.com:8042");
 }
 
@@ -134,44 +132,53 @@ fn authority_of_another_uri(rt: HostRuntime) {
 #[test]
 fn address_that_a_name_spells(rt: HostRuntime) {
     let name: EStr<'_, RegName> = part(&rt, "127.0.0.1");
-    let builder = with_scheme(&rt, rt.alloc(), "http")
-        .authority_with(|authority| authority.host(name).port_with_default(80, 80));
-    let uri = with_path(&rt, builder, "/a").expect(&rt, "a URI");
+    let uri = Uri::<String>::builder(rt.alloc())
+        .scheme(scheme(&rt, "http"))
+        .authority_with(|authority| authority.host(name).port_with_default(80, 80))
+        .path(part(&rt, "/a"))
+        .build()
+        .expect(&rt, "a URI");
     equal(uri.as_str(), "http://127.0.0.1/a").expect(&rt, "a URI");
     let authority = uri.authority().expect(&rt, "an authority");
     let is_ipv4 = matches!(authority.host_parsed(), Host::Ipv4(_));
     equal(is_ipv4, true).expect(&rt, "an IPv4 address");
-    let builder = with_scheme(&rt, rt.alloc(), "http")
-        .authority_with(|authority| authority.host(name).port_with_default(80, 80));
-    let rootless = with_path(&rt, builder, "a");
+    let rootless = Uri::<String>::builder(rt.alloc())
+        .scheme(scheme(&rt, "http"))
+        .authority_with(|authority| authority.host(name).port_with_default(80, 80))
+        .path(part(&rt, "a"))
+        .build();
     equal(rootless.err(), Some(BuildError::NonemptyRootlessPath)).expect(&rt, "a refusal");
 }
 
 #[test]
 fn ipv6_address_and_a_port(rt: HostRuntime) {
-    let builder = UriRef::<String>::builder(rt.alloc())
+    let built = UriRef::<String>::builder(rt.alloc())
         .authority_with(|authority| authority
             .host(Ipv6Addr::new(0, 0, 0, 0, 0, 0, 0, 1))
-            .port(0));
-    let built = with_path(&rt, builder, "");
+            .port(0))
+        .path(part(&rt, ""))
+        .build();
     is_uri_ref(&rt, built, "//[::1]:0");
 }
 
 #[test]
 fn empty_port(rt: HostRuntime) {
     let name: EStr<'_, RegName> = part(&rt, "h");
-    let builder = UriRef::<String>::builder(rt.alloc())
-        .authority_with(|authority| authority.host(name).port(EStr::<Port>::EMPTY));
-    let built = with_path(&rt, builder, "");
+    let built = UriRef::<String>::builder(rt.alloc())
+        .authority_with(|authority| authority.host(name).port(EStr::<Port>::EMPTY))
+        .path(part(&rt, ""))
+        .build();
     is_uri_ref(&rt, built, "//h:");
 }
 
 #[test]
 fn port_that_is_not_the_default(rt: HostRuntime) {
     let name: EStr<'_, RegName> = part(&rt, "h");
-    let builder = with_scheme(&rt, rt.alloc(), "http")
-        .authority_with(|authority| authority.host(name).port_with_default(8080, 80));
-    let built = with_path(&rt, builder, "/");
+    let built = Uri::<String>::builder(rt.alloc())
+        .scheme(scheme(&rt, "http"))
+        .authority_with(|authority| authority.host(name).port_with_default(8080, 80))
+        .path(part(&rt, "/"))
+        .build();
     is_uri(&rt, built, "http://h:8080/");
 }
 
@@ -180,7 +187,8 @@ fn port_that_is_not_the_default(rt: HostRuntime) {
 fn each_part(rt: HostRuntime) {
     let user: EStr<'_, Userinfo> = part(&rt, "user");
     let name: EStr<'_, RegName> = part(&rt, "example.com");
-    let built = with_scheme(&rt, rt.alloc(), "foo")
+    let built = Uri::<String>::builder(rt.alloc())
+        .scheme(scheme(&rt, "foo"))
         .authority_with(|authority| authority.userinfo(user).host(name).port(8042))
         .path(part(&rt, "/over/there"))
         .query(part(&rt, "name=ferret"))
@@ -196,28 +204,33 @@ fn each_part(rt: HostRuntime) {
 /// Userinfo and port may each be optional, and an IRI has its own names.
 #[test]
 fn address_of_either_version(rt: HostRuntime) {
-    let builder = IriRef::<String>::builder(rt.alloc())
+    let reference = IriRef::<String>::builder(rt.alloc())
         .authority_with(|authority| {
             authority
                 .optional(Builder::userinfo, None)
                 .host(IpAddr::V4(Ipv4Addr::LOCALHOST))
                 .optional(Builder::port, Some(80u16))
-        });
-    let reference = with_path(&rt, builder, "").expect(&rt, "an IRI reference");
+        })
+        .path(part(&rt, ""))
+        .build()
+        .expect(&rt, "an IRI reference");
     equal(reference.as_str(), "//127.0.0.1:80").expect(&rt, "an IRI reference");
     let name: EStr<'_, IRegName> = part(&rt, "é");
-    let builder = IriRef::<String>::builder(rt.alloc())
-        .authority_with(|authority| authority.host(name));
-    let named = with_path(&rt, builder, "").expect(&rt, "an IRI reference");
+    let named = IriRef::<String>::builder(rt.alloc())
+        .authority_with(|authority| authority.host(name))
+        .path(part(&rt, ""))
+        .build()
+        .expect(&rt, "an IRI reference");
     equal(named.as_str(), "//é").expect(&rt, "an IRI reference");
 }
 
 /// RFC 3986, section 3.3: behind an authority a path is empty or begins with `/`.
 #[test]
 fn rootless_path_behind_an_authority(rt: HostRuntime) {
-    let builder = UriRef::<String>::builder(rt.alloc())
-        .authority(Authority::EMPTY);
-    let built = with_path(&rt, builder, "a");
+    let built = UriRef::<String>::builder(rt.alloc())
+        .authority(Authority::EMPTY)
+        .path(part(&rt, "a"))
+        .build();
     is_refused(&rt, built, BuildError::NonemptyRootlessPath);
 }
 
@@ -225,9 +238,11 @@ fn rootless_path_behind_an_authority(rt: HostRuntime) {
 #[test]
 fn another_builder_for_the_authority(rt: HostRuntime) {
     let alloc = rt.alloc();
-    let builder = UriRef::<String>::builder(alloc)
-        .authority_with(|_| UriRef::<String>::builder(alloc));
-    let reference = with_path(&rt, builder, "/x").expect(&rt, "a reference");
+    let reference = UriRef::<String>::builder(alloc)
+        .authority_with(|_| UriRef::<String>::builder(alloc))
+        .path(part(&rt, "/x"))
+        .build()
+        .expect(&rt, "a reference");
     equal(reference.as_str(), "/x").expect(&rt, "a reference");
     equal(reference.has_authority(), false).expect(&rt, "no authority");
 }

@@ -1,14 +1,13 @@
 //! Builders: a step whose memory is refused marks the builder, which keeps its mark until `build`.
 use crate::requests::{answers, end, tell};
 use checks::equal;
-use fluent_uri::build::state::{FragmentEnd, PathEnd, SchemeEnd, StateOf};
-use fluent_uri::build::{BuildError, Builder, To};
+use fluent_uri::build::state::FragmentEnd;
+use fluent_uri::build::{BuildError, Builder};
 use fluent_uri::component::Scheme;
 use fluent_uri::net::{Ipv4Addr, Ipv6Addr};
 use fluent_uri::pct_enc::EStr;
 use fluent_uri::pct_enc::encoder::{Encoder, IRegName, Port, RegName, Userinfo};
 use fluent_uri::{Iri, IriRef, RiMaybeRef, Uri, UriRef};
-use std::alloc::Global;
 use std::process::Abort;
 
 // Each is longer than the room that is left behind those before it.
@@ -24,43 +23,8 @@ fn part<'a, R: Abort, E: Encoder>(rt: &R, text: &'a str) -> EStr<'a, E> {
     EStr::new(text).expect(rt, text)
 }
 
-/// A builder of a URI with the scheme `s`.
-fn with_scheme<A: Abort>(rt: &A, alloc: Global) -> Builder<Uri<String>, SchemeEnd> {
-    Uri::<String>::builder(alloc).scheme(Scheme::new("s").expect(rt, "s"))
-}
-
-/// A builder that has this path next.
-fn with_path<A: Abort, R: RiMaybeRef, S: StateOf<R> + To<PathEnd>>(
-    rt: &A,
-    builder: Builder<R, S>,
-    path: &str,
-) -> Builder<R, PathEnd> {
-    builder.path(part(rt, path))
-}
-
-/// What is built of a builder with this query and this fragment.
-fn with_end<A: Abort, R: RiMaybeRef<Owned = R>>(
-    rt: &A,
-    builder: Builder<R, PathEnd>,
-    query: &str,
-    fragment: &str,
-) -> Result<R, BuildError> {
-    builder
-        .query(part(rt, query))
-        .fragment(part(rt, fragment))
-        .build()
-}
-
-/// What is built of a builder with this query and no fragment, each by an optional step.
-fn with_optional_end<A: Abort, R: RiMaybeRef<Owned = R>>(
-    rt: &A,
-    builder: Builder<R, PathEnd>,
-    query: &str,
-) -> Result<R, BuildError> {
-    builder
-        .optional(Builder::query, Some(part(rt, query)))
-        .optional(Builder::fragment, None)
-        .build()
+fn scheme<'a, R: Abort>(rt: &R, text: &'a str) -> Scheme<'a> {
+    Scheme::new(text).expect(rt, text)
 }
 
 fn is_built<R: Abort + Print, V: RiMaybeRef + Drop>(
@@ -88,9 +52,13 @@ fn is_refused<R: Abort + Print, V: RiMaybeRef + Drop>(
 #[test]
 fn uri_of_all_parts(rt: HostRuntime) {
     let other = Uri::<&str>::parse("s://01234567").expect(&rt, "a URI");
-    let authority = other.authority().expect(&rt, "an authority");
-    let builder = with_scheme(&rt, rt.alloc()).authority(authority);
-    let built = with_end(&rt, with_path(&rt, builder, PATH), QUERY, FRAGMENT);
+    let built = Uri::<String>::builder(rt.alloc())
+        .scheme(scheme(&rt, "s"))
+        .authority(other.authority().expect(&rt, "an authority"))
+        .path(part(&rt, PATH))
+        .query(part(&rt, QUERY))
+        .fragment(part(&rt, FRAGMENT))
+        .build();
     is_built(
         &rt,
         &built,
@@ -101,8 +69,11 @@ fn uri_of_all_parts(rt: HostRuntime) {
 
 #[test]
 fn reference_of_optional_parts(rt: HostRuntime) {
-    let builder = with_path(&rt, UriRef::<String>::builder(rt.alloc()), PATH);
-    let built = with_optional_end(&rt, builder, QUERY);
+    let built = UriRef::<String>::builder(rt.alloc())
+        .path(part(&rt, PATH))
+        .optional(Builder::query, Some(part(&rt, QUERY)))
+        .optional(Builder::fragment, None)
+        .build();
     is_built(
         &rt,
         &built,
@@ -116,23 +87,28 @@ fn parts_of_an_authority(rt: HostRuntime) {
     let user: EStr<'_, Userinfo> = part(&rt, NAME);
     let name: EStr<'_, RegName> = part(&rt, NAME);
     let port: EStr<'_, Port> = part(&rt, "0123456789012345");
-    let builder = with_scheme(&rt, rt.alloc())
-        .authority_with(|authority| authority.userinfo(user).host(name).port(port));
-    let built = with_path(&rt, builder, "").build();
+    let built = Uri::<String>::builder(rt.alloc())
+        .scheme(scheme(&rt, "s"))
+        .authority_with(|authority| authority.userinfo(user).host(name).port(port))
+        .path(EStr::EMPTY)
+        .build();
     is_built(&rt, &built, "s://01234567@01234567:0123456789012345");
     end(&rt, rt.alloc());
 }
 
 #[test]
 fn addresses_and_numbers(rt: HostRuntime) {
-    let builder = UriRef::<String>::builder(rt.alloc())
-        .authority_with(|authority| authority.host(Ipv4Addr::new(127, 0, 0, 1)).port(65535));
-    let built = with_path(&rt, builder, "").build();
+    let built = UriRef::<String>::builder(rt.alloc())
+        .authority_with(|authority| authority.host(Ipv4Addr::new(127, 0, 0, 1)).port(65535))
+        .path(EStr::EMPTY)
+        .build();
     is_built(&rt, &built, "//127.0.0.1:65535");
-    let builder = UriRef::<String>::builder(rt.alloc()).authority_with(|authority| authority
-        .host(Ipv6Addr::new(1, 2, 3, 4, 5, 6, 7, 8))
-        .port_with_default(65535, 80));
-    let built = with_path(&rt, builder, "").build();
+    let built = UriRef::<String>::builder(rt.alloc())
+        .authority_with(|authority| authority
+            .host(Ipv6Addr::new(1, 2, 3, 4, 5, 6, 7, 8))
+            .port_with_default(65535, 80))
+        .path(EStr::EMPTY)
+        .build();
     is_built(&rt, &built, "//[1:2:3:4:5:6:7:8]:65535");
     end(&rt, rt.alloc());
 }
@@ -140,13 +116,17 @@ fn addresses_and_numbers(rt: HostRuntime) {
 #[test]
 fn international_parts(rt: HostRuntime) {
     let name: EStr<'_, IRegName> = part(&rt, "é");
-    let builder = Iri::<String>::builder(rt.alloc())
-        .scheme(Scheme::new("s").expect(&rt, "s"))
-        .authority_with(|authority| authority.host(name));
-    let built = with_path(&rt, builder, "/éééé").build();
+    let built = Iri::<String>::builder(rt.alloc())
+        .scheme(scheme(&rt, "s"))
+        .authority_with(|authority| authority.host(name))
+        .path(part(&rt, "/éééé"))
+        .build();
     is_built(&rt, &built, "s://é/éééé");
-    let builder = with_path(&rt, IriRef::<String>::builder(rt.alloc()), "é");
-    let built = with_end(&rt, builder, "éééé", "éééééééé");
+    let built = IriRef::<String>::builder(rt.alloc())
+        .path(part(&rt, "é"))
+        .query(part(&rt, "éééé"))
+        .fragment(part(&rt, "éééééééé"))
+        .build();
     is_built(&rt, &built, "é?éééé#éééééééé");
     end(&rt, rt.alloc());
 }
@@ -154,13 +134,17 @@ fn international_parts(rt: HostRuntime) {
 /// `build` of a builder that is marked answers out of memory, whatever else would be refused.
 #[test]
 fn mark_before_another_refusal(rt: HostRuntime) {
-    let built = with_path(&rt, UriRef::<String>::builder(rt.alloc()), "a:b")
+    let built = UriRef::<String>::builder(rt.alloc())
+        .path(part(&rt, "a:b"))
         .query(part(&rt, QUERY))
         .advance::<FragmentEnd>()
         .build();
     is_refused(&rt, built, BuildError::FirstPathSegmentContainsColon);
-    let builder = with_path(&rt, UriRef::<String>::builder(rt.alloc()), "//");
-    let built = with_optional_end(&rt, builder, QUERY);
+    let built = UriRef::<String>::builder(rt.alloc())
+        .path(part(&rt, "//"))
+        .optional(Builder::query, Some(part(&rt, QUERY)))
+        .optional(Builder::fragment, None)
+        .build();
     is_refused(&rt, built, BuildError::PathStartsWithDoubleSlash);
     end(&rt, rt.alloc());
 }
@@ -168,9 +152,10 @@ fn mark_before_another_refusal(rt: HostRuntime) {
 #[test]
 fn mark_through_an_authority(rt: HostRuntime) {
     let name: EStr<'_, RegName> = part(&rt, NAME);
-    let builder =
-        with_scheme(&rt, rt.alloc()).authority_with(|authority| authority.host(name).port(65535));
-    let built = with_path(&rt, builder, "rootless")
+    let built = Uri::<String>::builder(rt.alloc())
+        .scheme(scheme(&rt, "s"))
+        .authority_with(|authority| authority.host(name).port(65535))
+        .path(part(&rt, "rootless"))
         .advance::<FragmentEnd>()
         .build();
     is_refused(&rt, built, BuildError::NonemptyRootlessPath);

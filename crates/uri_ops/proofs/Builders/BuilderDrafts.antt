@@ -10,13 +10,21 @@ use Rattle.uri_pct.specs.Tokens.{is_valid_for}
 use Rattle.uri_parts.specs.Grammar.{is_scheme}
 use Rattle.uri_ops.specs.declared.build.draft.Draft.{Draft}
 use Rattle.uri_ops.specs.declared.build.draft.Lengths.{Lengths}
-use Rattle.uri_ops.specs.BuilderParts.{BuilderParts, is_scheme_text, is_text_for, with_authority}
+use Rattle.uri_ops.specs.BuilderParts.{Adds, BuilderParts, is_scheme_text, is_text_for, with_authority}
 use Rattle.uri_ops.specs.BuilderParts.{with_fragment, with_path, with_query, with_scheme}
 use Rattle.uri_ops.specs.Builders.{draft_parts, is_unended, lacks_all, lacks_authority, lacks_path}
 use Rattle.uri_ops.specs.Drafts.{behind_part, parts_in}
 use Rattle.uri_ops.proofs.Builders.BuilderSteps.{authority_step, fragment_step, path_step}
 use Rattle.uri_ops.proofs.Builders.BuilderSteps.{query_step, scheme_step}
 use Rattle.uri_ops.proofs.Builders.Drafting.{IsStep, none_in}
+
+-- what a step adds to the draft that is taken, it adds to what the builder held
+pub adds_to_held : {A : Type 0} (change : A → BuilderParts → BuilderParts) (given part : A)
+    (held taken made new : BuilderParts) → given ≡ part → taken ≡ held
+    → Adds (change given) taken made → new ≡ made → Adds (change part) held new
+adds_to_held change given part held taken made new same from adds is unmarked =
+    is ∙ adds (sym (ap (λ p. p.failed) is) ∙ unmarked) ∙ ap (change given) from
+    ∙ ap (λ x. change x held) same
 
 pub text_from : (set : TableSet) (x : List ℕ) → IsUtf8 x → is_valid_for set x ≡ true
     → is_text_for set x ≡ true

@@ -4,6 +4,8 @@ use Rattle.uri_ops.specs.Models.DraftPlaces.{IsHostAt}
 use Rattle.uri_ops.proofs.Builders.BuilderAuthorities.{authority_from_encoders}
 use Rattle.uri_ops.proofs.Builders.DraftHosts.{given_host}
 use Rattle.uri_ops.proofs.Builders.PartRules.{authority_meets, authority_stands, to_test}
+use Rattle.uri_ops.specs.BuilderParts.{with_authority}
+use Rattle.uri_ops.proofs.Builders.BuilderDrafts.{adds_to_held}
 use Rattle.uri_ops.proofs.build.Builder.authority.Goals as goal
 
 pub with_authority-requires : goal.with_authority-requires
@@ -34,3 +36,8 @@ holding-requires-clause-host g c =
     c.with_authority.ensures.adds
     (subst (λ h. IsHostAt h c.as_str.result.now) (sym c.with_authority.ensures.host)
     (subst (IsHostAt c.host_place.result) (sym c.as_str.ensures.text) c.host_place.ensures))
+
+pub returns : goal.returns
+returns g c =
+    adds_to_held with_authority _ _ _ _ _ _ c.as_str.ensures.text c.taken.ensures.same c.with_authority.ensures.adds
+    c.holding.ensures

@@ -1,7 +1,7 @@
 use Rattle.std.proofs.Common.{refl, ap, ◌∙◌}
 use Rattle.uri_ops.specs.BuilderParts.{with_fragment}
 use Rattle.uri_ops.specs.Builders.{draft_parts}
-use Rattle.uri_ops.proofs.Builders.BuilderDrafts.{text_from_encoder}
+use Rattle.uri_ops.proofs.Builders.BuilderDrafts.{adds_to_held, text_from_encoder}
 use Rattle.uri_ops.proofs.Builders.DraftHosts.{kept_host}
 use Rattle.uri_ops.proofs.Builders.PartRules.{fragment_meets, fragment_stands, to_no_fragment}
 use Rattle.uri_ops.proofs.build.Builder.fragment.Goals as goal
@@ -30,3 +30,8 @@ pub holding-requires-clause-host : goal.holding-requires-clause-host
 holding-requires-clause-host g c =
     kept_host (with_fragment c.as_str.result.now) c.taken.result c.with_fragment.result
     c.with_fragment.ensures.adds refl refl c.with_fragment.ensures.host c.taken.ensures.host
+
+pub returns : goal.returns
+returns g c =
+    adds_to_held with_fragment _ _ _ _ _ _ c.as_str.ensures.text c.taken.ensures.same c.with_fragment.ensures.adds
+    c.holding.ensures

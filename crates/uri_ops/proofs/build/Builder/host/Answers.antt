@@ -1,11 +1,12 @@
-use Rattle.std.proofs.Common.{ap, subst, ◌∙◌}
+use Rattle.std.proofs.Common.{ap, subst, ◌∙◌, refl}
 use Rattle.std.specs.Prelude.{unwrap_or}
-use Rattle.uri_ops.specs.BuilderParts.{takes_host, takes_port}
+use Rattle.uri_ops.specs.BuilderParts.{takes_host, takes_port, with_host}
 use Rattle.uri_ops.specs.Builders.{draft_parts}
 use Rattle.uri_ops.specs.HostParts.{IsHostText}
 use Rattle.uri_ops.proofs.Builders.BuilderGrowth.{host_goes_on}
 use Rattle.uri_ops.proofs.Builders.DraftHosts.{host_host, more_host}
 use Rattle.uri_ops.proofs.Builders.PartRules.{more_meets, more_stands, to_end}
+use Rattle.uri_ops.proofs.Builders.BuilderDrafts.{adds_to_held}
 use Rattle.uri_ops.proofs.build.Builder.host.Goals as goal
 
 pub with_host-requires : goal.with_host-requires
@@ -50,3 +51,8 @@ holding-requires-clause-host g c =
     (c.with_host.ensures.host f))
     c.with_host.ensures.start c.with_host.ensures.end)
     c.taken.ensures.host
+
+pub returns : goal.returns
+returns g c =
+    adds_to_held with_host _ _ _ _ _ _ refl c.taken.ensures.same c.with_host.ensures.adds
+    c.holding.ensures

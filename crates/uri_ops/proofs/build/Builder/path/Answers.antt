@@ -1,7 +1,7 @@
 use Rattle.std.proofs.Common.{refl, ap, ◌∙◌}
 use Rattle.uri_ops.specs.BuilderParts.{with_path}
 use Rattle.uri_ops.specs.Builders.{draft_parts, lacks_path}
-use Rattle.uri_ops.proofs.Builders.BuilderDrafts.{text_from_encoder}
+use Rattle.uri_ops.proofs.Builders.BuilderDrafts.{adds_to_held, text_from_encoder}
 use Rattle.uri_ops.proofs.Builders.DraftHosts.{kept_host}
 use Rattle.uri_ops.proofs.Builders.PartRules.{path_meets, path_stands, to_test}
 use Rattle.uri_ops.proofs.build.Builder.path.Goals as goal
@@ -29,3 +29,8 @@ pub holding-requires-clause-host : goal.holding-requires-clause-host
 holding-requires-clause-host g c =
     kept_host (with_path c.as_str.result.now) c.taken.result c.with_path.result
     c.with_path.ensures.adds refl refl c.with_path.ensures.host c.taken.ensures.host
+
+pub returns : goal.returns
+returns g c =
+    adds_to_held with_path _ _ _ _ _ _ c.as_str.ensures.text c.taken.ensures.same c.with_path.ensures.adds
+    c.holding.ensures

@@ -1,10 +1,11 @@
-use Rattle.std.proofs.Common.{◌++◌, codes}
+use Rattle.std.proofs.Common.{◌++◌, codes, refl}
 use Rattle.std.specs.Prelude.{unwrap_or}
-use Rattle.uri_ops.specs.BuilderParts.{takes_port}
+use Rattle.uri_ops.specs.BuilderParts.{takes_port, with_port}
 use Rattle.uri_ops.specs.Builders.{any_authority, draft_parts}
 use Rattle.uri_ops.proofs.Builders.BuilderGrowth.{port_goes_on}
 use Rattle.uri_ops.proofs.Builders.DraftHosts.{more_host, port_host}
 use Rattle.uri_ops.proofs.Builders.PartRules.{more_meets, more_stands, to_end}
+use Rattle.uri_ops.proofs.Builders.BuilderDrafts.{adds_to_held}
 use Rattle.uri_ops.proofs.build.Builder.port.Goals as goal
 
 pub with_port-requires : goal.with_port-requires
@@ -39,3 +40,8 @@ holding-requires-clause-host g c =
     (g.P.AsPort.port_digits c.args.port)
     (c.with_port.ensures.digits f) c.with_port.ensures.host)
     c.taken.ensures.host
+
+pub returns : goal.returns
+returns g c =
+    adds_to_held with_port _ _ _ _ _ _ refl c.taken.ensures.same c.with_port.ensures.adds
+    c.holding.ensures

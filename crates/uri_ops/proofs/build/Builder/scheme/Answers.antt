@@ -1,7 +1,7 @@
 use Rattle.std.proofs.Common.{refl}
 use Rattle.uri_ops.specs.BuilderParts.{with_scheme}
 use Rattle.uri_ops.specs.Builders.{draft_parts}
-use Rattle.uri_ops.proofs.Builders.BuilderDrafts.{scheme_from}
+use Rattle.uri_ops.proofs.Builders.BuilderDrafts.{adds_to_held, scheme_from}
 use Rattle.uri_ops.proofs.Builders.DraftHosts.{kept_host}
 use Rattle.uri_ops.proofs.Builders.PartRules.{at_start, scheme_meets, scheme_stands}
 use Rattle.uri_ops.proofs.build.Builder.scheme.Goals as goal
@@ -27,3 +27,8 @@ pub holding-requires-clause-host : goal.holding-requires-clause-host
 holding-requires-clause-host g c =
     kept_host (with_scheme c.as_str.result.now) c.taken.result c.with_scheme.result
     c.with_scheme.ensures.adds refl refl c.with_scheme.ensures.host c.taken.ensures.host
+
+pub returns : goal.returns
+returns g c =
+    adds_to_held with_scheme _ _ _ _ _ _ c.as_str.ensures.text c.taken.ensures.same c.with_scheme.ensures.adds
+    c.holding.ensures

@@ -1,12 +1,13 @@
 use Rattle.std.proofs.Common.{◌++◌, ap, sym, ◌∙◌, codes}
 use Rattle.std.specs.Prelude.{unwrap_or}
 use Rattle.uri_pct.specs.Tokens.{is_valid_for}
-use Rattle.uri_ops.specs.BuilderParts.{takes_host}
+use Rattle.uri_ops.specs.BuilderParts.{takes_host, with_userinfo}
 use Rattle.uri_ops.specs.Builders.{draft_parts}
 use Rattle.uri_ops.specs.Dots.{is_empty}
 use Rattle.uri_ops.proofs.Builders.BuilderGrowth.{userinfo_goes_on}
 use Rattle.uri_ops.proofs.Builders.DraftHosts.{more_host, userinfo_host}
 use Rattle.uri_ops.proofs.Builders.PartRules.{more_meets, more_stands, to_end}
+use Rattle.uri_ops.proofs.Builders.BuilderDrafts.{adds_to_held}
 use Rattle.uri_ops.proofs.build.Builder.userinfo.Goals as goal
 
 pub with_userinfo-requires : goal.with_userinfo-requires
@@ -51,3 +52,8 @@ holding-requires-clause-host g c =
     ∙ c.as_str.ensures.valid)
     c.with_userinfo.ensures.host.0 c.with_userinfo.ensures.host.1)
     c.taken.ensures.host
+
+pub returns : goal.returns
+returns g c =
+    adds_to_held with_userinfo _ _ _ _ _ _ c.as_str.ensures.text c.taken.ensures.same c.with_userinfo.ensures.adds
+    c.holding.ensures
