@@ -79,7 +79,8 @@ class Room:
         """The lines that a check of these functions prints; the last begins `only=` where it read them all."""
         only = [word for it in sorted(functions) for word in ("--only", it)]
         words = ["check", *self.crate.words(["--jobs", "1", *only], keeps=False), "--incremental"]
-        command = ["nice", *self.rt.rtlib.guarded(), self.rt.rtlib.RATTLE, *words]
+        # Where `rt ci` needs the processors, nothing of this gets in its way.
+        command = ["chrt", "--idle", "0", *self.rt.rtlib.guarded(), self.rt.rtlib.RATTLE, *words]
         with self.written(texts), self.going_on() as kept, tempfile.TemporaryFile("w+", errors="replace") as said:
             how = {"cwd": self.sources, "stdin": subprocess.DEVNULL, "stdout": said}
             began = subprocess.Popen([*command, str(kept)], stderr=subprocess.STDOUT, **how)

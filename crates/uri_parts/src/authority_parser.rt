@@ -21,12 +21,12 @@ ghost use Rattle.uri_parts.specs.KindTables.{kind_of};
 ghost use Rattle.uri_parts.specs.Models.Literals.{parses_literal, literal_length};
 ghost use Rattle.uri_parts.specs.Models.Cursors.{rest_of, cursor_text, place_of};
 
+use crate::cursor::Cursor;
 use crate::error::{ParseError, ParseErrorKind};
 use crate::kind::Kind;
 use crate::kind_tables::KindTables;
 use crate::literal::literal_end;
 use crate::positions::AuthorityPositions;
-use crate::cursor::Cursor;
 use uri_pct::table::DIGIT;
 
 /// Passes a port with its mark, if one is next.

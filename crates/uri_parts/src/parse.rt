@@ -13,11 +13,11 @@ ghost use Rattle.uri_parts.specs.Models.Parsing.{hier_positions};
 ghost use Rattle.uri_parts.specs.Models.Parsing.{schemeless_positions, parsed_positions};
 
 use crate::authority_parser::find_authority;
+use crate::cursor::Cursor;
 use crate::error::ParseError;
 use crate::kind::Kind;
 use crate::kind_tables::KindTables;
 use crate::positions::{AuthorityPositions, Positions};
-use crate::cursor::Cursor;
 use uri_pct::table::SCHEME;
 
 /// A fragment if there is one, and then the end.

@@ -1,7 +1,7 @@
 //! What a row asks, and whether the answer is the stored one.
 
 use crate::normal::{is_normal_form, is_normal_form_strictly, is_normal_form_under, repeated};
-use crate::parsed::{AuthorityParts, HostValue, Kind, Parts, Parsed};
+use crate::parsed::{AuthorityParts, HostValue, Kind, Parsed, Parts};
 use crate::target::{has_no_target, is_normal_target, is_target};
 use fluent_uri::resolve::ResolveError;
 use fluent_uri::{ParseErrorKind, Uri};

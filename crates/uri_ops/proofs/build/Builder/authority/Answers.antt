@@ -39,5 +39,5 @@ holding-requires-clause-host g c =
 
 pub returns : goal.returns
 returns g c =
-    adds_to_held with_authority _ _ _ _ _ _ c.as_str.ensures.text c.taken.ensures.same c.with_authority.ensures.adds
-    c.holding.ensures
+    adds_to_held with_authority _ _ _ _ _ _ c.as_str.ensures.text c.taken.ensures.same
+    c.with_authority.ensures.adds c.holding.ensures

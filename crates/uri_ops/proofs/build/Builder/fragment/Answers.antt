@@ -33,5 +33,5 @@ holding-requires-clause-host g c =
 
 pub returns : goal.returns
 returns g c =
-    adds_to_held with_fragment _ _ _ _ _ _ c.as_str.ensures.text c.taken.ensures.same c.with_fragment.ensures.adds
-    c.holding.ensures
+    adds_to_held with_fragment _ _ _ _ _ _ c.as_str.ensures.text c.taken.ensures.same
+    c.with_fragment.ensures.adds c.holding.ensures

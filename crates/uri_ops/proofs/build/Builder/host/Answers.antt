@@ -54,5 +54,5 @@ holding-requires-clause-host g c =
 
 pub returns : goal.returns
 returns g c =
-    adds_to_held with_host _ _ _ _ _ _ refl c.taken.ensures.same c.with_host.ensures.adds
-    c.holding.ensures
+    adds_to_held with_host _ _ _ _ _ _ refl c.taken.ensures.same
+    c.with_host.ensures.adds c.holding.ensures

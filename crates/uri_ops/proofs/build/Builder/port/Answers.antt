@@ -43,5 +43,5 @@ holding-requires-clause-host g c =
 
 pub returns : goal.returns
 returns g c =
-    adds_to_held with_port _ _ _ _ _ _ refl c.taken.ensures.same c.with_port.ensures.adds
-    c.holding.ensures
+    adds_to_held with_port _ _ _ _ _ _ refl c.taken.ensures.same
+    c.with_port.ensures.adds c.holding.ensures

@@ -55,5 +55,5 @@ holding-requires-clause-host g c =
 
 pub returns : goal.returns
 returns g c =
-    adds_to_held with_userinfo _ _ _ _ _ _ c.as_str.ensures.text c.taken.ensures.same c.with_userinfo.ensures.adds
-    c.holding.ensures
+    adds_to_held with_userinfo _ _ _ _ _ _ c.as_str.ensures.text c.taken.ensures.same
+    c.with_userinfo.ensures.adds c.holding.ensures
