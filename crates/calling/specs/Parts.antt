@@ -1,4 +1,4 @@
--- What is read of a reference.
+-- The parts of a reference that a program mostly asks for: RFC 3986, section 3.
 use Rattle.std.specs.Prelude.{◌≡◌, option_map}
 use Rattle.fluent_uri.specs.Authority.{authority_parts}
 use Rattle.fluent_uri.specs.Components.{Components}

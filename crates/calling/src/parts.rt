@@ -26,7 +26,7 @@ pub struct Parts<'a> {
 ///
 /// Of `foo://user@example.com:8042/over/there?name=ferret#nose` they are `foo`, `example.com` and
 /// `/over/there`.
-pub fn read_parts(text: &str) -> Result<Parts<'_>, ParseError>
+pub fn parts_of(text: &str) -> Result<Parts<'_>, ParseError>
     ensures accepts { IsOk result ↔ IsOfKind uri_ref text.now }
     ensures parts { IfOk result (IsOf (components text.now)) }
 {

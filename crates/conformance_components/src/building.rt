@@ -6,7 +6,7 @@ use fluent_uri::component::{Authority, Host, Scheme};
 use fluent_uri::net::{IpAddr, Ipv4Addr, Ipv6Addr};
 use fluent_uri::pct_enc::EStr;
 use fluent_uri::pct_enc::encoder::{Encoder, IRegName, Port, RegName, Userinfo};
-use fluent_uri::{Iri, IriRef, Uri, UriRef};
+use fluent_uri::{Iri, IriRef, RiMaybeRef, Uri, UriRef};
 use std::process::Abort;
 
 fn part<'a, R: Abort, E: Encoder>(rt: &R, text: &'a str) -> EStr<'a, E> {
@@ -17,14 +17,8 @@ fn scheme<'a, R: Abort>(rt: &R, text: &'a str) -> Scheme<'a> {
     Scheme::new(text).expect(rt, text)
 }
 
-fn is_uri<R: Abort>(rt: &R, built: Result<Uri<String>, BuildError>, wanted: &str) {
-    let uri = built.expect(rt, wanted);
-    equal(uri.as_str(), wanted).expect(rt, wanted);
-}
-
-fn is_uri_ref<R: Abort>(rt: &R, built: Result<UriRef<String>, BuildError>, wanted: &str) {
-    let reference = built.expect(rt, wanted);
-    equal(reference.as_str(), wanted).expect(rt, wanted);
+fn is_built<A: Abort, R: RiMaybeRef + Drop>(rt: &A, built: Result<R, BuildError>, wanted: &str) {
+    equal(built.expect(rt, wanted).as_str(), wanted).expect(rt, wanted);
 }
 
 fn is_refused<R: Abort>(rt: &R, built: Result<UriRef<String>, BuildError>, wanted: BuildError) {
@@ -50,7 +44,7 @@ fn colon_in_the_first_segment(rt: HostRuntime) {
     let dotted = UriRef::<String>::builder(rt.alloc())
         .path(part(&rt, "./a:b"))
         .build();
-    is_uri_ref(&rt, dotted, "./a:b");
+    is_built(&rt, dotted, "./a:b");
 }
 
 #[test]
@@ -59,7 +53,7 @@ fn colon_behind_a_scheme(rt: HostRuntime) {
         .scheme(scheme(&rt, "foo"))
         .path(part(&rt, "a:b"))
         .build();
-    is_uri(&rt, built, "foo:a:b");
+    is_built(&rt, built, "foo:a:b");
 }
 
 #[test]
@@ -69,7 +63,7 @@ fn optional_parts(rt: HostRuntime) {
         .optional(Builder::query, Some(part(&rt, "bar")))
         .optional(Builder::fragment, None)
         .build();
-    is_uri_ref(&rt, built, "foo?bar");
+    is_built(&rt, built, "foo?bar");
 }
 
 /// The answer of `optional` is the builder that its closure returns.
@@ -84,7 +78,7 @@ fn another_builder_for_an_optional_part(rt: HostRuntime) {
         .query(part(&rt, "q"))
         .optional(|_, ()| other, Some(()))
         .build();
-    is_uri_ref(&rt, built, "/y");
+    is_built(&rt, built, "/y");
 }
 
 #[test]
@@ -94,15 +88,13 @@ fn international_parts(rt: HostRuntime) {
         .path(part(&rt, "/é"))
         .query(part(&rt, "ü"))
         .fragment(part(&rt, "ß"))
-        .build()
-        .expect(&rt, "an IRI");
-    equal(iri.as_str(), "foo:/é?ü#ß").expect(&rt, "an IRI");
+        .build();
+    is_built(&rt, iri, "foo:/é?ü#ß");
     let reference = IriRef::<String>::builder(rt.alloc())
         .path(part(&rt, ""))
         .fragment(part(&rt, "é"))
-        .build()
-        .expect(&rt, "an IRI reference");
-    equal(reference.as_str(), "#é").expect(&rt, "an IRI reference");
+        .build();
+    is_built(&rt, reference, "#é");
 }
 
 #[test]
@@ -112,7 +104,7 @@ fn empty_authority(rt: HostRuntime) {
         .authority(Authority::EMPTY)
         .path(part(&rt, "/path/to/file"))
         .build();
-    is_uri(&rt, built, "file:///path/to/file");
+    is_built(&rt, built, "file:///path/to/file");
 }
 
 #[test]
@@ -124,7 +116,7 @@ fn authority_of_another_uri(rt: HostRuntime) {
         .authority(other.authority().expect(&rt, text))
         .path(part(&rt, ""))
         .build();
-    is_uri(&rt, built, "http://user@example.com:8042");
+    is_built(&rt, built, "http://user@example.com:8042");
 }
 
 /// A name that spells an IPv4 address is one (RFC 3986, section 3.2.2), and the default port is
@@ -158,7 +150,7 @@ fn ipv6_address_and_a_port(rt: HostRuntime) {
             .port(0))
         .path(part(&rt, ""))
         .build();
-    is_uri_ref(&rt, built, "//[::1]:0");
+    is_built(&rt, built, "//[::1]:0");
 }
 
 #[test]
@@ -168,7 +160,7 @@ fn empty_port(rt: HostRuntime) {
         .authority_with(|authority| authority.host(name).port(EStr::<Port>::EMPTY))
         .path(part(&rt, ""))
         .build();
-    is_uri_ref(&rt, built, "//h:");
+    is_built(&rt, built, "//h:");
 }
 
 #[test]
@@ -179,7 +171,7 @@ fn port_that_is_not_the_default(rt: HostRuntime) {
         .authority_with(|authority| authority.host(name).port_with_default(8080, 80))
         .path(part(&rt, "/"))
         .build();
-    is_uri(&rt, built, "http://h:8080/");
+    is_built(&rt, built, "http://h:8080/");
 }
 
 /// The example of RFC 3986, section 3, with userinfo.
@@ -194,7 +186,7 @@ fn each_part(rt: HostRuntime) {
         .query(part(&rt, "name=ferret"))
         .fragment(part(&rt, "nose"))
         .build();
-    is_uri(
+    is_built(
         &rt,
         built,
         "foo://user@example.com:8042/over/there?name=ferret#nose",
@@ -212,16 +204,14 @@ fn address_of_either_version(rt: HostRuntime) {
                 .optional(Builder::port, Some(80u16))
         })
         .path(part(&rt, ""))
-        .build()
-        .expect(&rt, "an IRI reference");
-    equal(reference.as_str(), "//127.0.0.1:80").expect(&rt, "an IRI reference");
+        .build();
+    is_built(&rt, reference, "//127.0.0.1:80");
     let name: EStr<'_, IRegName> = part(&rt, "é");
     let named = IriRef::<String>::builder(rt.alloc())
         .authority_with(|authority| authority.host(name))
         .path(part(&rt, ""))
-        .build()
-        .expect(&rt, "an IRI reference");
-    equal(named.as_str(), "//é").expect(&rt, "an IRI reference");
+        .build();
+    is_built(&rt, named, "//é");
 }
 
 /// RFC 3986, section 3.3: behind an authority a path is empty or begins with `/`.

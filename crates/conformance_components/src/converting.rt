@@ -1,6 +1,6 @@
 //! Values of one kind as another, and octets for characters past ASCII (RFC 3987, section 3.1).
 use checks::{equal, prints};
-use fluent_uri::{ConvertError, Iri, IriRef, Uri, UriRef};
+use fluent_uri::{ConvertError, Iri, IriRef, RiMaybeRef, Uri, UriRef};
 use std::alloc::AllocError;
 use std::convert::TryFrom;
 use std::process::Abort;
@@ -125,12 +125,12 @@ const IRIS: &[(&str, &str)] = &[
     ("HTTP://R%c3%89/É", "HTTP://R%c3%89/%C3%89"),
 ];
 
-fn is_uri<R: Abort>(rt: &R, uri: Result<Uri<String>, AllocError>, wanted: &str) {
-    equal(uri.expect(rt, wanted).as_str(), wanted).expect(rt, wanted);
-}
-
-fn is_uri_ref<R: Abort>(rt: &R, uri_ref: Result<UriRef<String>, AllocError>, wanted: &str) {
-    equal(uri_ref.expect(rt, wanted).as_str(), wanted).expect(rt, wanted);
+fn is_converted<A: Abort, R: RiMaybeRef + Drop>(
+    rt: &A,
+    converted: Result<R, AllocError>,
+    wanted: &str,
+) {
+    equal(converted.expect(rt, wanted).as_str(), wanted).expect(rt, wanted);
 }
 
 #[test]
@@ -139,13 +139,13 @@ fn octets_for_characters_past_ascii(rt: HostRuntime) {
     for &(text, wanted) in IRIS {
         let iri = iri(&rt, text);
         let owned = iri.to_owned(alloc).expect(&rt, text);
-        is_uri(&rt, iri.to_uri(alloc), wanted);
-        is_uri(&rt, owned.to_uri(alloc), wanted);
-        is_uri_ref(&rt, IriRef::from(iri).to_uri_ref(alloc), wanted);
-        is_uri_ref(&rt, IriRef::from(owned).to_uri_ref(alloc), wanted);
+        is_converted(&rt, iri.to_uri(alloc), wanted);
+        is_converted(&rt, owned.to_uri(alloc), wanted);
+        is_converted(&rt, IriRef::from(iri).to_uri_ref(alloc), wanted);
+        is_converted(&rt, IriRef::from(owned).to_uri_ref(alloc), wanted);
     }
     let reference = iri_ref(&rt, "%E2é");
-    is_uri_ref(&rt, reference.to_uri_ref(alloc), "%E2%C3%A9");
+    is_converted(&rt, reference.to_uri_ref(alloc), "%E2%C3%A9");
 }
 
 const MESSAGES: &[(ConvertError, &str)] = &[

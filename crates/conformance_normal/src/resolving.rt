@@ -2,11 +2,15 @@
 use checks::{equal, prints};
 use fluent_uri::normalize::Normalizer;
 use fluent_uri::resolve::{ResolveError, Resolver};
-use fluent_uri::{Iri, IriRef, Uri, UriRef};
+use fluent_uri::{Iri, IriRef, RiMaybeRef, Uri, UriRef};
 use std::alloc::Global;
 use std::process::Abort;
 
-fn is_uri<R: Abort>(rt: &R, target: Result<Uri<String>, ResolveError>, wanted: &str) {
+fn is_target<A: Abort, R: RiMaybeRef + Drop>(
+    rt: &A,
+    target: Result<R, ResolveError>,
+    wanted: &str,
+) {
     equal(target.expect(rt, wanted).as_str(), wanted).expect(rt, wanted);
 }
 
@@ -14,14 +18,14 @@ fn is_uri<R: Abort>(rt: &R, target: Result<Uri<String>, ResolveError>, wanted: &
 fn resolves<R: Abort>(rt: &R, alloc: Global, base: &str, reference: &str, wanted: &str) {
     let base = Uri::<&str>::parse(base).expect(rt, base);
     let reference = UriRef::<&str>::parse(reference).expect(rt, reference);
-    is_uri(rt, reference.resolve_against(alloc, &base), wanted);
+    is_target(rt, reference.resolve_against(alloc, &base), wanted);
     let resolver = Resolver::with_base(base);
-    is_uri(rt, resolver.resolve(alloc, &reference), wanted);
+    is_target(rt, resolver.resolve(alloc, &reference), wanted);
     let owned_base = base.to_owned(alloc).expect(rt, wanted);
     let owned = reference.to_owned(alloc).expect(rt, wanted);
-    is_uri(rt, owned.resolve_against(alloc, &owned_base), wanted);
+    is_target(rt, owned.resolve_against(alloc, &owned_base), wanted);
     let resolver = Resolver::with_base(owned_base);
-    is_uri(rt, resolver.resolve(alloc, &owned), wanted);
+    is_target(rt, resolver.resolve(alloc, &owned), wanted);
 }
 
 /// That the target's normal form is that of what the normal forms resolve to.
@@ -34,7 +38,7 @@ fn swaps<R: Abort>(rt: &R, alloc: Global, base: &str, reference: &str) {
     let normalizer = Normalizer::new();
     let resolver = Resolver::with_base(base);
     let at_once = resolver.resolve_normalized(alloc, &reference, &normalizer);
-    is_uri(rt, at_once, normal.as_str());
+    is_target(rt, at_once, normal.as_str());
     let base = base.normalize(alloc).expect(rt, base.as_str());
     let reference = reference.normalize(alloc).expect(rt, reference.as_str());
     let swapped = reference.resolve_against(alloc, &base);
@@ -43,7 +47,7 @@ fn swaps<R: Abort>(rt: &R, alloc: Global, base: &str, reference: &str) {
     equal(swapped.as_str(), normal.as_str()).expect(rt, reference.as_str());
     let resolver = Resolver::with_base(base);
     let at_once = resolver.resolve_normalized(alloc, &reference, &normalizer);
-    is_uri(rt, at_once, normal.as_str());
+    is_target(rt, at_once, normal.as_str());
 }
 
 /// That a reference has this target where underflow is not allowed.
@@ -51,7 +55,7 @@ fn resolves_strictly<R: Abort>(rt: &R, alloc: Global, base: &str, reference: &st
     let base = Uri::<&str>::parse(base).expect(rt, base);
     let reference = UriRef::<&str>::parse(reference).expect(rt, reference);
     let resolver = Resolver::with_base(base).allow_path_underflow(false);
-    is_uri(rt, resolver.resolve(alloc, &reference), wanted);
+    is_target(rt, resolver.resolve(alloc, &reference), wanted);
 }
 
 /// What a reference is refused for, and what where underflow is not allowed.
@@ -204,7 +208,7 @@ fn normal_targets(rt: HostRuntime) {
         let resolver = Resolver::with_base(base).allow_path_underflow(false);
         let normalizer = Normalizer::new().allow_path_underflow(false);
         let normal = resolver.resolve_normalized(rt.alloc(), &reference, &normalizer);
-        is_uri(&rt, normal, wanted);
+        is_target(&rt, normal, wanted);
     }
 }
 
@@ -273,24 +277,20 @@ fn underflow(rt: HostRuntime) {
     }
 }
 
-fn is_iri<R: Abort>(rt: &R, target: Result<Iri<String>, ResolveError>, wanted: &str) {
-    equal(target.expect(rt, wanted).as_str(), wanted).expect(rt, wanted);
-}
-
 /// RFC 3987, sections 3.1 and 6.5.
 #[test]
 fn iris(rt: HostRuntime) {
     let alloc = rt.alloc();
     let base = Iri::<&str>::parse("http://é/a/b").expect(&rt, "a base");
     let reference = IriRef::<&str>::parse("../ü").expect(&rt, "a reference");
-    is_iri(&rt, reference.resolve_against(alloc, &base), "http://é/ü");
+    is_target(&rt, reference.resolve_against(alloc, &base), "http://é/ü");
     let owned_base = base.to_owned(alloc).expect(&rt, "memory");
     let owned = reference.to_owned(alloc).expect(&rt, "memory");
-    is_iri(&rt, owned.resolve_against(alloc, &owned_base), "http://é/ü");
+    is_target(&rt, owned.resolve_against(alloc, &owned_base), "http://é/ü");
     let encoded_base = base.to_uri(alloc).expect(&rt, "memory");
     let encoded = reference.to_uri_ref(alloc).expect(&rt, "memory");
     let target = encoded.resolve_against(alloc, &encoded_base);
-    is_uri(&rt, target, "http://%C3%A9/%C3%BC");
+    is_target(&rt, target, "http://%C3%A9/%C3%BC");
 }
 
 /// RFC 3987, section 5.3.2.
@@ -305,7 +305,7 @@ fn normal_forms_of_iris(rt: HostRuntime) {
     let normal = target.normalize(alloc).expect(&rt, "a normal form");
     let resolver = Resolver::with_base(base);
     let at_once = resolver.resolve_normalized(alloc, &reference, &Normalizer::new());
-    is_iri(&rt, at_once, normal.as_str());
+    is_target(&rt, at_once, normal.as_str());
     let base = base.normalize(alloc).expect(&rt, "a normal base");
     let reference = reference.normalize(alloc).expect(&rt, "a normal reference");
     let swapped = reference

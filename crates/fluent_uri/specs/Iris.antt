@@ -1,4 +1,4 @@
--- What an `Iri` and an `IriRef` hold.
+-- What an `Iri` and an `IriRef` hold: texts of RFC 3987, section 2.2.
 use Rattle.std.specs.Prelude.{ℕ, List}
 use Rattle.uri_parts.specs.CoreTexts.{core_text}
 use Rattle.fluent_uri.specs.declared.iri.Iri.{Iri}

@@ -1,6 +1,6 @@
 //! What the programs of the calling guide print for stored lines, and what its functions answer.
 use calling::pairs::{Pair, query_of};
-use calling::parts::read_parts;
+use calling::parts::parts_of;
 use calling::reach::reach;
 use calling::refusal::Refusal;
 use calling::segments::{PathError, path_of};
@@ -81,7 +81,7 @@ fn prints_what_stored_lines_come_to(rt: HostRuntime) {
 
 #[test]
 fn takes_a_reference_apart(rt: HostRuntime) {
-    let got = read_parts("foo://user@example.com:8042/over/there?name=ferret#nose");
+    let got = parts_of("foo://user@example.com:8042/over/there?name=ferret#nose");
     let got = got.expect(&rt, "parts");
     equal(got.scheme, Some("foo")).expect(&rt, "scheme");
     equal(got.host, Some("example.com")).expect(&rt, "host");

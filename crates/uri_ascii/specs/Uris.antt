@@ -1,4 +1,4 @@
--- What a `Uri` and a `UriRef` hold.
+-- What a `Uri` and a `UriRef` hold: texts of RFC 3986, sections 3 and 4.1.
 use Rattle.std.specs.Prelude.{ℕ, List}
 use Rattle.uri_parts.specs.CoreTexts.{core_text}
 use Rattle.uri_ascii.specs.declared.uri.Uri.{Uri}

@@ -1,4 +1,4 @@
--- What a builder holds in a state it may hold before the steps that follow.
+-- What a builder holds in a state it may hold before the steps that follow: RFC 3986, section 3.
 use Rattle.std.specs.Prelude.{◌≡◌, ◌&&◌, ◌||◌, ℕ, Bool, true, false, List, [], ◌∷◌, Option, Some}
 use Rattle.std.specs.Prelude.{None, refl, is_none, is_some}
 use Rattle.std.specs.Option.{option_map_or}

@@ -1,5 +1,5 @@
--- What a builder holds in its state. Its type names, of its kind, the encoders, and what holds of
--- them.
+-- What a builder holds in its state (RFC 3986, section 3). Its type names, of its kind, the
+-- encoders, and what holds of them.
 use Rattle.uri_ops.specs.declared.build.Builder.{Builder}
 use Rattle.uri_ops.specs.declared.build.held.At.{At}
 use Rattle.uri_ops.specs.BuilderParts.{BuilderParts}

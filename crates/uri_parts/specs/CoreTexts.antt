@@ -1,4 +1,4 @@
--- What a `Core` holds.
+-- What a `Core` holds: a text of a kind (RFC 3986, sections 3 and 4.1).
 use Rattle.std.specs.Prelude.{ℕ, List}
 use Rattle.uri_parts.specs.declared.core_text.Core.{Core}
 

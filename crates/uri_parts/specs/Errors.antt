@@ -1,4 +1,5 @@
--- What a refusal of the parser tells.
+-- What a refusal of the parser tells. RFC 3986, section 3, says what is refused, and no RFC what is
+-- told of it.
 use Rattle.std.specs.Prelude.{◌≡◌, ℕ, ◌<◌, ◌-◌, List, ⊤, slice_index}
 use Rattle.std.specs.Str.{IsCharBoundary}
 use Rattle.uri_pct.specs.Texts.{IsStrayPercent}

@@ -1,4 +1,4 @@
--- The kind that the tables of the code stand for.
+-- The kind that the tables of the code stand for: RFC 3986, section 3, and RFC 3987, section 2.2.
 use Rattle.uri_pct.specs.Sets.{TableSet}
 use Rattle.uri_pct.specs.Tables.{set_of}
 use Rattle.uri_parts.specs.Grammar.{Kind}

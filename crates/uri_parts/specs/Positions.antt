@@ -1,4 +1,4 @@
--- Where the components of a text lie in it.
+-- Where the components of a text lie in it: RFC 3986, section 3.
 use Rattle.std.specs.Prelude.{◌≡◌, ℕ, ◌+◌, List, length, Option, Some, None, option_map, unwrap_or}
 use Rattle.uri_parts.specs.declared.positions.Positions.{Positions}
 use Rattle.uri_parts.specs.declared.positions.AuthorityPositions.{AuthorityPositions}

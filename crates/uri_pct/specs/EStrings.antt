@@ -1,4 +1,4 @@
--- What an `EString` holds.
+-- What an `EString` holds: RFC 3986, section 2.1.
 use Rattle.std.specs.Prelude.{ℕ, List, string_bytes}
 use Rattle.std.specs.String.{string_capacity}
 use Rattle.uri_pct.specs.declared.estring.EString.{EString}

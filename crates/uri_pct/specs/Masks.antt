@@ -1,4 +1,4 @@
--- Two words as a set of ASCII characters.
+-- Two words as a set of ASCII characters, in place of the rules of RFC 3986, appendix A.
 use Rattle.std.specs.Prelude.{ℕ, ◌-◌, Bool, not, ◌&&◌, ◌==◌, nat_lt, if◌then◌else◌}
 use Rattle.std.specs.Int.{bit_at}
 use Rattle.uri_pct.specs.Delimiters.{percent_sign}

@@ -1,5 +1,5 @@
 -- A text as it is decoded: what stands for itself, and the UTF-8 pieces of each maximal run of
--- octets.
+-- octets (RFC 3986, section 2.1; Unicode, section 3.9).
 use Rattle.std.specs.Prelude.{ℕ, List, [], ◌∷◌, ◌++◌, map}
 use Rattle.std.specs.List.{flat_map}
 use Rattle.uri_pct.specs.Chunks.{Chunk, Text, Byte, chunks}

@@ -1,4 +1,4 @@
--- The set of characters that a `Table` stands for.
+-- The set of characters that a `Table` stands for: RFC 3986, appendix A, and RFC 3987, section 2.2.
 use Rattle.std.specs.Prelude.{false}
 use Rattle.uri_pct.specs.Sets.{TableSet, plain}
 use Rattle.uri_pct.specs.Masks.{has_bit}

@@ -1,7 +1,7 @@
 //! What a row asks, and whether the answer is the stored one.
 
 use crate::normal::{is_normal_form, is_normal_form_strictly, is_normal_form_under, repeated};
-use crate::parsed::{AuthorityParts, HostValue, Kind, Parsed, Parts};
+use crate::parsed::{AuthorityParts, Components, HostValue, Kind, Parsed};
 use crate::target::{has_no_target, is_normal_target, is_target};
 use fluent_uri::resolve::ResolveError;
 use fluent_uri::{ParseErrorKind, Uri};
@@ -15,7 +15,7 @@ pub enum Ask {
     /// That as an owned URI it is refused, why, and at which byte offset, and that it comes back.
     Returned(&'static str, ParseErrorKind, usize),
     /// That these are its components.
-    Parts(Kind, &'static str, Parts<'static>),
+    Parts(Kind, &'static str, Components<'static>),
     /// That these are the parts of its authority.
     Authority(Kind, &'static str, AuthorityParts<'static>),
     /// That this is the host of its authority.
@@ -42,8 +42,8 @@ impl Ask {
         match *self {
             Ask::Refused(kind, text, why, index) => is_refused(kind, text, why, index),
             Ask::Returned(text, why, index) => is_returned(alloc, text, why, index),
-            Ask::Parts(kind, text, parts) => {
-                Parsed::of(kind, text).is_ok_and(|parsed| parsed.parts == parts)
+            Ask::Parts(kind, text, components) => {
+                Parsed::of(kind, text).is_ok_and(|parsed| parsed.components == components)
             }
             Ask::Authority(kind, text, parts) => {
                 Parsed::of(kind, text).is_ok_and(|parsed| parsed.authority == Some(parts))

@@ -20,7 +20,7 @@ pub enum Kind {
 
 /// The components of a reference (RFC 3986, section 3).
 #[derive(Clone, Copy, PartialEq, Eq)]
-pub struct Parts<'a> {
+pub struct Components<'a> {
     /// The text before the first `:` that ends a scheme.
     pub scheme: Option<&'a str>,
     /// The text behind `//`.
@@ -34,7 +34,7 @@ pub struct Parts<'a> {
 }
 
 /// No component but an empty path.
-pub const EMPTY: Parts<'static> = Parts {
+pub const EMPTY: Components<'static> = Components {
     scheme: None,
     authority: None,
     path: "",
@@ -69,7 +69,7 @@ pub enum HostValue<'a> {
 /// What the accessors of a parsed text answer; `authority` and `host` are of its authority.
 #[derive(Clone, Copy)]
 pub(crate) struct Parsed<'a> {
-    pub(crate) parts: Parts<'a>,
+    pub(crate) components: Components<'a>,
     pub(crate) authority: Option<AuthorityParts<'a>>,
     pub(crate) host: Option<HostValue<'a>>,
 }
@@ -129,7 +129,7 @@ impl<'a> Parsed<'a> {
         fragment: Option<EStr<'a, F>>,
     ) -> Parsed<'a> {
         Parsed {
-            parts: Parts {
+            components: Components {
                 scheme: scheme.map(Scheme::as_str),
                 authority: authority.map(Authority::as_str),
                 path: path.as_str(),

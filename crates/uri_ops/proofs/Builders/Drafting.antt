@@ -62,8 +62,8 @@ same_parts {failed = failed} s a p q f =
           failed;
     }
 
-pub read_back : (p : BuilderParts) → parts_in (lengths_of p) (parts_text p) p.failed ≡ p
-read_back p =
+pub parts_found : (p : BuilderParts) → parts_in (lengths_of p) (parts_text p) p.failed ≡ p
+parts_found p =
     let F : List ℕ = marked (codes "#") p.fragment [] in
     let Q : List ℕ = marked (codes "?") p.query [] ++ F in
     let P : List ℕ = unwrap_or p.path [] ++ Q in
@@ -90,16 +90,16 @@ read_back p =
     ∙ in_marked (codes "#") [] p.fragment [])
 
 -- a text with its lengths is known by the parts whose text it is
-pub read_parts : (p : BuilderParts) (lengths : Lengths) (text : List ℕ) → lengths ≡ lengths_of p
-    → text ≡ parts_text p → parts_in lengths text p.failed ≡ p
-read_parts p lengths text n t = ap (λ l. parts_in l text p.failed) n
-    ∙ ap (λ x. parts_in (lengths_of p) x p.failed) t ∙ read_back p
+pub parts_by_lengths : (p : BuilderParts) (lengths : Lengths) (text : List ℕ)
+    → lengths ≡ lengths_of p → text ≡ parts_text p → parts_in lengths text p.failed ≡ p
+parts_by_lengths p lengths text n t = ap (λ l. parts_in l text p.failed) n
+    ∙ ap (λ x. parts_in (lengths_of p) x p.failed) t ∙ parts_found p
 
 pub drafted : (p : BuilderParts) (lengths : Lengths) (text : List ℕ) → p.failed ≡ false
     → lengths ≡ lengths_of p → text ≡ parts_text p → IsDraft lengths text
 drafted p lengths text f n t =
     let same : parts_in lengths text false ≡ p = ap (parts_in lengths text) (sym f)
-    ∙ read_parts p lengths text n t in
+    ∙ parts_by_lengths p lengths text n t in
     record {
       whole = ap parts_text same ∙ sym t;
       counted = ap lengths_of same ∙ sym n;
@@ -114,7 +114,7 @@ pub stepped : (p : BuilderParts) (lengths : Lengths) (text : List ℕ) → p.fai
     → lengths ≡ lengths_of p → text ≡ parts_text p → IsStep p lengths text
 stepped p lengths text f n t = record {
   draft = drafted p lengths text f n t;
-  parts = ap (parts_in lengths text) (sym f) ∙ read_parts p lengths text n t;
+  parts = ap (parts_in lengths text) (sym f) ∙ parts_by_lengths p lengths text n t;
 }
 
 -- each part with its rule

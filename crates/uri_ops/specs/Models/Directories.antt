@@ -1,4 +1,5 @@
--- Directories, behind which the segments of a path are taken one after the other.
+-- Directories, behind which the segments of a path are taken one after the other: RFC 3986, section
+-- 5.2.4.
 use Rattle.std.specs.Prelude.{◌≡◌, ◌⊎◌, ◌||◌, Bool, true, List, [], ◌++◌, ℕ, codes}
 use Rattle.uri_ops.specs.Dots.{IsAbsolute, EndsInSlash, before_last_slash, lacks_dot_segments}
 use Rattle.uri_ops.specs.Dots.{remove_dot_segments, underflows}

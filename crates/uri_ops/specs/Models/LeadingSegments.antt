@@ -1,4 +1,4 @@
--- What a path begins with: a dot segment, or segments that are none.
+-- What a path begins with: a dot segment, or segments that are none (RFC 3986, section 5.2.4).
 use Rattle.std.specs.Prelude.{◌≡◌, ◌<◌, ◌≤◌, ◌+◌, ◌-◌, ◌&&◌, ◌||◌, ◌==◌, ℕ, Bool, true, false}
 use Rattle.std.specs.Prelude.{List, [], ◌∷◌, length, take, drop, slice_index, if◌then◌else◌}
 use Rattle.std.specs.Str.{IsCharBoundary}

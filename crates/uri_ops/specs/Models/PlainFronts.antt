@@ -1,5 +1,5 @@
 -- What of a base stands before a reference's text in a target where no dot segment has to be
--- removed.
+-- removed: RFC 3986, section 5.2.2.
 use Rattle.std.specs.Prelude.{◌≡◌, ℕ, ◌+◌, true, false, List, ◌++◌, is_some, length, option_map}
 use Rattle.uri_parts.specs.declared.positions.Positions.{Positions}
 use Rattle.uri_parts.specs.Components.{Components, recompose}

@@ -1,4 +1,5 @@
--- What the parts of a component leave in the reading that takes them, one part after the other.
+-- What the parts of a component leave in the reading that takes them, one part after the other: RFC
+-- 3986, section 6.2.2.2.
 use Rattle.std.specs.Prelude.{take, drop, if◌then◌else◌}
 use Rattle.std.proofs.Common.{◌≡◌, ℕ, Bool, true, false, List, [], ◌++◌, map, refl, sym, ap, ◌∙◌}
 use Rattle.std.proofs.Common.{append_assoc, string_bytes}

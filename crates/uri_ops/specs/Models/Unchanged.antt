@@ -1,4 +1,4 @@
--- What is asked of a text which then is its own normal text.
+-- What is asked of a text which then is its own normal text: RFC 3986, section 6.2.2.
 use Rattle.std.specs.Prelude.{◌≡◌, ◌||◌, ◌==◌, ℕ, Bool, true, false, not, List, Option, None}
 use Rattle.std.specs.Prelude.{IfSome}
 use Rattle.std.specs.List.{list_all}

@@ -1,4 +1,4 @@
--- Where a `Cursor` stands in its text.
+-- Where a `Cursor` stands in its text: no RFC has this.
 use Rattle.std.specs.Prelude.{ℕ, List, drop}
 use Rattle.uri_parts.specs.declared.parse.BeforePath.{BeforePath}
 use Rattle.uri_parts.specs.declared.positions.Positions.{Positions}

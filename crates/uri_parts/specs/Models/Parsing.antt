@@ -1,4 +1,4 @@
--- What the parser takes, as functions of the text that is left.
+-- What the parser takes, as functions of the text that is left: RFC 3986, sections 3 and 4.1.
 use Rattle.std.specs.Prelude.{ℕ, ◌+◌, Bool, true, false, not, ◌&&◌, ◌==◌, List}
 use Rattle.std.specs.Prelude.{[], ◌∷◌, drop, slice_index, Option, Some, None, if◌then◌else◌}
 use Rattle.std.specs.Char.{is_ascii_alphabetic}

@@ -1,4 +1,4 @@
--- Runs of bytes that pass a test, and of such bytes and octets.
+-- Runs of bytes that pass a test, and of such bytes and octets: RFC 3986, section 2.1.
 use Rattle.std.specs.Prelude.{◌≡◌, ◌≤◌, ◌<◌, ℕ, Bool, true, false, List, ◌+◌, length, slice_index}
 use Rattle.uri_pct.specs.Texts.{has_digits}
 use Rattle.uri_pct.specs.Delimiters.{percent_sign}

@@ -1,4 +1,4 @@
--- How far a text is spelt by what a set allows, byte by byte.
+-- How far a text is spelt by what a set allows, byte by byte: RFC 3986, section 2.1.
 use Rattle.std.specs.Prelude.{ℕ, zero, suc, ◌+◌, Bool, not, ◌&&◌, ◌||◌}
 use Rattle.std.specs.Prelude.{◌==◌, nat_lt, List, [], ◌∷◌, drop, slice_index, if◌then◌else◌}
 use Rattle.std.specs.Char.{is_ascii_hexdigit}

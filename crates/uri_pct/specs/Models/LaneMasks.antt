@@ -1,4 +1,4 @@
--- Two masks as the sixteen bytes of a vector.
+-- Two masks as the sixteen bytes of a vector: no RFC has this.
 use Rattle.std.specs.Prelude.{ℕ, List, [], ◌∷◌, ◌^◌, ◌%◌, nat_lt, if◌then◌else◌}
 use Rattle.std.specs.Simd.Lanes.{number_l, digits_l}
 

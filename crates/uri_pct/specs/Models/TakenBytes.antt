@@ -1,5 +1,5 @@
 -- What the parts of a text leave in the bytes and in the lossy text that take them, one part after
--- the other.
+-- the other: RFC 3986, section 2.1, and Unicode, section 3.9.
 use Rattle.std.proofs.Common.{◌≡◌, ℕ, Bool, true, false, List, [], ◌++◌, ◌&&◌, refl, sym, ap, ◌∙◌}
 use Rattle.std.proofs.Common.{append_assoc, string_bytes}
 use Rattle.std.specs.List.{list_all, flat_map}

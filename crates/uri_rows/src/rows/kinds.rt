@@ -4,7 +4,7 @@ use crate::ask::Ask::{Authority, Host, Parts, Refused};
 use crate::ask::Row;
 use crate::parsed::HostValue::{Ipv6, RegName};
 use crate::parsed::Kind::{Iri, IriRef, Uri, UriRef};
-use crate::parsed::{AuthorityParts, EMPTY, Parts as Components};
+use crate::parsed::{AuthorityParts, Components, EMPTY};
 use fluent_uri::ParseErrorKind::{InvalidIpv6Addr, InvalidPctEncodedOctet, UnexpectedChar};
 
 const ROWS: &[Row] = &[

@@ -7,7 +7,7 @@ use crate::ask::Ask::{
 use crate::ask::Row;
 use crate::parsed::HostValue::{Ipv4, RegName};
 use crate::parsed::Kind::{Iri, IriRef, Uri, UriRef};
-use crate::parsed::{AuthorityParts, EMPTY, Parts as Components};
+use crate::parsed::{AuthorityParts, Components, EMPTY};
 use fluent_uri::ParseErrorKind::{InvalidIpv6Addr, InvalidPctEncodedOctet, UnexpectedChar};
 use fluent_uri::resolve::ResolveError::{BaseWithFragment, InvalidReferenceAgainstOpaqueBase};
 
