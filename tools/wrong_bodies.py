@@ -34,7 +34,7 @@ class Edit:
 
 
 class Room:
-    """A copy of a crate in a folder, and the work that a check of it keeps there."""
+    """A copy of a crate in a folder, and the work that the first check of it keeps there."""
 
     def __init__(self, rt, crate, folder):
         self.rt, self.crate, self.checks, self.seconds = rt, crate, 0, 0.0
@@ -44,10 +44,9 @@ class Room:
                 shutil.copytree(f"{crate.folder}/{part}", self.sources / part)
 
     def beside(self, folder):
-        """Another copy, over what this one keeps, if it was checked."""
+        """Another copy, over what this one keeps."""
         other = Room(self.rt, self.crate, folder)
-        if self.kept.exists():
-            other.kept = self.kept
+        other.kept = self.kept
         return other
 
     @contextlib.contextmanager
@@ -79,8 +78,7 @@ class Room:
         """The lines that a check of these functions prints; the last begins `only=` where it read them all."""
         only = [word for it in sorted(functions) for word in ("--only", it)]
         words = ["check", *self.crate.words(["--jobs", "1", *only], keeps=False), "--incremental"]
-        # Where `rt ci` needs the processors, nothing of this gets in its way.
-        command = ["chrt", "--idle", "0", *self.rt.rtlib.guarded(), self.rt.rtlib.RATTLE, *words]
+        command = ["nice", *self.rt.rtlib.guarded(), self.rt.rtlib.RATTLE, *words]
         with self.written(texts), self.going_on() as kept, tempfile.TemporaryFile("w+", errors="replace") as said:
             how = {"cwd": self.sources, "stdin": subprocess.DEVNULL, "stdout": said}
             began = subprocess.Popen([*command, str(kept)], stderr=subprocess.STDOUT, **how)
