@@ -65,6 +65,14 @@ class Room:
         with self.written(texts):
             return self.rt.edited(edit.text, str(self.sources))
 
+    def begin_with(self, seed):
+        """Takes what a check by `rt ci` keeps in a folder for as long as it needs it; answers whether it was there."""
+        try:
+            self.rt.linked(seed, self.kept)
+        except (OSError, shutil.Error):
+            shutil.rmtree(self.kept, ignore_errors=True)
+        return self.kept.exists()
+
     @contextlib.contextmanager
     def going_on(self):
         """What is kept, where nothing is as yet, and else a copy: no check takes what a later one left."""
@@ -72,7 +80,8 @@ class Room:
             yield self.kept
             return
         with tempfile.TemporaryDirectory(dir=self.sources.parent) as folder:
-            yield shutil.copytree(self.kept, f"{folder}/kept")
+            self.rt.linked(self.kept, f"{folder}/kept")
+            yield f"{folder}/kept"
 
     def check(self, functions, texts):
         """The lines that a check of these functions prints; the last begins `only=` where it read them all."""

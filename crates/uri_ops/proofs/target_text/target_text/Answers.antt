@@ -22,3 +22,6 @@ returns-in-Some-clause-at c =
     ∙ sym (ap positions_of
     (ap components c.in_ok-target.ensures.text
     ∙ target_components c.args.base.now.text.now c.args.reference.now.text.now c.requires))
+
+pub returns-then-is_refused-clause-error : goal.returns-then-is_refused-clause-error
+returns-then-is_refused-clause-error c = search rules

@@ -1,4 +1,4 @@
-use Rattle.std.proofs.Common.{refl, sym, ap, subst, string_bytes}
+use Rattle.std.proofs.Common.{◌≡◌, refl, sym, ap, subst, string_bytes}
 use Rattle.std.specs.Prelude.{is_ok}
 use Rattle.uri_parts.specs.Grammar.{IsOfKind}
 use Rattle.uri_ops.specs.Normalizers.{ports_of}
@@ -58,7 +58,9 @@ returns-clause-normal g c =
     let ports = g.P.DefaultPort.port_of (ports_of c.args.normalizer.now) in
     let base = g.R.RiMaybeRef.text (base_of c.args.self.now) in
     let reference = g.Q.RiMaybeRef.text c.args.reference.now in
-    subst (IsNormalTarget kind g.Q.RiMaybeRef.kind ports base reference) (sym c.make_owned.ensures)
+    let owned : g.R.RiMaybeRef.owned_text c.make_owned.result
+        ≡ string_bytes c.in_ok-made.made.text = c.make_owned.ensures in
+    subst (IsNormalTarget kind g.Q.RiMaybeRef.kind ports base reference) (sym owned)
     (normal_target kind g.Q.RiMaybeRef.kind g.met.R.RiMaybeRef.component_sets
     g.met.R.Ri.needs_scheme g.met.Q.RefOf.same_tables ports base reference
     c.resolved_text.ensures.base c.resolved_text.ensures.reference
