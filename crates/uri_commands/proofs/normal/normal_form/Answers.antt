@@ -1,3 +1,5 @@
+use Rattle.std.proofs.Common.{rules}
+use Rattle.uri_commands.proofs.NormalForms.{normal_form_is}
 use Rattle.uri_commands.proofs.Refusals.{text_refused}
 use Rattle.uri_commands.specs.Commands.{Normalize}
 use Rattle.uri_commands.specs.Refusals.{IsRefusalOf}
@@ -31,3 +33,6 @@ returns-in_err-parse-in-IriRef-clause-refused c =
     c.from_residual-in_err-parse-in-IriRef.result _ (λ _ is. is)
     c.in-IriRef.is c.in_err-parse-in-IriRef.ensures.accepts.1 c.in_err-parse-in-IriRef.ensures.err
     c.from_residual-in_err-parse-in-IriRef.ensures.1
+
+pub returns-clause-normal : goal.returns-clause-normal
+returns-clause-normal c = search (rules, normal_form_is)

@@ -1,4 +1,4 @@
-use Rattle.std.proofs.Common.{◌≡◌, None, OnOk, IfErr, sym, subst}
+use Rattle.std.proofs.Common.{rules, ◌≡◌, None, OnOk, IfErr, sym, subst}
 use Rattle.std.specs.Io.KnownBytes.{Keeps}
 use Rattle.uri_commands.specs.Asked.{asked}
 use Rattle.uri_commands.specs.Commands.{Prints, output_of}
@@ -21,3 +21,9 @@ returns-in-Links-clause-keeps g c =
     subst (λ k. output_of (asked k) ≡ None
     → Keeps (g.O.Write.contents c.args.out.now) (g.O.Write.contents c.links.new.out))
     (sym c.in-Links.is) c.links.ensures.keeps
+
+pub returns-in-Parse-clause-refused : goal.returns-in-Parse-clause-refused
+returns-in-Parse-clause-refused g c = search rules
+
+pub returns-in-Parse-clause-kept : goal.returns-in-Parse-clause-kept
+returns-in-Parse-clause-kept g c = search rules

@@ -1,3 +1,4 @@
+use Rattle.std.proofs.Common.{rules}
 use Rattle.uri_commands.proofs.Outputs.{resolve_failed}
 use Rattle.uri_commands.proofs.run.resolve.Goals as goal
 
@@ -6,3 +7,9 @@ returns-clause-refused g c =
     let target = c.in_ok-target.ensures in
     resolve_failed c.args.kind c.args.base.now c.args.reference.now _ c.print_line.result
     target.base target.reference target.target c.print_line.ensures.failed
+
+pub returns-in_err-target-clause-keeps : goal.returns-in_err-target-clause-keeps
+returns-in_err-target-clause-keeps g c = search rules
+
+pub returns-in_err-target-clause-kept : goal.returns-in_err-target-clause-kept
+returns-in_err-target-clause-kept g c = search rules

@@ -1,4 +1,4 @@
-use Rattle.std.proofs.Common.{sym, subst}
+use Rattle.std.proofs.Common.{rules, sym, subst}
 use Rattle.fluent_uri.specs.Grammar.{IsOfKind, uri, uri_ref, iri, iri_ref}
 use Rattle.uri_commands.proofs.Refusals.{mapped_refused, mapped_parsed}
 use Rattle.uri_commands.specs.Commands.{Resolve, kind_of_base, kind_of_references}
@@ -46,3 +46,12 @@ returns-in_err-reference-in-Iri-clause-refused c =
     × IsErrorOf (kind_of_references k) c.args.reference.now e) (sym c.in-Iri.is) (base, is))
     c.parse-in-Iri-2.ensures.accepts c.parse-in-Iri-2.ensures.err c.map_err-in-Iri-2.ensures.cases
     c.in_err-reference-in-Iri.was c.from_residual-in_err-reference-in-Iri.ensures.1
+
+pub returns-in_err-uri_target-in-Uri-clause-refused : goal.returns-in_err-uri_target-in-Uri-clause-refused
+returns-in_err-uri_target-in-Uri-clause-refused c = search rules
+
+pub returns-in_err-iri_target-in-Iri-clause-refused : goal.returns-in_err-iri_target-in-Iri-clause-refused
+returns-in_err-iri_target-in-Iri-clause-refused c = search rules
+
+pub returns-clause-target : goal.returns-clause-target
+returns-clause-target c = search rules

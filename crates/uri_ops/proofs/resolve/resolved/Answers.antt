@@ -9,7 +9,7 @@ returns-clause-target g c =
     let base = components (g.B.RiMaybeRef.text c.args.base.now) in
     let reference = components (g.Q.RiMaybeRef.text c.args.reference.now) in
     let owned : g.B.RiMaybeRef.owned_text c.make_owned.result
-        ≡ string_bytes c.in_ok-target.target.text = c.make_owned.ensures in
+    ≡ string_bytes c.in_ok-target.target.text = c.make_owned.ensures in
     subst (IsTarget c.args.allow_path_underflow base reference) (sym owned)
     c.in_ok-target.ensures.target
 
@@ -18,7 +18,7 @@ returns-clause-encoded g c =
     let base = g.B.RiMaybeRef.text c.args.base.now in
     let reference = g.Q.RiMaybeRef.text c.args.reference.now in
     let owned : g.B.RiMaybeRef.owned_text c.make_owned.result
-        ≡ string_bytes c.in_ok-target.target.text = c.make_owned.ensures in
+    ≡ string_bytes c.in_ok-target.target.text = c.make_owned.ensures in
     subst (IsTargetOfEncoded c.args.allow_path_underflow base reference) (sym owned)
     c.in_ok-target.ensures.encoded
 
@@ -27,6 +27,6 @@ returns-clause-alike g c =
     let base = g.B.RiMaybeRef.text c.args.base.now in
     let reference = g.Q.RiMaybeRef.text c.args.reference.now in
     let owned : g.B.RiMaybeRef.owned_text c.make_owned.result
-        ≡ string_bytes c.in_ok-target.target.text = c.make_owned.ensures in
+    ≡ string_bytes c.in_ok-target.target.text = c.make_owned.ensures in
     subst (IsTargetOfMeanings g.B.RiMaybeRef.kind g.Q.RiMaybeRef.kind base reference) (sym owned)
     c.in_ok-target.ensures.alike

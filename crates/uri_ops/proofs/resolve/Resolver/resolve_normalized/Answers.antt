@@ -59,7 +59,7 @@ returns-clause-normal g c =
     let base = g.R.RiMaybeRef.text (base_of c.args.self.now) in
     let reference = g.Q.RiMaybeRef.text c.args.reference.now in
     let owned : g.R.RiMaybeRef.owned_text c.make_owned.result
-        ≡ string_bytes c.in_ok-made.made.text = c.make_owned.ensures in
+    ≡ string_bytes c.in_ok-made.made.text = c.make_owned.ensures in
     subst (IsNormalTarget kind g.Q.RiMaybeRef.kind ports base reference) (sym owned)
     (normal_target kind g.Q.RiMaybeRef.kind g.met.R.RiMaybeRef.component_sets
     g.met.R.Ri.needs_scheme g.met.Q.RefOf.same_tables ports base reference
