@@ -4,6 +4,7 @@ import os
 import pathlib
 import re
 import shutil
+import signal
 import subprocess
 import tempfile
 
@@ -87,8 +88,17 @@ class Room:
         """The lines that a check of these functions prints; the last begins `only=` where it read them all."""
         only = [word for it in sorted(functions) for word in ("--only", it)]
         words = ["check", *self.crate.words(["--jobs", "1", *only], keeps=False), "--incremental"]
+        with self.written(texts):
+            status, lines = self.said_by(words)
+            if status == -signal.SIGKILL:
+                # (most likely for memory)
+                status, lines = self.said_by(words)
+        return lines
+
+    def said_by(self, words):
+        """What the prover ended with, and the lines that it printed, over what is kept."""
         command = ["nice", *self.rt.rtlib.guarded(), self.rt.rtlib.RATTLE, *words]
-        with self.written(texts), self.going_on() as kept, tempfile.TemporaryFile("w+", errors="replace") as said:
+        with self.going_on() as kept, tempfile.TemporaryFile("w+", errors="replace") as said:
             how = {"cwd": self.sources, "stdin": subprocess.DEVNULL, "stdout": said}
             began = subprocess.Popen([*command, str(kept)], stderr=subprocess.STDOUT, **how)
             _, status, used = os.wait4(began.pid, 0)
@@ -97,7 +107,7 @@ class Room:
             lines = said.read().rstrip("\n").split("\n")
         self.checks += 1
         self.seconds += used.ru_utime + used.ru_stime
-        return lines
+        return began.returncode, lines
 
     def unproved(self, functions):
         """The first of these functions that is not proved as it stands, and what is said of it."""
