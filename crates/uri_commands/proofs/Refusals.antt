@@ -5,9 +5,7 @@ use Rattle.std.specs.Result.{IsErrAnd}
 use Rattle.fluent_uri.specs.Errors.{IsErrorIn}
 use Rattle.fluent_uri.specs.Grammar.{Kind, IsOfKind}
 use Rattle.fluent_uri.specs.declared.ParseError.{ParseError}
-use Rattle.uri_commands.specs.Commands.{kind_named}
 use Rattle.uri_commands.specs.Refusals.{IsErrorOf}
-use Rattle.uri_commands.specs.declared.command.KindName.{KindName}
 use Rattle.fluent_uri.proofs.Outcomes.{refused_with}
 
 pub refused_as : {A B : Type 0} (P : B → Type 0) (result : Result A B) (e : B)
@@ -15,16 +13,16 @@ pub refused_as : {A B : Type 0} (P : B → Type 0) (result : Result A B) (e : B)
 refused_as P (Ok a) e is p = tt
 refused_as P (Err x) e is p = subst P (sym is) p
 
--- the refusal of a text, as it is told
+-- The refusal of a text, as it is told. The kind is the one that it was parsed as, so that where this
+-- is not the one that was named the two kinds are compared, and not what they say of the text.
 pub text_refused : {A B : Type 0} (P : B → Type 0) (told : ParseError → B)
-    (name named : KindName) (text : List ℕ) (result : Result A B) (e : ParseError)
-    → ((x : ParseError) → IsErrorOf (kind_named name) text x → P (told x))
-    → name ≡ named → (IsOfKind (kind_named named) text → false ≡ true) → IsErrorIn text e
+    (named kind : Kind) (text : List ℕ) (result : Result A B) (e : ParseError)
+    → ((x : ParseError) → IsErrorOf named text x → P (told x))
+    → (IsOfKind kind text → false ≡ true) → named ≡ kind → IsErrorIn text e
     → IsErrAnd result (λ x. x ≡ told e) → IfErr result P
-text_refused P told name named text result e is same none err given =
+text_refused P told named kind text result e is none same err given =
     refused_with P result (told e) given
-    (is e (subst (λ k. IsErrorOf (kind_named k) text e) (sym same)
-    (λ of_kind. cc (none of_kind), err)))
+    (is e (subst (λ k. IsErrorOf k text e) (sym same) (λ of_kind. cc (none of_kind), err)))
 
 -- the refusal of a text, as `map_err` tells it
 pub mapped_refused : {A B C : Type 0} (P : B → Type 0) (told : ParseError → B) (kind : Kind)

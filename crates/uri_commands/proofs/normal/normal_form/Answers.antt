@@ -1,7 +1,7 @@
-use Rattle.std.proofs.Common.{rules}
+use Rattle.std.proofs.Common.{rules, ap}
 use Rattle.uri_commands.proofs.NormalForms.{normal_form_is}
 use Rattle.uri_commands.proofs.Refusals.{text_refused}
-use Rattle.uri_commands.specs.Commands.{Normalize}
+use Rattle.uri_commands.specs.Commands.{Normalize, kind_named}
 use Rattle.uri_commands.specs.Refusals.{IsRefusalOf}
 use Rattle.uri_commands.specs.declared.refusal.Refusal.TheVariants.{Text}
 use Rattle.uri_commands.proofs.normal.normal_form.Goals as goal
@@ -10,28 +10,32 @@ pub returns-in_err-parse-in-Uri-clause-refused : goal.returns-in_err-parse-in-Ur
 returns-in_err-parse-in-Uri-clause-refused c =
     text_refused (IsRefusalOf (Normalize c.args.kind c.args.text.now)) Text _ _ _
     c.from_residual.result _ (λ _ is. is)
-    c.in-Uri.is c.in_err-parse-in-Uri.ensures.accepts.1 c.in_err-parse-in-Uri.ensures.err
+    c.in_err-parse-in-Uri.ensures.accepts.1
+    (ap kind_named c.in-Uri.is) c.in_err-parse-in-Uri.ensures.err
     c.from_residual.ensures.1
 
 pub returns-in_err-parse-in-UriRef-clause-refused : goal.returns-in_err-parse-in-UriRef-clause-refused
 returns-in_err-parse-in-UriRef-clause-refused c =
     text_refused (IsRefusalOf (Normalize c.args.kind c.args.text.now)) Text _ _ _
     c.from_residual-in_err-parse-in-UriRef.result _ (λ _ is. is)
-    c.in-UriRef.is c.in_err-parse-in-UriRef.ensures.accepts.1 c.in_err-parse-in-UriRef.ensures.err
+    c.in_err-parse-in-UriRef.ensures.accepts.1
+    (ap kind_named c.in-UriRef.is) c.in_err-parse-in-UriRef.ensures.err
     c.from_residual-in_err-parse-in-UriRef.ensures.1
 
 pub returns-in_err-parse-in-Iri-clause-refused : goal.returns-in_err-parse-in-Iri-clause-refused
 returns-in_err-parse-in-Iri-clause-refused c =
     text_refused (IsRefusalOf (Normalize c.args.kind c.args.text.now)) Text _ _ _
     c.from_residual-in_err-parse-in-Iri.result _ (λ _ is. is)
-    c.in-Iri.is c.in_err-parse-in-Iri.ensures.accepts.1 c.in_err-parse-in-Iri.ensures.err
+    c.in_err-parse-in-Iri.ensures.accepts.1
+    (ap kind_named c.in-Iri.is) c.in_err-parse-in-Iri.ensures.err
     c.from_residual-in_err-parse-in-Iri.ensures.1
 
 pub returns-in_err-parse-in-IriRef-clause-refused : goal.returns-in_err-parse-in-IriRef-clause-refused
 returns-in_err-parse-in-IriRef-clause-refused c =
     text_refused (IsRefusalOf (Normalize c.args.kind c.args.text.now)) Text _ _ _
     c.from_residual-in_err-parse-in-IriRef.result _ (λ _ is. is)
-    c.in-IriRef.is c.in_err-parse-in-IriRef.ensures.accepts.1 c.in_err-parse-in-IriRef.ensures.err
+    c.in_err-parse-in-IriRef.ensures.accepts.1
+    (ap kind_named c.in-IriRef.is) c.in_err-parse-in-IriRef.ensures.err
     c.from_residual-in_err-parse-in-IriRef.ensures.1
 
 pub returns-clause-normal : goal.returns-clause-normal

@@ -1,3 +1,4 @@
+use Rattle.std.proofs.Common.{ap}
 use Rattle.uri_commands.proofs.Refusals.{text_refused}
 use Rattle.uri_commands.specs.Commands.{kind_named}
 use Rattle.uri_commands.specs.Refusals.{IsErrorOf}
@@ -7,26 +8,30 @@ pub returns-in_err-parse-in-Uri-clause-error : goal.returns-in_err-parse-in-Uri-
 returns-in_err-parse-in-Uri-clause-error c =
     text_refused (IsErrorOf (kind_named c.args.kind) c.args.text.now) (λ e. e) _ _ _
     c.from_residual.result _ (λ _ is. is)
-    c.in-Uri.is c.in_err-parse-in-Uri.ensures.accepts.1 c.in_err-parse-in-Uri.ensures.err
+    c.in_err-parse-in-Uri.ensures.accepts.1
+    (ap kind_named c.in-Uri.is) c.in_err-parse-in-Uri.ensures.err
     c.from_residual.ensures.1
 
 pub returns-in_err-parse-in-UriRef-clause-error : goal.returns-in_err-parse-in-UriRef-clause-error
 returns-in_err-parse-in-UriRef-clause-error c =
     text_refused (IsErrorOf (kind_named c.args.kind) c.args.text.now) (λ e. e) _ _ _
     c.from_residual-in_err-parse-in-UriRef.result _ (λ _ is. is)
-    c.in-UriRef.is c.in_err-parse-in-UriRef.ensures.accepts.1 c.in_err-parse-in-UriRef.ensures.err
+    c.in_err-parse-in-UriRef.ensures.accepts.1
+    (ap kind_named c.in-UriRef.is) c.in_err-parse-in-UriRef.ensures.err
     c.from_residual-in_err-parse-in-UriRef.ensures.1
 
 pub returns-in_err-parse-in-Iri-clause-error : goal.returns-in_err-parse-in-Iri-clause-error
 returns-in_err-parse-in-Iri-clause-error c =
     text_refused (IsErrorOf (kind_named c.args.kind) c.args.text.now) (λ e. e) _ _ _
     c.from_residual-in_err-parse-in-Iri.result _ (λ _ is. is)
-    c.in-Iri.is c.in_err-parse-in-Iri.ensures.accepts.1 c.in_err-parse-in-Iri.ensures.err
+    c.in_err-parse-in-Iri.ensures.accepts.1
+    (ap kind_named c.in-Iri.is) c.in_err-parse-in-Iri.ensures.err
     c.from_residual-in_err-parse-in-Iri.ensures.1
 
 pub returns-in_err-parse-in-IriRef-clause-error : goal.returns-in_err-parse-in-IriRef-clause-error
 returns-in_err-parse-in-IriRef-clause-error c =
     text_refused (IsErrorOf (kind_named c.args.kind) c.args.text.now) (λ e. e) _ _ _
     c.from_residual-in_err-parse-in-IriRef.result _ (λ _ is. is)
-    c.in-IriRef.is c.in_err-parse-in-IriRef.ensures.accepts.1 c.in_err-parse-in-IriRef.ensures.err
+    c.in_err-parse-in-IriRef.ensures.accepts.1
+    (ap kind_named c.in-IriRef.is) c.in_err-parse-in-IriRef.ensures.err
     c.from_residual-in_err-parse-in-IriRef.ensures.1

@@ -1,3 +1,4 @@
+use Rattle.std.proofs.Common.{rules}
 use Rattle.uri_pct.specs.Chunks.{widest_set}
 use Rattle.uri_pct.proofs.Decodings.Decoding.{in_widest}
 use Rattle.uri_pct.proofs.ValidTexts.EStrs.{valid_in_more}
@@ -8,3 +9,6 @@ of_text-requires g c =
     let set = g.R.Encoder.set in
     valid_in_more set widest_set c.as_str.result.now (in_widest set g.met.R.Encoder.lacks_percent)
     c.as_str.ensures.valid
+
+pub returns-in-Ok-clause-text : goal.returns-in-Ok-clause-text
+returns-in-Ok-clause-text g c = search rules

@@ -1,5 +1,6 @@
 use Rattle.uri_links.proofs.links.Register.add.Goals as goal
-use Rattle.std.proofs.Common.{◌∙◌, ap, map, [], ◌∷◌}
+use Rattle.std.proofs.lemmas.Grind.{common_steps}
+use Rattle.std.proofs.Common.{arith, ◌∙◌, ap, map, [], ◌∷◌}
 use Rattle.std.proofs.lemmas.List.{map-append}
 use Rattle.fluent_uri.specs.Uris.{uri_text}
 use Rattle.uri_links.proofs.Texts.{normal_after, distinct_after, place_after}
@@ -23,3 +24,9 @@ invariant_of-self-in-Ok-clause-placed g c =
     place_after _ _ c.in_ok-text.text c.args.self.now.places c.insert.new.self _ c.len-id.result e
     (c.in_ok-text.ensures.ok ∙ c.as_str.ensures.text) c.len-id.ensures
     c.in-Ok.ensures.updates c.args.self.now.placed c.requires.new
+
+pub invariant_of-self-in-Err : goal.invariant_of-self-in-Err
+invariant_of-self-in-Err g c = grind (arith, common_steps)
+
+pub returns-clause-kept : goal.returns-clause-kept
+returns-clause-kept g c = grind (arith, common_steps)

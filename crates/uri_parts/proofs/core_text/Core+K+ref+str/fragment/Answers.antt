@@ -1,4 +1,4 @@
-use Rattle.std.proofs.Common.{◌≡◌, Some}
+use Rattle.std.proofs.Common.{rules, ◌≡◌, Some}
 use Rattle.uri_parts.specs.Components.{components}
 use Rattle.uri_parts.proofs.TextKinds.ComponentRules.{fragment_valid}
 use Rattle.uri_parts.proofs.core_text.Core+K+ref+str.fragment.Goals as goal
@@ -9,3 +9,6 @@ new_or_panic-requires g c =
     cc c.in-Some.ensures in
     fragment_valid g.K.Kind.kind _ c.args.self.text.now c.in-Some.fragment.now c.args.self.of_kind
     g.met.K.Kind.fragment_set part
+
+pub returns-in-Some : goal.returns-in-Some
+returns-in-Some g c = search rules

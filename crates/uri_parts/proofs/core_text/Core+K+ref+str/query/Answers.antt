@@ -1,4 +1,4 @@
-use Rattle.std.proofs.Common.{◌≡◌, Some}
+use Rattle.std.proofs.Common.{rules, ◌≡◌, Some}
 use Rattle.uri_parts.specs.Components.{components}
 use Rattle.uri_parts.proofs.TextKinds.ComponentRules.{query_valid}
 use Rattle.uri_parts.proofs.core_text.Core+K+ref+str.query.Goals as goal
@@ -9,3 +9,6 @@ new_or_panic-requires g c =
     cc c.in-Some.ensures in
     query_valid g.K.Kind.kind _ c.args.self.text.now c.in-Some.query.now c.args.self.of_kind
     g.met.K.Kind.query_set part
+
+pub returns-in-Some : goal.returns-in-Some
+returns-in-Some g c = search rules
