@@ -13,8 +13,8 @@ pub refused_as : {A B : Type 0} (P : B → Type 0) (result : Result A B) (e : B)
 refused_as P (Ok a) e is p = tt
 refused_as P (Err x) e is p = subst P (sym is) p
 
--- The refusal of a text, as it is told. The kind is the one that it was parsed as, so that where this
--- is not the one that was named the two kinds are compared, and not what they say of the text.
+-- The refusal of a text, as it is told. It was parsed as `kind`: where this is not the one that was
+-- named, the two are compared, and not what they say of the text.
 pub text_refused : {A B : Type 0} (P : B → Type 0) (told : ParseError → B)
     (named kind : Kind) (text : List ℕ) (result : Result A B) (e : ParseError)
     → ((x : ParseError) → IsErrorOf named text x → P (told x))
