@@ -3,4 +3,5 @@ pub mod HostForms
 pub mod Splitting
 pub mod TextKinds
 pub mod Parsing
+pub mod Refusals
 pub mod Theorems

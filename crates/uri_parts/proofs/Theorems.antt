@@ -25,7 +25,7 @@ pub use Rattle.uri_parts.proofs.Authorities.Authority.{is_authority_for-sound}
 pub use Rattle.uri_parts.proofs.HostForms.Hosts.{is_host-complete, is_host-sound}
 
 -- tables of the kind keep apart what it does
-tables_of : (kind tables : Kind) (segment : TableSet)
+pub tables_of : (kind tables : Kind) (segment : TableSet)
     → kind ≡ one_of_four kind.path.ucschar kind.needs_scheme → tables ≡ kind
     → segment ≡ first_segment_set kind → Separates segment tables
 tables_of kind tables segment known k s = subst (λ v. Separates v tables) (sym s)

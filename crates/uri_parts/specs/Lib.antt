@@ -10,6 +10,8 @@ pub mod Hosts
 pub mod KindTables
 pub mod Models
 pub mod Positions
+pub mod RefusalRows
+pub mod Refusals
 pub mod SchemePorts
 pub mod Schemes
 pub mod AuthorityTexts

@@ -3,7 +3,7 @@
 //! What passes as a name and a port is the front of userinfo, so nothing is scanned again to tell
 //! the two apart, nor to tell where and why an authority is refused.
 ghost use Rattle.std.specs.Prelude.{◌≡◌, ◌≤◌, ◌+◌, drop, length, true, IfErr, IfOk, IfSome, OnOk};
-ghost use Rattle.std.specs.Prelude.{is_ok, is_some};
+ghost use Rattle.std.specs.Prelude.{is_ok, is_some, Some, Ok, IfNone, ◌<◌, false};
 ghost use Rattle.std.specs.Str.{IsCharBoundary};
 ghost use Rattle.uri_pct.specs.Delimiters.{at_sign, left_bracket};
 ghost use Rattle.uri_pct.specs.Models.Fronts.{front};
@@ -15,7 +15,13 @@ ghost use Rattle.uri_parts.specs.Models.AuthorityParsing.{finds_other};
 ghost use Rattle.uri_parts.specs.Models.AuthorityParsing.{other_authority, finds_authority};
 ghost use Rattle.uri_parts.specs.Models.AuthorityParsing.{found_length};
 ghost use Rattle.uri_parts.specs.Models.AuthorityParsing.{found_authority};
+ghost use Rattle.std.specs.Option.{option_or};
+ghost use Rattle.std.specs.Result.{result_err};
 ghost use Rattle.uri_parts.specs.Components.{starts};
+ghost use Rattle.uri_parts.specs.Refusals.{literal, from_path};
+ghost use Rattle.uri_parts.specs.Refusals.{last_colon as last_colon_before};
+ghost use Rattle.uri_parts.specs.Models.Refusing.{left_over_told, name_told, host_told, user_told};
+ghost use Rattle.uri_parts.specs.Models.Refusing.{other_told, authority_told};
 ghost use Rattle.uri_parts.specs.Errors.{IsErrorIn};
 ghost use Rattle.uri_parts.specs.KindTables.{kind_of};
 ghost use Rattle.uri_parts.specs.Models.Literals.{parses_literal, literal_length};
@@ -69,9 +75,12 @@ fn find_name(cursor: &mut Cursor<'_>, tables: &KindTables) -> Option<usize>
 
 /// The refusal of what is left over behind an authority: a malformed octet of the path that is
 /// scanned there, or else what is next.
+#[tactic(auto, unfolding(crate::specs::Models::Refusing::left_over_told))]
 #[inline(always)]
 fn left_over(cursor: Cursor<'_>, tables: &KindTables) -> ParseError
-    ensures { IsErrorIn (cursor_text cursor.entry) result }
+    ensures error { IsErrorIn (cursor_text cursor.entry) result }
+    ensures told { Some result
+        ≡ left_over_told (kind_of tables.now) (cursor_text cursor.entry) (place_of cursor.entry) }
 {
     let mut path = cursor;
     match path.pass(&tables.path) {
@@ -81,9 +90,15 @@ fn left_over(cursor: Cursor<'_>, tables: &KindTables) -> ParseError
 }
 
 /// Where the last `:` stands from `start` to `end`, if there is one.
+#[tactic(auto, using(crate::proofs::Refusals::Colons::last_is, crate::proofs::Refusals::Colons::last_was))]
 fn last_colon(text: &str, start: usize, end: usize) -> Option<usize>
-    requires { end ≤ length text.now }
-    ensures { IfSome result (IsCharBoundary text.now) }
+    requires order { start ≤ end }
+    requires end { end ≤ length text.now }
+    ensures boundary { IfSome result (IsCharBoundary text.now) }
+    ensures last { IfSome result (λ colon.
+        (start ≤ colon) × (colon ≡ last_colon_before text.now end)) }
+    ensures none { IfNone result
+        (last_colon_before text.now end ≡ last_colon_before text.now start) }
 {
     let bytes = text.as_bytes();
     let mut i = end;
@@ -99,10 +114,15 @@ fn last_colon(text: &str, start: usize, end: usize) -> Option<usize>
 /// The refusal of what was scanned as userinfo up to `end`, where no `@` is next. Up to `start` it
 /// is a name and a port, and behind that stands the last of several `:`, or the port's first byte
 /// that is no digit.
+#[tactic(auto, using(crate::proofs::Refusals::Colons::last_below), unfolding(crate::specs::Models::Refusing::name_told))]
 #[inline(always)]
 fn name_fault(start: Cursor<'_>, end: Cursor<'_>, tables: &KindTables) -> ParseError
-    requires { cursor_text end ≡ cursor_text start }
-    ensures { IsErrorIn (cursor_text start.entry) result }
+    requires text { cursor_text end ≡ cursor_text start }
+    requires order { place_of start ≤ place_of end }
+    requires some { 0 < place_of start }
+    ensures error { IsErrorIn (cursor_text start.entry) result }
+    ensures told { Some result ≡ name_told (kind_of tables.now) (cursor_text start.entry)
+        (place_of start.entry) (place_of end.entry) }
 {
     if start.position() == end.position() {
         return left_over(end, tables);
@@ -124,6 +144,10 @@ fn pass_literal(cursor: &mut Cursor<'_>) -> Result<(), ParseError>
         ≡ place_of cursor.old + (1 + literal_length (drop 1 (rest_of cursor.old)))) }
     ensures rest { OnOk result (rest_of cursor.new
         ≡ drop (1 + literal_length (drop 1 (rest_of cursor.old))) (rest_of cursor.old)) }
+    ensures refused { result_err result
+        ≡ result_err (literal (cursor_text cursor.old) (place_of cursor.old + 1)) }
+    ensures found { OnOk result
+        (literal (cursor_text cursor.old) (place_of cursor.old + 1) ≡ Ok (place_of cursor.new)) }
     ensures err { IfErr result (IsErrorIn (cursor_text cursor.old)) }
 {
     cursor.skip(b'[');
@@ -134,7 +158,7 @@ fn pass_literal(cursor: &mut Cursor<'_>) -> Result<(), ParseError>
 
 /// Passes a host and the port behind it, if there is one, which have to end the authority. Answers
 /// where the host ends.
-#[tactic(auto, using(crate::proofs::Authorities::AuthorityCuts::behind), unfolding(crate::specs::Models::AuthorityParsing::finds_host, crate::specs::Models::AuthorityParsing::passes_host, crate::specs::Models::AuthorityParsing::host_length, crate::specs::Models::AuthorityParsing::host_end))]
+#[tactic(auto, using(crate::proofs::Authorities::AuthorityCuts::behind), unfolding(crate::specs::Models::AuthorityParsing::finds_host, crate::specs::Models::AuthorityParsing::passes_host, crate::specs::Models::AuthorityParsing::host_length, crate::specs::Models::AuthorityParsing::host_end, crate::specs::Models::Refusing::host_told, crate::specs::Models::Refusing::port_told, crate::specs::Models::Refusing::ended_told))]
 #[inline(always)]
 fn find_host(cursor: &mut Cursor<'_>, tables: &KindTables) -> Result<usize, ParseError>
     ensures accepts { is_ok result ≡ finds_host (kind_of tables.now) (rest_of cursor.old) }
@@ -143,6 +167,9 @@ fn find_host(cursor: &mut Cursor<'_>, tables: &KindTables) -> Result<usize, Pars
     ensures text { cursor_text cursor.new ≡ cursor_text cursor.old }
     ensures place { OnOk result (place_of cursor.new
         ≡ place_of cursor.old + host_length (kind_of tables.now) (rest_of cursor.old)) }
+    ensures told { let kind = kind_of tables.now in let text = cursor_text cursor.old in
+        host_told kind text (place_of cursor.old)
+        ≡ option_or (result_err result) (from_path kind text (place_of cursor.new)) }
     ensures err { IfErr result (IsErrorIn (cursor_text cursor.old)) }
 {
     if cursor.sees(b'[') {
@@ -160,9 +187,10 @@ fn find_host(cursor: &mut Cursor<'_>, tables: &KindTables) -> Result<usize, Pars
 }
 
 /// Passes userinfo, of which a name and a port were passed, and its `@`.
-#[tactic(auto, using(crate::proofs::Authorities::AuthorityCuts::behind), unfolding(crate::specs::Models::AuthorityParsing::more_user))]
+#[tactic(auto, using(crate::proofs::Authorities::AuthorityCuts::behind), unfolding(crate::specs::Models::AuthorityParsing::more_user, crate::specs::Models::Refusing::user_told))]
 #[inline(always)]
 fn pass_userinfo(cursor: &mut Cursor<'_>, tables: &KindTables) -> Result<(), ParseError>
+    requires { 0 < place_of cursor.old }
     ensures accepts { let rest = rest_of cursor.old in
         is_ok result ≡ starts at_sign (drop (more_user (kind_of tables.now) rest) rest) }
     ensures text { cursor_text cursor.new ≡ cursor_text cursor.old }
@@ -170,6 +198,9 @@ fn pass_userinfo(cursor: &mut Cursor<'_>, tables: &KindTables) -> Result<(), Par
         ≡ place_of cursor.old + (more_user (kind_of tables.now) (rest_of cursor.old) + 1)) }
     ensures rest { OnOk result (rest_of cursor.new
         ≡ drop (more_user (kind_of tables.now) (rest_of cursor.old) + 1) (rest_of cursor.old)) }
+    ensures told { let kind = kind_of tables.now in let text = cursor_text cursor.old in
+        user_told kind text (place_of cursor.old)
+        ≡ option_or (result_err result) (host_told kind text (place_of cursor.new)) }
     ensures err { IfErr result (IsErrorIn (cursor_text cursor.old)) }
 {
     let start = *cursor;
@@ -186,7 +217,7 @@ fn pass_userinfo(cursor: &mut Cursor<'_>, tables: &KindTables) -> Result<(), Par
 
 /// An authority that is more than a name and a port, of which these were passed: where it lies, and
 /// its host.
-#[tactic(auto, using(crate::proofs::Authorities::AuthorityCuts::behind), unfolding(crate::specs::Models::AuthorityParsing::finds_other, crate::specs::Models::AuthorityParsing::passes_user, crate::specs::Models::AuthorityParsing::user_length, crate::specs::Models::AuthorityParsing::host_place, crate::specs::Models::AuthorityParsing::other_authority))]
+#[tactic(auto, using(crate::proofs::Authorities::AuthorityCuts::behind), unfolding(crate::specs::Models::AuthorityParsing::finds_other, crate::specs::Models::AuthorityParsing::passes_user, crate::specs::Models::AuthorityParsing::user_length, crate::specs::Models::AuthorityParsing::host_place, crate::specs::Models::AuthorityParsing::other_authority, crate::specs::Models::Refusing::other_told))]
 #[inline(always)]
 fn find_other_authority(
     start: Cursor<'_>,
@@ -194,12 +225,18 @@ fn find_other_authority(
     tables: &KindTables,
 ) -> Result<AuthorityPositions, ParseError>
     requires text { cursor_text behind_name ≡ cursor_text start }
+    requires some { 0 < place_of start }
     requires place { place_of behind_name
         ≡ place_of start + name_length (kind_of tables.now) (rest_of start) }
     ensures accepts { is_ok result ≡ finds_other (kind_of tables.now) (rest_of start.entry) }
     ensures found { IfOk result (λ a.
         a ≡ other_authority (kind_of tables.now) (place_of start.entry) (rest_of start.entry)) }
     ensures boundary { IfOk result (λ a. IsCharBoundary (cursor_text start.entry) a.end) }
+    ensures told { let kind = kind_of tables.now in let text = cursor_text start.entry in
+        IfErr result (λ e. other_told kind text (place_of start.entry) ≡ Some e) }
+    ensures goes_on { let kind = kind_of tables.now in let text = cursor_text start.entry in
+        IfOk result (λ a. other_told kind text (place_of start.entry)
+        ≡ from_path kind text a.end) }
     ensures err { IfErr result (IsErrorIn (cursor_text start.entry)) }
 {
     let mut cursor = start;
@@ -227,10 +264,14 @@ fn find_other_of_kind<K: Kind>(
 ) -> Result<AuthorityPositions, ParseError>
     requires start { IsCharBoundary text.now start }
     requires behind_name { IsCharBoundary text.now behind_name }
+    requires some { 0 < start }
     requires place { behind_name ≡ start + name_length K.kind (drop start text.now) }
     ensures accepts { is_ok result ≡ finds_other K.kind (drop start text.now) }
     ensures found { IfOk result (λ a. a ≡ other_authority K.kind start (drop start text.now)) }
     ensures boundary { IfOk result (λ a. IsCharBoundary text.now a.end) }
+    ensures told { IfErr result (λ e. other_told K.kind text.now start ≡ Some e) }
+    ensures goes_on { IfOk result (λ a.
+        other_told K.kind text.now start ≡ from_path K.kind text.now a.end) }
     ensures err { IfErr result (IsErrorIn text.now) }
 {
     let behind_name = Cursor::at(text, behind_name);
@@ -238,13 +279,14 @@ fn find_other_of_kind<K: Kind>(
 }
 
 /// An authority: where it lies, and its host.
-#[tactic(auto, unfolding(crate::specs::Models::AuthorityParsing::finds_authority, crate::specs::Models::AuthorityParsing::found_length, crate::specs::Models::AuthorityParsing::found_authority, crate::specs::Models::AuthorityParsing::other_length, crate::specs::Models::AuthorityParsing::other_authority))]
+#[tactic(auto, unfolding(crate::specs::Models::AuthorityParsing::finds_authority, crate::specs::Models::AuthorityParsing::found_length, crate::specs::Models::AuthorityParsing::found_authority, crate::specs::Models::AuthorityParsing::other_length, crate::specs::Models::AuthorityParsing::other_authority, crate::specs::Models::Refusing::authority_told))]
 #[inline(always)]
 pub(crate) fn find_authority<K: Kind>(
     cursor: &mut Cursor<'_>,
     tables: &KindTables,
 ) -> Result<AuthorityPositions, ParseError>
-    requires { kind_of tables.now ≡ K.kind }
+    requires kind { kind_of tables.now ≡ K.kind }
+    requires some { 0 < place_of cursor.old }
     ensures accepts { is_ok result ≡ finds_authority (kind_of tables.now) (rest_of cursor.old) }
     ensures found { IfOk result (λ a.
         a ≡ found_authority (kind_of tables.now) (place_of cursor.old) (rest_of cursor.old)) }
@@ -253,6 +295,9 @@ pub(crate) fn find_authority<K: Kind>(
         ≡ place_of cursor.old + found_length (kind_of tables.now) (rest_of cursor.old)) }
     ensures rest { OnOk result (rest_of cursor.new
         ≡ drop (found_length (kind_of tables.now) (rest_of cursor.old)) (rest_of cursor.old)) }
+    ensures refused { let kind = kind_of tables.now in let text = cursor_text cursor.old in
+        authority_told kind text (place_of cursor.old)
+        ≡ option_or (result_err result) (from_path kind text (place_of cursor.new)) }
     ensures err { IfErr result (IsErrorIn (cursor_text cursor.old)) }
 {
     let start = cursor.position();

@@ -4,6 +4,7 @@ ghost use Rattle.std.specs.Prelude.{is_some, option_map, true};
 ghost use Rattle.std.specs.Str.{IsUtf8};
 ghost use Rattle.uri_parts.specs.Components.{components};
 ghost use Rattle.uri_parts.specs.Errors.{IsErrorIn};
+ghost use Rattle.uri_parts.specs.Refusals.{refusal};
 ghost use Rattle.uri_parts.specs.Fragments.{IsWithFragment};
 ghost use Rattle.uri_parts.specs.Grammar.{IsOfKind};
 ghost use Rattle.uri_parts.specs.Positions.{AreAt};
@@ -83,6 +84,8 @@ impl<K: Kind, T: AsStr> Core<K, T> {
         ensures accepts { IsOk result ↔ IsOfKind K.kind (T.text text) }
         ensures text { IfOk result (λ core. core_text core ≡ T.text text) }
         ensures err { IfErr result (λ refused. IsErrorIn (T.text text) refused.0) }
+        ensures refused { IfErr result (λ refused.
+            refusal K.kind (T.text text) ≡ Some refused.0) }
         ensures back { IfErr result (λ refused. T.text refused.1 ≡ T.text text) }
     {
         match parse::<K>(text.as_str()) {

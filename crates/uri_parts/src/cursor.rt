@@ -1,6 +1,7 @@
 //! A place in a text.
 ghost use Rattle.std.specs.Prelude.{◌≡◌, ◌<◌, ◌+◌, ◌==◌, not, drop, codes, OnOk};
 ghost use Rattle.std.specs.Prelude.{IfErr, is_ok, if◌then◌else◌};
+ghost use Rattle.std.specs.Result.{result_err};
 ghost use Rattle.std.specs.Str.{IsCharBoundary};
 
 use crate::error::{ParseError, ParseErrorKind};
@@ -35,6 +36,7 @@ impl<'a> Cursor<'a> {
     ghost use Rattle.uri_parts.specs.Models.AuthorityParsing.{begins_any};
     ghost use Rattle.uri_parts.specs.Components.{starts, has_authority};
     ghost use Rattle.uri_parts.specs.Errors.{IsErrorIn};
+    ghost use Rattle.uri_parts.specs.Refusals.{read, unexpected};
     ghost use Rattle.uri_parts.specs.Models.Parsing.{is_end, is_stray};
     ghost use Rattle.uri_parts.specs.Models.Cursors.{rest_of, cursor_text, place_of};
 
@@ -111,6 +113,8 @@ impl<'a> Cursor<'a> {
             (rest_of self.new ≡ after (set_of table.now) (rest_of self.old)) }
         ensures stray { is_ok result
             ≡ not (is_stray (set_of table.now) (after (set_of table.now) (rest_of self.old))) }
+        ensures refused { result_err result
+            ≡ result_err (read (cursor_text self.old) (set_of table.now) (place_of self.old)) }
         ensures err { IfErr result (IsErrorIn (cursor_text self.old)) }
     {
         let end = table.scan(self.text, self.position);
@@ -186,7 +190,8 @@ impl<'a> Cursor<'a> {
     /// The refusal of what is next.
     #[inline]
     pub fn unexpected(&self) -> ParseError
-        ensures { IsErrorIn (cursor_text self.now) result }
+        ensures error { IsErrorIn (cursor_text self.now) result }
+        ensures told { result ≡ unexpected (place_of self.now) }
     {
         ParseError::new(self.position, ParseErrorKind::UnexpectedChar)
     }

@@ -54,6 +54,7 @@ impl ParseError {
     pub fn new(index: usize, kind: ParseErrorKind) -> Self
         ensures index { index_of result ≡ index }
         ensures kind { fault_of result ≡ kind }
+        ensures both { result ≡ record { index = index; kind = kind } }
     {
         ParseError { index, kind }
     }

@@ -12,8 +12,14 @@ ghost use Rattle.uri_parts.specs.Authority.{authority_parts, is_authority_for};
 ghost use Rattle.uri_parts.specs.Components.{Components, IsSplitOf, components, recompose};
 ghost use Rattle.uri_parts.specs.Hosts.{HostKind, IsHost, IsIpv4Text, IsIpv6Text, host_kind};
 ghost use Rattle.uri_parts.specs.Hosts.{is_host};
+ghost use Rattle.std.specs.Prelude.{map, None};
+ghost use Rattle.uri_parts.specs.Grammar.{uri, uri_ref, IsOfKind};
+ghost use Rattle.uri_parts.specs.RefusalRows.{uri_ref_rows, uri_rows};
+ghost use Rattle.uri_parts.specs.Refusals.{refusal};
 
+use crate::kind::Kind;
 use crate::net::{IpAddr, Ipv4Addr, Ipv6Addr};
+use crate::parse::parse;
 use std::cmp::Ordering;
 
 /// The components of a text are a split of it by RFC 3986, appendix B.
@@ -173,3 +179,19 @@ pub fn authority_test_is_the_grammar()
         → (is_authority_for users names text ≡ true
         ↔ IsAuthorityFor users names text (authority_parts text)) }
 {}
+
+/// What is told of some texts.
+#[doc(hidden)]
+pub fn some_texts_are_told()
+    ensures references { map (λ row. refusal uri_ref row.0) uri_ref_rows
+        ≡ map (λ row. row.1) uri_ref_rows }
+    ensures uris { map (λ row. refusal uri row.0) uri_rows ≡ map (λ row. row.1) uri_rows }
+{}
+
+/// There is a refusal exactly if the text is none of the kind.
+#[doc(hidden)]
+pub fn refused_exactly_if_none<K: Kind>(text: &str)
+    ensures { refusal K.kind text.now ≡ None ↔ IsOfKind K.kind text.now }
+{
+    let _parsed = parse::<K>(text);
+}

@@ -1,12 +1,21 @@
 //! Addresses in brackets (RFC 3986, section 3.2.2).
-ghost use Rattle.std.specs.Prelude.{◌≡◌, ◌≤◌, ◌<◌, ◌+◌, IsTrue, IfSome, IfOk, IfErr, is_ok};
-ghost use Rattle.std.specs.Prelude.{drop, ◌||◌};
+ghost use Rattle.std.specs.Prelude.{◌≡◌, ◌≤◌, ◌<◌, ◌+◌, length, IsTrue, IfSome, IfOk, IfErr, is_ok};
+ghost use Rattle.std.specs.Prelude.{drop, ◌||◌, ◌&&◌, not, nat_lt, Ok, Err, true, false};
+ghost use Rattle.uri_parts.specs.Models.Parsing.{is_end};
 ghost use Rattle.std.specs.Str.{IsCharBoundary};
 ghost use Rattle.uri_pct.specs.Tables.{set_of};
 ghost use Rattle.uri_parts.specs.Components.{starts};
 ghost use Rattle.uri_parts.specs.Models.Literals.{IsLiteralRefusal, parses_literal, literal_length};
 ghost use Rattle.uri_parts.specs.Models.Literals.{IsMissing, parses_marked, length_to_mark};
 ghost use Rattle.uri_parts.specs.Models.Literals.{parses_future, future_length};
+ghost use Rattle.uri_pct.specs.Delimiters.{full_stop, right_bracket};
+ghost use Rattle.uri_pct.specs.Sets.{hexdig_set, ipv_future_set};
+ghost use Rattle.uri_parts.specs.Refusals.{digits_end as digits_end_at, octet_end as octet_end_at};
+ghost use Rattle.uri_parts.specs.Refusals.{ipv4_end as ipv4_end_at, literal, read_to};
+ghost use Rattle.uri_parts.specs.Refusals.{groups_from, behind_elision};
+ghost use Rattle.uri_parts.specs.Refusals.{ipv6_end as ipv6_end_at, is_no_ipv6 as is_no_ipv6_at};
+ghost use Rattle.uri_parts.specs.Models.LiteralGroups.{groups_of, IsAtBoundary};
+ghost use Rattle.std.specs.Prelude.{if◌then◌else◌};
 
 use crate::address_parser::after_ipv6;
 use crate::error::{ParseError, ParseErrorKind};
@@ -32,12 +41,14 @@ fn is_lettered(text: &str, index: usize) -> bool
 }
 
 /// Where the digits end that stand at `start`, of which at most so many are passed.
+#[tactic(auto, using(crate::proofs::Refusals::Digits::no_digit, crate::proofs::Refusals::Digits::no_more, crate::proofs::Refusals::Digits::no_text))]
 fn digits_end(text: &str, start: usize, radix: u32, most: usize) -> usize
     requires boundary { IsCharBoundary text.now start }
     requires low { 2 ≤ radix }
     requires high { radix ≤ 36 }
     ensures boundary { IsCharBoundary text.now result }
     ensures start { start ≤ result }
+    ensures exact { result ≡ digits_end_at text.now radix most start }
 {
     let bytes = text.as_bytes();
     let mut end = start;
@@ -49,9 +60,11 @@ fn digits_end(text: &str, start: usize, radix: u32, most: usize) -> usize
 
 /// Where the decimal number of at most 255 ends that stands at `start`, or `None` if there is none.
 /// A `0` is a number by itself.
+#[tactic(auto, unfolding(crate::specs::Refusals::octet_end))]
 fn octet_end(text: &str, start: usize) -> Option<usize>
     requires { IsCharBoundary text.now start }
-    ensures { IfSome result (IsCharBoundary text.now) }
+    ensures boundary { IfSome result (IsCharBoundary text.now) }
+    ensures exact { result ≡ octet_end_at text.now start }
 {
     if sees(text, start, b'0') {
         return Some(start + 1);
@@ -62,12 +75,14 @@ fn octet_end(text: &str, start: usize) -> Option<usize>
 }
 
 /// Where the IPv4 address ends that stands at `start`, or `None` if there is none.
+#[tactic(auto, using(crate::proofs::Refusals::Digits::octets_none, crate::proofs::Refusals::Digits::octets_dotted, crate::proofs::Refusals::Digits::octets_undotted))]
 fn ipv4_end(text: &str, start: usize) -> Option<usize>
     requires { IsCharBoundary text.now start }
-    ensures { IfSome result (IsCharBoundary text.now) }
+    ensures boundary { IfSome result (IsCharBoundary text.now) }
+    ensures exact { result ≡ ipv4_end_at text.now start }
 {
     let mut end = octet_end(text, start)?;
-    for _ in 0..3 {
+    for dots in 0..3u32 {
         if !sees(text, end, b'.') {
             return None;
         }
@@ -76,67 +91,148 @@ fn ipv4_end(text: &str, start: usize) -> Option<usize>
     Some(end)
 }
 
-/// Where the longest front ends that is parsed of an IPv6 address that stands at `start`, or `None`
-/// if that is none.
-///
-/// Hexadecimal digits are passed in groups of up to four, each with the `:` before it. Up to three
-/// of them at the end of the text are passed and make no group. The scan ends behind eight groups,
-/// behind an IPv4 address, and where neither `:` nor a digit is next.
-fn ipv6_end(text: &str, start: usize) -> Option<usize>
+/// How the groups of an IPv6 address end, and where: with how many more there might have been.
+#[derive(Clone, Copy)]
+enum GroupsEnd {
+    /// Nothing goes on.
+    End(usize, usize),
+    /// A `::` ends there.
+    Elision(usize, usize),
+    Malformed,
+}
+
+/// Passes a `:`, if it is next.
+#[inline]
+fn behind_colon(text: &str, start: usize) -> usize
     requires { IsCharBoundary text.now start }
-    ensures { IfSome result (IsCharBoundary text.now) }
+    ensures boundary { IsCharBoundary text.now result }
+    ensures exact { result ≡ (if starts 58 (drop start text.now) then start + 1 else start) }
+{
+    if sees(text, start, b':') {
+        start + 1
+    } else {
+        start
+    }
+}
+
+/// Whether one to three digits were passed, at the end of the text.
+#[tactic(auto, using(crate::proofs::Parsing::NextBytes::is_end_at))]
+fn ends_text(text: &str, first: usize, last: usize) -> bool
+    requires order { first ≤ last }
+    requires within { last ≤ length text.now }
+    ensures { result ≡ (nat_lt last (first + 4) && is_end (drop last text.now)) }
+{
+    last - first < 4 && last == text.len()
+}
+
+/// Whether one to three digits were passed, and `.` is next.
+fn is_dotted(text: &str, first: usize, last: usize) -> bool
+    requires { first ≤ last }
+    ensures { result ≡ (nat_lt last (first + 4) && starts full_stop (drop last text.now)) }
+{
+    last - first < 4 && sees(text, last, b'.')
+}
+
+/// Each group has a `:` before it but the first.
+fn is_amiss(has_colon: bool, is_first: bool) -> bool
+    ensures { result ≡ (has_colon && is_first || not has_colon && not is_first) }
+{
+    has_colon == is_first
+}
+
+/// Reads groups of one to four hexadecimal digits, at most so many, each with a `:` before it but
+/// the first. An IPv4 address is two of them, and the last. Up to three digits at the end of the
+/// text are passed and make no group.
+fn groups_end(text: &str, start: usize, room: usize) -> GroupsEnd
+    requires { IsCharBoundary text.now start }
+    ensures boundary { IsAtBoundary text.now result }
+    ensures exact { groups_of result ≡ groups_from text.now room true start }
 {
     let mut end = start;
-    let mut groups = 0;
-    // How many groups stood before the `::`.
-    let mut elision = None;
-    while groups < 8 {
+    for counted in 0..room {
         let has_colon = sees(text, end, b':');
-        let first = if has_colon { end + 1 } else { end };
+        let first = behind_colon(text, end);
         let last = digits_end(text, first, 16, 4);
-        let is_behind_elision = elision == Some(groups);
         if last == first {
             if !has_colon {
-                break;
+                return GroupsEnd::End(room - counted, end);
             }
-            if elision.is_some() || !sees(text, first, b':') {
-                return None;
+            if sees(text, first, b':') {
+                return GroupsEnd::Elision(room - counted, first + 1);
             }
-            elision = Some(groups);
-            end = first + 1;
-        } else if last - first < 4 && last == text.len() {
-            end = last;
-            break;
-        } else if last - first < 4 && sees(text, last, b'.') {
-            if groups > 6 || has_colon == is_behind_elision {
-                return None;
-            }
-            end = ipv4_end(text, first)?;
-            groups += 2;
-            break;
-        } else {
-            if has_colon == (groups == 0 || is_behind_elision) {
-                return None;
-            }
-            end = last;
-            groups += 1;
+            return GroupsEnd::Malformed;
         }
+        if ends_text(text, first, last) {
+            return GroupsEnd::End(room - counted, last);
+        }
+        if is_amiss(has_colon, counted == 0) {
+            return GroupsEnd::Malformed;
+        }
+        if is_dotted(text, first, last) {
+            if room - counted == 1 {
+                return GroupsEnd::Malformed;
+            }
+            return match ipv4_end(text, first) {
+                Some(end) => GroupsEnd::End(room - counted - 2, end),
+                None => GroupsEnd::Malformed,
+            };
+        }
+        end = last;
     }
-    if (groups == 8) == elision.is_some() {
-        None
-    } else {
-        Some(end)
+    GroupsEnd::End(0, end)
+}
+
+/// Where the groups of an IPv6 address end that stand behind its `::`, or `None` if there are too
+/// many of them.
+fn elided_end(text: &str, start: usize, room: usize) -> Option<usize>
+    requires { IsCharBoundary text.now start }
+    ensures boundary { IfSome result (IsCharBoundary text.now) }
+    ensures exact { result ≡ behind_elision text.now (groups_from text.now room true start) }
+{
+    match groups_end(text, start, room) {
+        GroupsEnd::End(room, end) if room > 0 => Some(end),
+        _ => None,
     }
+}
+
+/// Where the IPv6 address ends that stands at `start`, so far as it can be read, or `None` if that
+/// is none.
+#[tactic(auto, unfolding(crate::specs::Refusals::ipv6_end))]
+fn ipv6_end(text: &str, start: usize) -> Option<usize>
+    requires { IsCharBoundary text.now start }
+    ensures boundary { IfSome result (IsCharBoundary text.now) }
+    ensures exact { result ≡ ipv6_end_at text.now start }
+{
+    match groups_end(text, start, 8) {
+        GroupsEnd::End(0, end) => Some(end),
+        GroupsEnd::Elision(room, end) => elided_end(text, end, room),
+        _ => None,
+    }
+}
+
+/// Neither `:` nor a group is next.
+#[tactic(auto, unfolding(crate::specs::Refusals::is_no_ipv6))]
+fn is_no_ipv6(text: &str, start: usize) -> bool
+    requires { IsCharBoundary text.now start }
+    ensures { result ≡ is_no_ipv6_at text.now start }
+{
+    if sees(text, start, b':') {
+        return false;
+    }
+    let last = digits_end(text, start, 16, 4);
+    last == start || is_dotted(text, start, last)
 }
 
 /// Why what stands at `start`, and begins with no `v`, is no address with a `]` behind it.
 fn refusal(text: &str, start: usize) -> ParseError
-    requires { IsCharBoundary text.now start }
-    ensures { IsLiteralRefusal text.now start result }
+    requires boundary { IsCharBoundary text.now start }
+    requires refused { parses_literal (drop start text.now) ≡ false }
+    requires unlettered { (starts 118 (drop start text.now) || starts 86 (drop start text.now))
+        ≡ false }
+    ensures error { IsLiteralRefusal text.now start result }
+    ensures exact { literal text.now start ≡ Err result }
 {
-    let last = digits_end(text, start, 16, 4);
-    let is_dotted = last - start < 4 && sees(text, last, b'.');
-    if !sees(text, start, b':') && (last == start || is_dotted) {
+    if is_no_ipv6(text, start) {
         return ParseError::new(start, ParseErrorKind::UnexpectedChar);
     }
     match ipv6_end(text, start) {
@@ -156,6 +252,7 @@ fn marked_end(text: &str, start: usize, table: &Table, mark: u8) -> Result<usize
         end ≡ start + length_to_mark (set_of table.now) (drop start text.now)) }
     ensures boundary { IfOk result (λ end. IsCharBoundary text.now end) }
     ensures err { IfErr result (IsMissing text.now) }
+    ensures exact { result ≡ read_to text.now (set_of table.now) mark (λ end. Ok end) start }
 {
     let end = table.scan(text, start);
     if start < end && sees(text, end, mark) {
@@ -176,6 +273,8 @@ fn future_end(text: &str, start: usize) -> Result<usize, ParseError>
     ensures end { IfOk result (λ end. end ≡ start + future_length (drop start text.now)) }
     ensures boundary { IfOk result (λ end. IsCharBoundary text.now end) }
     ensures err { IfErr result (IsMissing text.now) }
+    ensures exact { result ≡ read_to text.now hexdig_set full_stop
+        (read_to text.now ipv_future_set right_bracket (λ end. Ok end)) start }
 {
     let address = marked_end(text, start, &HEXDIG, b'.')?;
     marked_end(text, address, &IPV_FUTURE, b']')
@@ -189,6 +288,7 @@ pub(crate) fn literal_end(text: &str, start: usize) -> Result<usize, ParseError>
     ensures end { IfOk result (λ end. end ≡ start + literal_length (drop start text.now)) }
     ensures boundary { IfOk result (λ end. IsCharBoundary text.now end) }
     ensures err { IfErr result (IsLiteralRefusal text.now start) }
+    ensures exact { result ≡ literal text.now start }
 {
     if is_lettered(text, start) {
         return future_end(text, start + 1);

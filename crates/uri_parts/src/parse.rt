@@ -1,5 +1,11 @@
 //! The parser of the four kinds.
-ghost use Rattle.std.specs.Prelude.{◌≡◌, ◌↔◌, ◌&&◌, IfErr, IfOk, IsOk, is_ok, Some, None};
+ghost use Rattle.std.specs.Prelude.{◌≡◌, ◌↔◌, ◌&&◌, ◌<◌, IfErr, IfOk, IsOk, is_ok, Some, None};
+ghost use Rattle.std.specs.Option.{option_or};
+ghost use Rattle.std.specs.Result.{result_err};
+ghost use Rattle.uri_parts.specs.Refusals.{from_fragment, from_query, from_path, from_relative};
+ghost use Rattle.uri_parts.specs.Refusals.{refusal};
+ghost use Rattle.uri_parts.specs.Models.Refusing.{authority_told, hier_told, schemeless_told};
+ghost use Rattle.uri_parts.specs.Models.Refusing.{parsed_told};
 ghost use Rattle.uri_parts.specs.Errors.{IsErrorIn};
 ghost use Rattle.uri_parts.specs.Grammar.{IsOfKind};
 ghost use Rattle.uri_parts.specs.KindTables.{kind_of, segment_nz_nc_of};
@@ -21,10 +27,12 @@ use crate::positions::{AuthorityPositions, Positions};
 use uri_pct::table::SCHEME;
 
 /// A fragment if there is one, and then the end.
-#[tactic(auto, unfolding(crate::specs::Models::Parsing::parses_fragment))]
+#[tactic(auto, unfolding(crate::specs::Models::Parsing::parses_fragment, crate::specs::Refusals::from_fragment, crate::specs::Refusals::from_end))]
 #[inline(always)]
 fn parse_fragment(cursor: &mut Cursor<'_>, tables: &KindTables) -> Result<(), ParseError>
     ensures accepts { is_ok result ≡ parses_fragment (kind_of tables.now) (rest_of cursor.old) }
+    ensures refused { result_err result
+        ≡ from_fragment (kind_of tables.now) (cursor_text cursor.old) (place_of cursor.old) }
     ensures err { IfErr result (IsErrorIn (cursor_text cursor.old)) }
 {
     if cursor.skip(b'#') {
@@ -37,12 +45,14 @@ fn parse_fragment(cursor: &mut Cursor<'_>, tables: &KindTables) -> Result<(), Pa
 }
 
 /// A query if there is one, and what follows it. Answers where the query ends.
-#[tactic(auto, unfolding(crate::specs::Models::Parsing::parses_end, crate::specs::Models::Parsing::query_end_at))]
+#[tactic(auto, unfolding(crate::specs::Models::Parsing::parses_end, crate::specs::Models::Parsing::query_end_at, crate::specs::Refusals::from_query))]
 #[inline(always)]
 fn parse_end(cursor: &mut Cursor<'_>, tables: &KindTables) -> Result<Option<usize>, ParseError>
     ensures accepts { is_ok result ≡ parses_end (kind_of tables.now) (rest_of cursor.old) }
     ensures place { IfOk result (λ end.
         end ≡ query_end_at (kind_of tables.now) (place_of cursor.old) (rest_of cursor.old)) }
+    ensures refused { result_err result
+        ≡ from_query (kind_of tables.now) (cursor_text cursor.old) (place_of cursor.old) }
     ensures err { IfErr result (IsErrorIn (cursor_text cursor.old)) }
 {
     let mut query_end = None;
@@ -63,7 +73,7 @@ struct BeforePath {
 }
 
 /// The rest of a path, and what follows it.
-#[tactic(auto, unfolding(crate::specs::Models::Parsing::parses_path, crate::specs::Models::Parsing::path_positions))]
+#[tactic(auto, unfolding(crate::specs::Models::Parsing::parses_path, crate::specs::Models::Parsing::path_positions, crate::specs::Refusals::from_path))]
 #[inline(always)]
 fn parse_path(
     cursor: &mut Cursor<'_>,
@@ -72,6 +82,8 @@ fn parse_path(
 ) -> Result<Positions, ParseError>
     ensures accepts { is_ok result ≡ parses_path (kind_of tables.now) (rest_of cursor.old) }
     ensures places { IfOk result (λ p. p ≡ positions_from (kind_of tables.now) before cursor.old) }
+    ensures refused { result_err result
+        ≡ from_path (kind_of tables.now) (cursor_text cursor.old) (place_of cursor.old) }
     ensures err { IfErr result (IsErrorIn (cursor_text cursor.old)) }
 {
     cursor.pass(&tables.path)?;
@@ -94,13 +106,17 @@ fn pass_authority<K: Kind>(
     tables: &KindTables,
     scheme_end: Option<usize>,
 ) -> Result<BeforePath, ParseError>
-    requires { kind_of tables.now ≡ K.kind }
+    requires kind { kind_of tables.now ≡ K.kind }
+    requires some { 0 < place_of cursor.old }
     ensures accepts { parses_authority (kind_of tables.now) (rest_of cursor.old)
         ≡ (is_ok result && parses_path (kind_of tables.now) (rest_of cursor.new)) }
     ensures places { let kind = kind_of tables.now in IfOk result (λ b.
         authority_positions kind scheme_end (place_of cursor.old) (rest_of cursor.old)
         ≡ positions_from kind b cursor.new) }
     ensures text { cursor_text cursor.new ≡ cursor_text cursor.old }
+    ensures refused { let kind = kind_of tables.now in let text = cursor_text cursor.old in
+        authority_told kind text (place_of cursor.old)
+        ≡ option_or (result_err result) (from_path kind text (place_of cursor.new)) }
     ensures err { IfErr result (IsErrorIn (cursor_text cursor.old)) }
 {
     let authority = find_authority::<K>(cursor, tables)?;
@@ -112,7 +128,7 @@ fn pass_authority<K: Kind>(
 }
 
 /// What follows a scheme, before a path.
-#[tactic(auto, unfolding(crate::specs::Models::Parsing::parses_hier, crate::specs::Models::Parsing::hier_positions))]
+#[tactic(auto, unfolding(crate::specs::Models::Parsing::parses_hier, crate::specs::Models::Parsing::hier_positions, crate::specs::Models::Refusing::hier_told))]
 #[inline(always)]
 fn pass_hier<K: Kind>(
     cursor: &mut Cursor<'_>,
@@ -126,6 +142,9 @@ fn pass_hier<K: Kind>(
         hier_positions kind (Some scheme_end) (place_of cursor.old) (rest_of cursor.old)
         ≡ positions_from kind b cursor.new) }
     ensures text { cursor_text cursor.new ≡ cursor_text cursor.old }
+    ensures refused { let kind = kind_of tables.now in let text = cursor_text cursor.old in
+        hier_told kind text (place_of cursor.old)
+        ≡ option_or (result_err result) (from_path kind text (place_of cursor.new)) }
     ensures err { IfErr result (IsErrorIn (cursor_text cursor.old)) }
 {
     if cursor.skip_slashes() {
@@ -140,7 +159,7 @@ fn pass_hier<K: Kind>(
 }
 
 /// A path that begins the text, so far as its first segment is scanned with no colon.
-#[tactic(auto, unfolding(crate::specs::Models::Parsing::parses_relative, crate::specs::Models::Parsing::relative_positions))]
+#[tactic(auto, unfolding(crate::specs::Models::Parsing::parses_relative, crate::specs::Models::Parsing::relative_positions, crate::specs::Refusals::from_relative))]
 #[inline(always)]
 fn pass_relative(cursor: &mut Cursor<'_>, tables: &KindTables) -> Result<BeforePath, ParseError>
     ensures accepts { let segment = segment_nz_nc_of tables.now in
@@ -150,6 +169,9 @@ fn pass_relative(cursor: &mut Cursor<'_>, tables: &KindTables) -> Result<BeforeP
         relative_positions segment (kind_of tables.now) (place_of cursor.old) (rest_of cursor.old)
         ≡ positions_from (kind_of tables.now) b cursor.new) }
     ensures text { cursor_text cursor.new ≡ cursor_text cursor.old }
+    ensures refused { let kind = kind_of tables.now in let text = cursor_text cursor.old in
+        from_relative kind text (segment_nz_nc_of tables.now) (place_of cursor.old)
+        ≡ option_or (result_err result) (from_path kind text (place_of cursor.new)) }
     ensures err { IfErr result (IsErrorIn (cursor_text cursor.old)) }
 {
     cursor.pass(&tables.segment_nz_nc)?;
@@ -165,7 +187,7 @@ fn pass_relative(cursor: &mut Cursor<'_>, tables: &KindTables) -> Result<BeforeP
 
 /// What stands before a path in a text that has no scheme, behind the characters that might have
 /// been one.
-#[tactic(auto, unfolding(crate::specs::Models::Parsing::parses_schemeless, crate::specs::Models::Parsing::schemeless_positions))]
+#[tactic(auto, unfolding(crate::specs::Models::Parsing::parses_schemeless, crate::specs::Models::Parsing::schemeless_positions, crate::specs::Models::Refusing::schemeless_told))]
 #[inline(always)]
 fn pass_schemeless<K: Kind>(
     cursor: &mut Cursor<'_>,
@@ -180,6 +202,9 @@ fn pass_schemeless<K: Kind>(
         schemeless_positions segment kind (place_of cursor.old) (rest_of cursor.old)
         ≡ positions_from kind b cursor.new) }
     ensures text { cursor_text cursor.new ≡ cursor_text cursor.old }
+    ensures refused { let kind = kind_of tables.now in let text = cursor_text cursor.old in
+        schemeless_told (segment_nz_nc_of tables.now) kind text (place_of cursor.old)
+        ≡ option_or (result_err result) (from_path kind text (place_of cursor.new)) }
     ensures err { IfErr result (IsErrorIn (cursor_text cursor.old)) }
 {
     if cursor.position() == 0 && cursor.skip_slashes() {
@@ -190,7 +215,7 @@ fn pass_schemeless<K: Kind>(
 }
 
 /// What stands before a path, from the beginning of the text on.
-#[tactic(auto, using(uri_pct::proofs::TableSets::Constants::scheme_table), unfolding(crate::specs::Models::Parsing::parses, crate::specs::Models::Parsing::parsed_positions))]
+#[tactic(auto, using(uri_pct::proofs::TableSets::Constants::scheme_table), unfolding(crate::specs::Models::Parsing::parses, crate::specs::Models::Parsing::parsed_positions, crate::specs::Models::Refusing::parsed_told))]
 #[inline(always)]
 fn pass_front<K: Kind>(
     cursor: &mut Cursor<'_>,
@@ -205,6 +230,9 @@ fn pass_front<K: Kind>(
         parsed_positions (segment_nz_nc_of tables.now) kind (cursor_text cursor.old)
         ≡ positions_from kind b cursor.new) }
     ensures text { cursor_text cursor.new ≡ cursor_text cursor.old }
+    ensures refused { let kind = kind_of tables.now in let text = cursor_text cursor.old in
+        parsed_told (segment_nz_nc_of tables.now) kind text
+        ≡ option_or (result_err result) (from_path kind text (place_of cursor.new)) }
     ensures err { IfErr result (IsErrorIn (cursor_text cursor.old)) }
 {
     let not_a_letter = cursor.unexpected();
@@ -231,6 +259,8 @@ fn parse_text<K: Kind>(tables: &KindTables, text: &str) -> Result<Positions, Par
         ≡ parses (segment_nz_nc_of tables.now) (kind_of tables.now) text.now }
     ensures places { IfOk result (λ p.
         p ≡ parsed_positions (segment_nz_nc_of tables.now) (kind_of tables.now) text.now) }
+    ensures refused { result_err result
+        ≡ parsed_told (segment_nz_nc_of tables.now) (kind_of tables.now) text.now }
     ensures err { IfErr result (IsErrorIn text.now) }
 {
     let mut cursor = Cursor::new(text);
@@ -243,6 +273,7 @@ fn parse_text<K: Kind>(tables: &KindTables, text: &str) -> Result<Positions, Par
 pub fn parse<K: Kind>(text: &str) -> Result<Positions, ParseError>
     ensures accepts { IsOk result ↔ IsOfKind K.kind text.now }
     ensures positions { IfOk result (AreAt text.now) }
+    ensures refused { result_err result ≡ refusal K.kind text.now }
     ensures err { IfErr result (IsErrorIn text.now) }
 {
     parse_text::<K>(&K::tables(), text)

@@ -4,6 +4,7 @@ ghost use Rattle.uri_pct.specs.EncodedTexts.{text_of};
 ghost use Rattle.uri_parts.specs.AuthorityTexts.{authority_text};
 ghost use Rattle.uri_parts.specs.Components.{components};
 ghost use Rattle.uri_parts.specs.Errors.{IsErrorIn};
+ghost use Rattle.uri_parts.specs.Refusals.{refusal};
 ghost use Rattle.uri_parts.specs.Fragments.{IsWithFragment};
 ghost use Rattle.uri_parts.specs.Grammar.{IsOfKind, iri};
 ghost use Rattle.uri_parts.specs.SchemePorts.{default_port};
@@ -37,6 +38,7 @@ impl<'a> Iri<&'a str> {
         ensures accepts { IsOk result ↔ IsOfKind iri text.now }
         ensures text { IfOk result (λ value. iri_text value ≡ text.now) }
         ensures err { IfErr result (IsErrorIn text.now) }
+        ensures refused { IfErr result (λ e. refusal iri text.now ≡ Some e) }
     {
         match Core::parse(text) {
             Ok(core) => Ok(Iri { core }),

@@ -5,6 +5,7 @@ ghost use Rattle.uri_pct.specs.EncodedTexts.{text_of};
 ghost use Rattle.uri_parts.specs.AuthorityTexts.{authority_text};
 ghost use Rattle.uri_parts.specs.Components.{components};
 ghost use Rattle.uri_parts.specs.Errors.{IsErrorIn};
+ghost use Rattle.uri_parts.specs.Refusals.{refusal};
 ghost use Rattle.uri_parts.specs.Fragments.{IsWithFragment};
 ghost use Rattle.uri_parts.specs.Grammar.{IsOfKind, iri};
 ghost use Rattle.uri_parts.specs.SchemePorts.{default_port};
@@ -52,6 +53,8 @@ impl Iri<String> {
         ensures accepts { IsOk result ↔ IsOfKind iri (string_bytes text) }
         ensures text { IfOk result (λ value. iri_text value ≡ string_bytes text) }
         ensures err { IfErr result (λ refused. IsErrorIn (string_bytes text) refused.0) }
+        ensures refused { IfErr result (λ refused.
+            refusal iri (string_bytes text) ≡ Some refused.0) }
         ensures back { IfErr result (λ refused. string_bytes refused.1 ≡ string_bytes text) }
     {
         match Core::parse(text) {

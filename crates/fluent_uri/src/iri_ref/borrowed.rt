@@ -4,6 +4,8 @@ ghost use Rattle.uri_pct.specs.EncodedTexts.{text_of};
 ghost use Rattle.uri_parts.specs.AuthorityTexts.{authority_text};
 ghost use Rattle.uri_parts.specs.Components.{components};
 ghost use Rattle.uri_parts.specs.Errors.{IsErrorIn};
+ghost use Rattle.uri_parts.specs.Refusals.{refusal};
+ghost use Rattle.std.specs.Prelude.{Some};
 ghost use Rattle.uri_parts.specs.Fragments.{IsWithFragment};
 ghost use Rattle.uri_parts.specs.Grammar.{IsOfKind, iri, iri_ref};
 ghost use Rattle.uri_parts.specs.SchemePorts.{default_port};
@@ -44,6 +46,7 @@ impl<'a> IriRef<&'a str> {
         ensures accepts { IsOk result ↔ IsOfKind iri_ref text.now }
         ensures text { IfOk result (λ value. iri_ref_text value ≡ text.now) }
         ensures err { IfErr result (IsErrorIn text.now) }
+        ensures refused { IfErr result (λ e. refusal iri_ref text.now ≡ Some e) }
     {
         match Core::parse(text) {
             Ok(core) => Ok(IriRef { core }),

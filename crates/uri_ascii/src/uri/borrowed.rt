@@ -4,6 +4,7 @@ ghost use Rattle.uri_pct.specs.EncodedTexts.{text_of};
 ghost use Rattle.uri_parts.specs.AuthorityTexts.{authority_text};
 ghost use Rattle.uri_parts.specs.Components.{components};
 ghost use Rattle.uri_parts.specs.Errors.{IsErrorIn};
+ghost use Rattle.uri_parts.specs.Refusals.{refusal};
 ghost use Rattle.uri_parts.specs.Fragments.{IsWithFragment};
 ghost use Rattle.uri_parts.specs.Grammar.{IsOfKind, uri};
 ghost use Rattle.uri_parts.specs.SchemePorts.{default_port};
@@ -36,6 +37,7 @@ impl<'a> Uri<&'a str> {
         ensures accepts { IsOk result ↔ IsOfKind uri text.now }
         ensures text { IfOk result (λ value. uri_text value ≡ text.now) }
         ensures err { IfErr result (IsErrorIn text.now) }
+        ensures refused { IfErr result (λ e. refusal uri text.now ≡ Some e) }
     {
         match Core::parse(text) {
             Ok(core) => Ok(Uri { core }),

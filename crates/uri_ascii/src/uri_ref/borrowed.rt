@@ -4,6 +4,8 @@ ghost use Rattle.uri_pct.specs.EncodedTexts.{text_of};
 ghost use Rattle.uri_parts.specs.AuthorityTexts.{authority_text};
 ghost use Rattle.uri_parts.specs.Components.{components};
 ghost use Rattle.uri_parts.specs.Errors.{IsErrorIn};
+ghost use Rattle.uri_parts.specs.Refusals.{refusal};
+ghost use Rattle.std.specs.Prelude.{Some};
 ghost use Rattle.uri_parts.specs.Fragments.{IsWithFragment};
 ghost use Rattle.uri_parts.specs.Grammar.{IsOfKind, uri, uri_ref};
 ghost use Rattle.uri_parts.specs.SchemePorts.{default_port};
@@ -43,6 +45,7 @@ impl<'a> UriRef<&'a str> {
         ensures accepts { IsOk result ↔ IsOfKind uri_ref text.now }
         ensures text { IfOk result (λ value. uri_ref_text value ≡ text.now) }
         ensures err { IfErr result (IsErrorIn text.now) }
+        ensures refused { IfErr result (λ e. refusal uri_ref text.now ≡ Some e) }
     {
         match Core::parse(text) {
             Ok(core) => Ok(UriRef { core }),

@@ -5,6 +5,8 @@ ghost use Rattle.uri_pct.specs.EncodedTexts.{text_of};
 ghost use Rattle.uri_parts.specs.AuthorityTexts.{authority_text};
 ghost use Rattle.uri_parts.specs.Components.{components};
 ghost use Rattle.uri_parts.specs.Errors.{IsErrorIn};
+ghost use Rattle.uri_parts.specs.Refusals.{refusal};
+ghost use Rattle.std.specs.Prelude.{Some};
 ghost use Rattle.uri_parts.specs.Fragments.{IsWithFragment};
 ghost use Rattle.uri_parts.specs.Grammar.{IsOfKind, uri, uri_ref};
 ghost use Rattle.uri_parts.specs.SchemePorts.{default_port};
@@ -60,6 +62,8 @@ impl UriRef<String> {
         ensures accepts { IsOk result ↔ IsOfKind uri_ref (string_bytes text) }
         ensures text { IfOk result (λ value. uri_ref_text value ≡ string_bytes text) }
         ensures err { IfErr result (λ refused. IsErrorIn (string_bytes text) refused.0) }
+        ensures refused { IfErr result (λ refused.
+            refusal uri_ref (string_bytes text) ≡ Some refused.0) }
         ensures back { IfErr result (λ refused. string_bytes refused.1 ≡ string_bytes text) }
     {
         match Core::parse(text) {

@@ -73,7 +73,7 @@ module _ (segment : TableSet) (kind : Kind) (w : Separates segment kind) where
       sym (ap (λ n. n + front kind.userinfo (drop n (b ∷ bs))) none ∙ zero-add _))
       (cases_Bool (eqb b 58))
 
-  more_is : (bs : List ℕ) → more_user kind bs ≡ front kind.userinfo bs
+  pub more_is : (bs : List ℕ) → more_user kind bs ≡ front kind.userinfo bs
   unfolding more_user
   more_is bs = ⊎_elim
       (λ e. cond-true _ _ _ e ∙ sym (ap (front kind.userinfo) (starts-cons 64 bs e)
@@ -82,7 +82,7 @@ module _ (segment : TableSet) (kind : Kind) (w : Separates segment kind) where
       (λ e. cond-false _ _ _ e)
       (cases_Bool (starts 64 bs))
 
-  user_is : (rest : List ℕ) → user_length kind rest ≡ front kind.userinfo rest
+  pub user_is : (rest : List ℕ) → user_length kind rest ≡ front kind.userinfo rest
   unfolding user_length name_length
   user_is rest =
       let behind_name : List ℕ = after kind.reg_name rest in

@@ -20,7 +20,7 @@ use Rattle.uri_parts.proofs.HostForms.LiteralTexts.{future_unlettered}
 abbrev left : List ℕ → Option (List ℕ)
 left rest = option_map (λ p. p.1) (read_ipv6 rest)
 
-begins : (text : List ℕ) → starts 93 text ≡ true → Begins (codes "]") text
+pub begins : (text : List ℕ) → starts 93 text ≡ true → Begins (codes "]") text
 begins [] e = absurd (false≢true e)
 begins (c ∷ text) e = rw (eqb-true c 93 e) refl
 

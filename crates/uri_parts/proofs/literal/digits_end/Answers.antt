@@ -1,4 +1,6 @@
-use Rattle.std.proofs.Common.{◌<◌, arith, sym, ◌∙◌, ltb-true}
+use Rattle.std.proofs.Common.{◌<◌, arith, ap, sym, ◌∙◌, ltb-true}
+use Rattle.std.specs.Char.{is_digit}
+use Rattle.uri_parts.proofs.Refusals.Digits.{one_digit}
 use Rattle.std.proofs.lemmas.Str.{IsCharBoundary-after_ascii}
 use Rattle.uri_parts.proofs.HostForms.LiteralTexts.{digit_ascii}
 use Rattle.uri_parts.proofs.literal.digits_end.Goals as goal
@@ -13,4 +15,7 @@ loop-end-preserved c =
       boundary = IsCharBoundary-after_ascii bs c.loop-end.end c.as_bytes-bytes.ensures.utf8
           (omega arith) (omega arith);
       start = omega arith;
+      left = one_digit bs c.args.radix c.loop-end.end _ _ c.loop-end-test.true
+          (ap (λ b. is_digit b c.args.radix) (sym c.from.ensures) ∙ sym c.is_digit.ensures.value
+          ∙ c.if-is_digit.true) (omega arith) ∙ c.loop-end.invariant.left;
     }

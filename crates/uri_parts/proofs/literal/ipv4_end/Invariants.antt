@@ -1,5 +1,10 @@
+use Rattle.std.proofs.Common.{◌≡◌, ◌-◌}
 use Rattle.std.specs.Str.{IsCharBoundary}
+use Rattle.uri_parts.specs.Refusals.{ipv4_end, octets_end}
 use Rattle.uri_parts.proofs.literal.ipv4_end.Given as goal
 
-abbrev pub invariant-loop : goal.invariant-loop
-invariant-loop l = IsCharBoundary l.text l.end
+abbrev pub invariant-loop-dots : goal.invariant-loop-dots
+invariant-loop-dots l = record {
+  boundary : IsCharBoundary l.text l.end;
+  left : ipv4_end l.text l.start ≡ octets_end l.text (3 - l.dots) l.end;
+}

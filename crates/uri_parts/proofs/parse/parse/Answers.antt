@@ -1,4 +1,5 @@
 use Rattle.std.proofs.Common.{sym, ◌∙◌}
+use Rattle.uri_parts.proofs.Refusals.Whole.{whole_refusal}
 use Rattle.uri_parts.proofs.Theorems.{answered, whole_positions, whole_parse}
 use Rattle.uri_parts.proofs.parse.parse.Goals as goal
 
@@ -15,3 +16,9 @@ returns-clause-positions g c =
     (whole_positions g.K.Kind.kind _ _ g.met.K.Kind.known c.tables.ensures.kind
     c.tables.ensures.first_segment _ c.utf8.text)
     c.parse_text.ensures.places
+
+pub returns-clause-refused : goal.returns-clause-refused
+returns-clause-refused g c =
+    c.parse_text.ensures.refused
+    ∙ whole_refusal g.K.Kind.kind _ _ g.met.K.Kind.known c.tables.ensures.kind
+    c.tables.ensures.first_segment _

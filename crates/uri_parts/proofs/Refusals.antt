@@ -1,0 +1,11 @@
+-- What is told of a text that is refused.
+pub mod Colons
+pub mod Complete
+pub mod Digits
+pub mod GroupTurns
+pub mod Literals
+pub mod Names
+pub mod Rooted
+pub mod Rows
+pub mod Sound
+pub mod Whole
