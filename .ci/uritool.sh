@@ -1,78 +1,134 @@
 #!/bin/sh
-# Runs the built program where its output, its arguments or its error output are not as they should be: what `main` does
-# with them stands in no contract. `rt ci` builds the program; another may be named.
+# Runs the program where its output, its arguments or its error output are not as they should be: no contract says what
+# `main` does with them. It takes the program that `rt ci` built, or another that is named, and then ./uritool of a copy in
+# which nothing is built: there the program runs unproved, and prints the same after one line of its own.
 set -u
-program=${1:-$(dirname "$0")/../crates/uritool/out/uritool}
+root=$(cd "$(dirname "$0")/.." && pwd)
+built=${1:-$root/crates/uritool/out/uritool}
+at_once=${2:-4}
 usage='usage: uritool parse KIND TEXT | normalize KIND TEXT | resolve uri|iri BASE REF | links BASE REF...'
+notice='uritool: this run is checked and not yet proved; ./build proves and builds the program'
+opaque="refused when base has a rootless path and no authority, reference should either have scheme, be empty or start with '#'"
+bad=$(printf 'a\377')
 work=$(mktemp -d)
 trap 'rm -rf "$work"' EXIT
 trap 'exit 1' HUP INT TERM
-count=0
-failed=0
 
-# ends NAME STATUS OUT ERR: holds the last run to what it must have answered
-ends() {
-    count=$((count + 1))
-    printf '%s' "$3" | cmp -s - "$work/out" && printf '%s' "$4" | cmp -s - "$work/err" && [ "$status" -eq "$2" ] && return
-    failed=$((failed + 1))
-    echo "uritool: $1: status $status, and not $2, or another output: $(cat "$work/out" "$work/err")"
+lines() {
+    for line; do printf '%s\n' "$line"; done
 }
 
-# run WORD..: runs the program on the words
-run() {
-    : > "$work/out"
-    : > "$work/err"
-    "$program" "$@" > "$work/out" 2> "$work/err"
-    status=$?
+# does FORM: runs $program in that way. What it prints goes to out and err of the folder that this is called in, and what
+# it must print is in wanted.out and wanted.err.
+does() {
+    case $1 in
+    answer)
+        lines authority=h path=/p query=q fragment=f > wanted.out
+        "$program" parse uri-ref '//h/p?q#f' > out 2> err ;;
+    normal-form)
+        lines http://h/~ > wanted.out
+        "$program" normalize uri 'HTTP://h:80/%7e' > out 2> err ;;
+    target)
+        lines http://a/b/g > wanted.out
+        "$program" resolve uri 'http://a/b/c/d;p?q' '../g' > out 2> err ;;
+    links)
+        lines 'new 0 foo:x' "$opaque" > wanted.out
+        "$program" links 'foo:bar' 'foo:x' '//g' > out 2> err ;;
+    rejected-text)
+        lines 'error: unexpected character at index 1' > wanted.err
+        "$program" parse uri 'a b' > out 2> err ;;
+    no-words)
+        lines "$usage" > wanted.err
+        "$program" > out 2> err ;;
+    too-few-words)
+        lines "$usage" > wanted.err
+        "$program" parse uri-ref > out 2> err ;;
+    too-many-words)
+        lines "$usage" > wanted.err
+        "$program" parse uri-ref a b > out 2> err ;;
+    argument-not-utf8)
+        lines 'error: arguments' > wanted.err
+        "$program" parse uri-ref "$bad" > out 2> err ;;
+    name-not-utf8)
+        lines path=a > wanted.out
+        ln -s "$(readlink -f "$program")" "$bad"
+        "./$bad" parse uri-ref a > out 2> err ;;
+    closed-output)
+        lines 'error: output failed' > wanted.err
+        "$program" parse uri-ref a >&- 2> err ;;
+    full-device)
+        lines 'error: output failed' > wanted.err
+        "$program" parse uri-ref a > /dev/full 2> err ;;
+    rejected-text-closed-error-output)
+        "$program" parse uri 'a b' > out 2>&- ;;
+    no-words-full-error-output)
+        "$program" > out 2> /dev/full ;;
+    answer-closed-error-output)
+        lines path=a > wanted.out
+        "$program" parse uri-ref a > out 2>&- ;;
+    esac
 }
 
-[ -x "$program" ] || { echo "uritool: $program is not built"; exit 1; }
-newline='
-'
-run parse uri-ref '//h/p?q#f'
-ends 'an answer' 0 "authority=h${newline}path=/p${newline}query=q${newline}fragment=f${newline}" ''
-run normalize uri 'HTTP://h:80/%7e'
-ends 'a normal form' 0 "http://h/~${newline}" ''
-run resolve uri 'http://a/b/c/d;p?q' '../g'
-ends 'a target' 0 "http://a/b/g${newline}" ''
-run links 'foo:bar' 'foo:x' '//g'
-ends 'links' 0 "new 0 foo:x${newline}refused when base has a rootless path and no authority, reference should either have scheme, be empty or start with '#'${newline}" ''
-run parse uri 'a b'
-ends 'a refused text' 1 '' "error: unexpected character at index 1${newline}"
-run
-ends 'no words' 2 '' "$usage${newline}"
-run parse uri-ref
-ends 'too few words' 2 '' "$usage${newline}"
-run parse uri-ref a b
-ends 'too many words' 2 '' "$usage${newline}"
-run parse uri-ref "$(printf 'a\377')"
-ends 'an argument that is not UTF-8' 1 '' "error: arguments${newline}"
+# The forms, each with the status that it must end with.
+forms='answer 0
+normal-form 0
+target 0
+links 0
+rejected-text 1
+no-words 2
+too-few-words 2
+too-many-words 2
+argument-not-utf8 1
+name-not-utf8 0
+closed-output 1
+full-device 1
+rejected-text-closed-error-output 1
+no-words-full-error-output 2
+answer-closed-error-output 0'
 
-# A name of the program that is not UTF-8 refuses nothing.
-named=$work/$(printf 'a\377')
-ln -s "$(readlink -f "$program")" "$named"
-: > "$work/err"
-"$named" parse uri-ref a > "$work/out" 2> "$work/err"
-status=$?
-ends 'a name that is not UTF-8' 0 "path=a${newline}" ''
+# try FORM STATUS: prints what is wrong with that form. The standard input of a form stays unread.
+try() {
+    mkdir -p "$work/$way/$1" && cd "$work/$way/$1" || exit 2
+    : > out; : > err; : > wanted.out; : > wanted.err
+    echo unread > in
+    { does "$1"; status=$?; read -r left; } < in
+    # The line of an unproved run is there once, and first, where the error output takes it.
+    if [ "$way" = unproved ] && [ -s err ]; then
+        [ "$(head -n 1 err)" = "$notice" ] || echo "uritool: $way: $1: another first line of the error output"
+        sed 1d err > err.program && mv err.program err
+    fi
+    [ "$status" -eq "$2" ] || echo "uritool: $way: $1: status $status, and not $2"
+    [ "$left" = unread ] || echo "uritool: $way: $1: the standard input was read"
+    cmp -s out wanted.out || echo "uritool: $way: $1: another output: $(cat out)"
+    cmp -s err wanted.err || echo "uritool: $way: $1: another error output: $(cat err)"
+}
 
-: > "$work/out"
-"$program" parse uri-ref a >&- 2> "$work/err"
-status=$?
-ends 'a closed output' 1 '' "error: output failed${newline}"
-"$program" parse uri-ref a > /dev/full 2> "$work/err"
-status=$?
-ends 'a full device' 1 '' "error: output failed${newline}"
-: > "$work/err"
-"$program" parse uri 'a b' > "$work/out" 2>&-
-status=$?
-ends 'a refused text and a closed error output' 1 '' ''
-"$program" > "$work/out" 2> /dev/full
-status=$?
-ends 'no words and a full error output' 2 '' ''
-"$program" parse uri-ref a > "$work/out" 2>&-
-status=$?
-ends 'an answer and a closed error output' 0 "path=a${newline}" ''
+# try_all WAY PROGRAM: tries each form, several at once
+try_all() {
+    way=$1 program=$2 running=0
+    while read -r form status; do
+        (try "$form" "$status") >> "$work/wrong" &
+        running=$((running + 1))
+        [ $((running % at_once)) -ne 0 ] || wait
+    done <<FORMS
+$forms
+FORMS
+    wait
+}
 
-echo "uritool: $count runs, $failed of them wrong"
-[ "$failed" -eq 0 ]
+[ -x "$built" ] || { echo "uritool: $built is not built"; exit 1; }
+: > "$work/wrong"
+try_all built "$(readlink -f "$built")"
+# A copy of the tree, in which nothing is built.
+mkdir "$work/tree"
+cp -R "$root/uritool" "$root/tools" "$root/README.md" "$root/crates.txt" "$work/tree"
+for crate in "$root"/crates/*/; do
+    mkdir -p "$work/tree/crates/$(basename "$crate")"
+    for part in src specs proofs; do
+        [ ! -d "$crate/$part" ] || cp -R "$crate/$part" "$work/tree/crates/$(basename "$crate")/$part"
+    done
+done
+try_all unproved "$work/tree/uritool"
+cat "$work/wrong"
+echo "uritool: $(($(echo "$forms" | wc -l) * 2)) runs, $(grep -c . "$work/wrong") wrong"
+[ ! -s "$work/wrong" ]
