@@ -1,7 +1,8 @@
 #!/bin/sh
-# Runs the program where its output, its arguments or its error output are not as they should be: no contract says what
-# `main` does with them. It takes the program that `rt ci` built, or another that is named, and then ./uritool of a copy in
-# which nothing is built: there the program runs unproved, and prints the same after one line of its own.
+# Runs the program where its output, its arguments or its error output are not as they should be:
+# no contract says what `main` does with them. It takes the program that `rt ci` built, or another
+# that is named. Then it takes ./uritool of a copy of the tree: with that program in out/, and with
+# nothing built. There the program runs unproved, and prints the same after one line of its own.
 set -u
 root=$(cd "$(dirname "$0")/.." && pwd)
 built=${1:-$root/crates/uritool/out/uritool}
@@ -119,7 +120,7 @@ FORMS
 [ -x "$built" ] || { echo "uritool: $built is not built"; exit 1; }
 : > "$work/wrong"
 try_all built "$(readlink -f "$built")"
-# A copy of the tree, in which nothing is built.
+# A copy of the tree.
 mkdir "$work/tree"
 cp -R "$root/uritool" "$root/tools" "$root/README.md" "$root/crates.txt" "$work/tree"
 for crate in "$root"/crates/*/; do
@@ -128,7 +129,12 @@ for crate in "$root"/crates/*/; do
         [ ! -d "$crate/$part" ] || cp -R "$crate/$part" "$work/tree/crates/$(basename "$crate")/$part"
     done
 done
+mkdir "$work/tree/out"
+cp "$(readlink -f "$built")" "$work/tree/out/uritool"
+echo crates.txt > "$work/tree/out/uritool.stamp"
+try_all installed "$work/tree/uritool"
+rm -r "$work/tree/out"
 try_all unproved "$work/tree/uritool"
 cat "$work/wrong"
-echo "uritool: $(($(echo "$forms" | wc -l) * 2)) runs, $(grep -c . "$work/wrong") wrong"
+echo "uritool: $(($(echo "$forms" | wc -l) * 3)) runs, $(grep -c . "$work/wrong") wrong"
 [ ! -s "$work/wrong" ]
