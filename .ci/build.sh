@@ -38,6 +38,12 @@ run)
     exit 2
     ;;
 try)
+    if [ -n "${LIMIT-}" ]; then
+        printf '| %s\n' 'a line of the output' >&2
+        echo "checked: no-answer: $LIMIT" >&2
+        echo 'run=no-answer proved=no' >&2
+        exit 6
+    fi
     echo unproved
     echo 'run=ended status=0 proved=no' >&2
     ;;
@@ -126,6 +132,11 @@ must 'the line of ./uritool without rt' "uritool: $no_rt" "$(cat "$work/err")"
 must 'the status of an unknown name' 1 $?
 must 'the line of an unknown name' 'build: crates.txt has no no_crate' "$(cat "$work/err")"
 must 'nothing is made for it' '' "$(ls out 2> /dev/null)"
+LIMIT='more than 1048576 bytes' ./uritool parse uri a > "$work/out" 2> "$work/err"
+must 'the status of too long an output' 126 $?
+must 'the line of too long an output' \
+    'uritool: no output: more than 1048576 bytes; ./build proves and builds the program' \
+    "$(sed 1d "$work/err")"
 # Above U+10FFFF, and a surrogate, of which neither is UTF-8.
 for word in "$(printf '\364\220\200\200')" "$(printf '\355\240\200')"; do
     ./uritool parse uri-ref "$word" > "$work/out" 2> "$work/err"
