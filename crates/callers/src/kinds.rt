@@ -242,9 +242,9 @@ pub fn narrowest(value: IriRef<String>) -> Result<Uri<String>, (ConvertError, Ir
     value.try_into()
 }
 
-/// `clone` of what is `Copy`.
+/// `clone` of what is `Copy`: it is the same value.
 pub fn clone_of<'a>(value: &UriRef<&'a str>) -> Result<UriRef<&'a str>, AllocError>
-    ensures { IfOk result (λ copy. uri_ref_text copy ≡ uri_ref_text value.now) }
+    ensures { IfOk result (λ copy. copy ≡ value.now) }
 {
     value.clone()
 }

@@ -28,9 +28,8 @@ pub struct Reference<K: Kind, T: AsStr> {
 
 impl<K: Kind, T: AsStr + Copy> Clone for Reference<K, T> {
     ghost use Rattle.std.specs.Prelude.{⊤};
-    ghost use Rattle.fluent_uri.specs.References.{reference_text};
 
-    ghost is_clone = { λ value copy. reference_text copy ≡ reference_text value };
+    ghost is_clone = { λ value copy. copy ≡ value };
 
     ghost is_infallible = { λ _. ⊤ };
 
