@@ -2,7 +2,7 @@
 //! caller may say of the text.
 #![tactic(auto)]
 
-ghost use Rattle.std.specs.Prelude.{◌≡◌, ◌↔◌, IfErr, IfOk, IsOk, None, Some, []};
+ghost use Rattle.std.specs.Prelude.{◌≡◌, ◌↔◌, IfErr, IfOk, IsOk, None, Ok, Some, []};
 ghost use Rattle.std.specs.Prelude.{option_map, string_bytes};
 ghost use Rattle.fluent_uri.specs.Components.{components};
 ghost use Rattle.fluent_uri.specs.EncodedTexts.{text_of};
@@ -12,15 +12,20 @@ ghost use Rattle.fluent_uri.specs.Iris.{iri_ref_text, iri_text};
 ghost use Rattle.fluent_uri.specs.Normalizers.{IsNormalForm};
 ghost use Rattle.fluent_uri.specs.SchemePorts.{default_port};
 ghost use Rattle.fluent_uri.specs.Schemes.{scheme_text};
+ghost use Rattle.fluent_uri.specs.Target.{resolution_of_texts};
 ghost use Rattle.fluent_uri.specs.Uris.{uri_ref_text, uri_text};
 
+use fluent_uri::build::BuildError;
 use fluent_uri::component::{Authority, IAuthority, Scheme};
 use fluent_uri::pct_enc::EStr;
 use fluent_uri::pct_enc::encoder::{Fragment, IFragment, IPath, Path, Query};
+use fluent_uri::resolve::ResolveError;
 use fluent_uri::{ConvertError, Iri, IriRef, ParseError, Uri, UriRef};
 use std::alloc::{AllocError, Global};
 use std::cmp::Ordering;
 use std::convert::{TryFrom, TryInto};
+use std::fmt;
+use std::hash::{Hash, Hasher};
 
 /// `String::from` of a URI.
 pub fn string_of_uri(value: Uri<String>) -> String
@@ -262,4 +267,48 @@ pub fn is_equal_or_less(value: &Iri<String>, other: &Iri<String>) -> bool {
 /// `cmp` within one type.
 pub fn order_of(value: UriRef<&str>, other: UriRef<&str>) -> Ordering {
     value.cmp(&other)
+}
+
+/// `hash` of a value of its own text.
+pub fn feed_hash<H: Hasher>(value: &Uri<String>, state: &mut H) {
+    value.hash(state)
+}
+
+/// `{:?}`.
+pub fn write_parts<W: fmt::Write>(out: &mut W, value: Iri<&str>) -> fmt::Result {
+    write!(out, "{value:?}")
+}
+
+/// `{}`.
+pub fn write_text<W: fmt::Write>(out: &mut W, value: &IriRef<String>) -> fmt::Result {
+    write!(out, "{value}")
+}
+
+/// `resolve_against` a base of the kind's own: of an IRI reference, an IRI.
+pub fn target_of(
+    alloc: Global,
+    value: &IriRef<String>,
+    base: &Iri<&str>,
+) -> Result<Iri<String>, ResolveError>
+    ensures { IfOk result (λ target.
+        resolution_of_texts (iri_text base.now) (iri_ref_text value.now) ≡ Ok (iri_text target)) }
+{
+    value.resolve_against(alloc, base)
+}
+
+/// `builder` of an IRI, which begins with its scheme.
+pub fn built_iri(
+    alloc: Global,
+    scheme: Scheme<'_>,
+    path: EStr<'_, IPath>,
+) -> Result<Iri<String>, BuildError> {
+    Iri::<String>::builder(alloc)
+        .scheme(scheme)
+        .path(path)
+        .build()
+}
+
+/// `builder` of an IRI reference, which may begin with its path.
+pub fn built_iri_ref(alloc: Global, path: EStr<'_, IPath>) -> Result<IriRef<String>, BuildError> {
+    IriRef::<String>::builder(alloc).path(path).build()
 }
