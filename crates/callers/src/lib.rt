@@ -14,6 +14,7 @@ pub mod delimiters;
 pub mod echoes;
 pub mod encoders;
 pub mod encoding;
+pub mod kinds;
 pub mod literals;
 pub mod rules;
 pub mod tables;

@@ -45,6 +45,22 @@ fn wider_kinds_of_owned_texts(rt: HostRuntime) {
     equal(IriRef::from(reference).as_str(), text).expect(&rt, text);
 }
 
+#[test]
+fn texts_of_each_kind(rt: HostRuntime) {
+    let text = "http://example.com/?q#f";
+    let owned = uri(&rt, text).to_owned(rt.alloc()).expect(&rt, text);
+    equal(String::from(owned).as_str(), text).expect(&rt, "a URI");
+    let text = "../a?q";
+    let owned = uri_ref(&rt, text).to_owned(rt.alloc()).expect(&rt, text);
+    equal(String::from(owned).as_str(), text).expect(&rt, "a URI reference");
+    let text = "http://résumé.example.org/";
+    let owned = iri(&rt, text).to_owned(rt.alloc()).expect(&rt, text);
+    equal(String::from(owned).as_str(), text).expect(&rt, "an IRI");
+    let text = "../é?q";
+    let owned = iri_ref(&rt, text).to_owned(rt.alloc()).expect(&rt, text);
+    equal(String::from(owned).as_str(), text).expect(&rt, "an IRI reference");
+}
+
 fn is_refused<R: Abort>(rt: &R, refused: Option<ConvertError>, wanted: Option<ConvertError>) {
     equal(refused, wanted).expect(rt, "a refusal");
 }

@@ -27,8 +27,6 @@ pub use Rattle.uri_parts.specs.Schemes
 pub use Rattle.uri_ops.specs.Conversions
 pub use Rattle.uri_ops.specs.Encoded
 pub use Rattle.uri_ops.specs.Resolving
-pub use Rattle.uri_ascii.specs.Parses
-pub use Rattle.uri_ascii.specs.Uris
 pub use Rattle.uri_ops.specs.Dots
 pub use Rattle.uri_ops.specs.Meaning
 pub use Rattle.uri_ops.specs.Normal
@@ -40,3 +38,6 @@ pub use Rattle.uri_ops.specs.Builders
 pub use Rattle.uri_ops.specs.BuilderStates
 pub use Rattle.uri_ops.specs.Built
 pub mod Iris
+pub mod Parses
+pub mod References
+pub mod Uris

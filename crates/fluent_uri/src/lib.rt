@@ -1,17 +1,64 @@
 //! Generic URIs (RFC 3986), IRIs (RFC 3987) and their references, read, taken apart and proved.
+//!
+//! `Uri`, `UriRef`, `Iri` and `IriRef` are one type, `Reference`, at four kinds.
 #![tactic(auto)]
 
+mod building;
 mod convert;
-mod iri;
-mod iri_ref;
+pub mod reference;
+mod resolving;
+#[doc(hidden)]
+pub mod roles;
+mod schemes;
 
-pub use iri::Iri;
-pub use iri_ref::IriRef;
-pub use uri_ascii::uri::Uri;
-pub use uri_ascii::uri_ref::UriRef;
+pub use reference::Reference;
 pub use uri_ops::convert::ConvertError;
 pub use uri_ops::traits::{RefOf, Ri, RiMaybeRef, WithOwned};
 pub use uri_parts::error::{ParseError, ParseErrorKind};
+use uri_parts::kind::{IriKind, IriRefKind, UriKind, UriRefKind};
+
+/// A URI: a reference that has a scheme (RFC 3986, section 3).
+///
+/// A value holds a text of that grammar, over `&str` or over `String`.
+///
+/// # Examples
+///
+/// `Uri::<&str>::parse("foo://example.com/over/there?name=ferret#nose")` has the scheme `foo`,
+/// the authority `example.com`, the path `/over/there`, the query `name=ferret` and the fragment
+/// `nose`. `Uri::<&str>::parse("foo")` returns an error at its end, where a `:` is missing.
+pub type Uri<T> = Reference<UriKind, T>;
+
+/// A URI reference: a URI, or a reference that is relative to one (RFC 3986, section 4.1).
+///
+/// A value holds a text of that grammar, over `&str` or over `String`.
+///
+/// # Examples
+///
+/// `UriRef::<&str>::parse("foo://example.com/over/there?name=ferret#nose")` has the scheme `foo`,
+/// the authority `example.com`, the path `/over/there`, the query `name=ferret` and the fragment
+/// `nose`. `UriRef::<&str>::parse("../there")` has a path alone.
+pub type UriRef<T> = Reference<UriRefKind, T>;
+
+/// An IRI: a URI that may also have characters past ASCII (RFC 3987, section 2.2).
+///
+/// A value holds a text of that grammar, over `&str` or over `String`.
+///
+/// # Examples
+///
+/// `Iri::<&str>::parse("http://résumé.example.org/?café")` has the scheme `http`, the authority
+/// `résumé.example.org`, the path `/` and the query `café`. `Iri::<&str>::parse("café")` returns an
+/// error after `caf`, where a `:` is missing.
+pub type Iri<T> = Reference<IriKind, T>;
+
+/// An IRI reference: an IRI, or a reference that is relative to one (RFC 3987, section 2.2).
+///
+/// A value holds a text of that grammar, over `&str` or over `String`.
+///
+/// # Examples
+///
+/// `IriRef::<&str>::parse("//résumé.example.org/?café")` has the authority `résumé.example.org`,
+/// the path `/` and the query `café`. `IriRef::<&str>::parse("café")` has a path alone.
+pub type IriRef<T> = Reference<IriRefKind, T>;
 
 /// Building references (RFC 3986, section 5.3).
 pub mod build {

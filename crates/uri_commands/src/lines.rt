@@ -4,9 +4,9 @@ ghost use Rattle.std.specs.Io.KnownBytes.{Appends};
 ghost use Rattle.uri_commands.specs.Lines.{line, optional_line, component_lines};
 ghost use Rattle.uri_commands.specs.Texts.{components_in};
 
+use fluent_uri::IriRef;
 use fluent_uri::component::{Authority, Scheme};
 use fluent_uri::pct_enc::EStr;
-use fluent_uri::{Iri, IriRef, Uri, UriRef};
 use std::io::{self, Write};
 
 /// The texts of a reference's components.
@@ -17,64 +17,6 @@ pub struct Texts<'a> {
     path: &'a str,
     query: Option<&'a str>,
     fragment: Option<&'a str>,
-}
-
-impl<'a> From<Uri<&'a str>> for Texts<'a> {
-    ghost use Rattle.std.specs.Prelude.{◌≡◌};
-    ghost use Rattle.fluent_uri.specs.Components.{components};
-    ghost use Rattle.fluent_uri.specs.Uris.{uri_text};
-    ghost use Rattle.uri_commands.specs.Texts.{components_in};
-
-    ghost from_gives = { λ reference texts. components_in texts ≡ components (uri_text reference) };
-
-    fn from(uri: Uri<&'a str>) -> Texts<'a> {
-        Texts {
-            scheme: Some(uri.scheme().as_str()),
-            authority: uri.authority().map(Authority::as_str),
-            path: uri.path().as_str(),
-            query: uri.query().map(EStr::as_str),
-            fragment: uri.fragment().map(EStr::as_str),
-        }
-    }
-}
-
-impl<'a> From<UriRef<&'a str>> for Texts<'a> {
-    ghost use Rattle.std.specs.Prelude.{◌≡◌};
-    ghost use Rattle.fluent_uri.specs.Components.{components};
-    ghost use Rattle.fluent_uri.specs.Uris.{uri_ref_text};
-    ghost use Rattle.uri_commands.specs.Texts.{components_in};
-
-    ghost from_gives = { λ reference texts.
-        components_in texts ≡ components (uri_ref_text reference) };
-
-    fn from(uri_ref: UriRef<&'a str>) -> Texts<'a> {
-        Texts {
-            scheme: uri_ref.scheme().map(Scheme::as_str),
-            authority: uri_ref.authority().map(Authority::as_str),
-            path: uri_ref.path().as_str(),
-            query: uri_ref.query().map(EStr::as_str),
-            fragment: uri_ref.fragment().map(EStr::as_str),
-        }
-    }
-}
-
-impl<'a> From<Iri<&'a str>> for Texts<'a> {
-    ghost use Rattle.std.specs.Prelude.{◌≡◌};
-    ghost use Rattle.fluent_uri.specs.Components.{components};
-    ghost use Rattle.fluent_uri.specs.Iris.{iri_text};
-    ghost use Rattle.uri_commands.specs.Texts.{components_in};
-
-    ghost from_gives = { λ reference texts. components_in texts ≡ components (iri_text reference) };
-
-    fn from(iri: Iri<&'a str>) -> Texts<'a> {
-        Texts {
-            scheme: Some(iri.scheme().as_str()),
-            authority: iri.authority().map(Authority::as_str),
-            path: iri.path().as_str(),
-            query: iri.query().map(EStr::as_str),
-            fragment: iri.fragment().map(EStr::as_str),
-        }
-    }
 }
 
 impl<'a> From<IriRef<&'a str>> for Texts<'a> {

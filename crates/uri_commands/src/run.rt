@@ -196,9 +196,9 @@ fn lines_of(kind: KindName, text: &str) -> Result<Texts<'_>, ParseError>
     ensures error { IfErr result (IsErrorOf (kind_named kind) text.now) }
 {
     match kind {
-        KindName::Uri => Ok(Texts::from(Uri::<&str>::parse(text)?)),
-        KindName::UriRef => Ok(Texts::from(UriRef::<&str>::parse(text)?)),
-        KindName::Iri => Ok(Texts::from(Iri::<&str>::parse(text)?)),
+        KindName::Uri => Ok(Texts::from(IriRef::from(Uri::<&str>::parse(text)?))),
+        KindName::UriRef => Ok(Texts::from(IriRef::from(UriRef::<&str>::parse(text)?))),
+        KindName::Iri => Ok(Texts::from(IriRef::from(Iri::<&str>::parse(text)?))),
         KindName::IriRef => Ok(Texts::from(IriRef::<&str>::parse(text)?)),
     }
 }

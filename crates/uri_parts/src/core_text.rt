@@ -48,14 +48,17 @@ pub struct Core<K: Kind, T: AsStr> {
 
 impl<K: Kind, T: AsStr + Copy> Clone for Core<K, T> {
     ghost use Rattle.std.specs.Prelude.{⊤};
-    ghost use Rattle.uri_parts.specs.CoreTexts.{core_text};
 
-    ghost is_clone = { λ value copy. core_text copy ≡ core_text value };
+    ghost is_clone = { λ value copy. copy ≡ value };
 
     ghost is_infallible = { λ _. ⊤ };
 
     fn clone(&self) -> Result<Self, AllocError> {
-        Ok(Core::new(self.text, self.positions))
+        Ok(Core {
+            text: self.text,
+            positions: self.positions,
+            kind: PhantomData,
+        })
     }
 }
 

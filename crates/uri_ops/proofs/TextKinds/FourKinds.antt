@@ -1,11 +1,11 @@
 -- The sets of the four kinds.
-use Rattle.std.proofs.Common.{◌≡◌, ℕ, Bool, true, false, List, refl}
+use Rattle.std.proofs.Common.{◌≡◌, ℕ, Bool, true, false, List, refl, sym, subst}
 use Rattle.std.specs.Prelude.{codes}
 use Rattle.std.specs.List.{list_any}
 use Rattle.std.proofs.lemmas.Bool.{or_left, false≢true}
 use Rattle.uri_pct.specs.Sets.{TableSet, is_unreserved, is_reg_name_char, is_userinfo_char}
 use Rattle.uri_pct.specs.Sets.{is_pchar, is_path_char, is_query_char}
-use Rattle.uri_parts.specs.Grammar.{Kind, uri, uri_ref, iri, iri_ref}
+use Rattle.uri_parts.specs.Grammar.{Kind, one_of_four, uri, uri_ref, iri, iri_ref}
 use Rattle.uri_ops.specs.ComponentSets.{IsComponentSet, HasComponentSets}
 
 in_reg_name : (c : ℕ) → is_unreserved c ≡ true → is_reg_name_char c ≡ true
@@ -83,3 +83,16 @@ iri_sets = kind_sets true true true
 pub iri_ref_sets : HasComponentSets iri_ref
 unfolding kind_with component
 iri_ref_sets = kind_sets true true false
+
+one_has_sets : (international needs_scheme : Bool)
+    → HasComponentSets (one_of_four international needs_scheme)
+one_has_sets false false = uri_ref_sets
+one_has_sets false true = uri_sets
+one_has_sets true false = iri_ref_sets
+one_has_sets true true = iri_sets
+
+-- a kind that is one of the four has sets that keep its components apart
+pub known_sets : (kind : Kind) → kind ≡ one_of_four kind.path.ucschar kind.needs_scheme
+    → HasComponentSets kind
+known_sets kind known =
+    subst HasComponentSets (sym known) (one_has_sets kind.path.ucschar kind.needs_scheme)

@@ -1,0 +1,314 @@
+//! The calls of `Uri`, `UriRef`, `Iri` and `IriRef` that `docs/FROM_RUST.md` lists, each with what a
+//! caller may say of the text.
+#![tactic(auto)]
+
+ghost use Rattle.std.specs.Prelude.{◌≡◌, ◌↔◌, IfErr, IfOk, IsOk, None, Ok, Some, []};
+ghost use Rattle.std.specs.Prelude.{option_map, string_bytes};
+ghost use Rattle.fluent_uri.specs.Components.{components};
+ghost use Rattle.fluent_uri.specs.EncodedTexts.{text_of};
+ghost use Rattle.fluent_uri.specs.Fragments.{IsWithFragment};
+ghost use Rattle.fluent_uri.specs.Grammar.{IsOfKind, iri_ref, uri};
+ghost use Rattle.fluent_uri.specs.Iris.{iri_ref_text, iri_text};
+ghost use Rattle.fluent_uri.specs.Normalizers.{IsNormalForm};
+ghost use Rattle.fluent_uri.specs.SchemePorts.{default_port};
+ghost use Rattle.fluent_uri.specs.Schemes.{scheme_text};
+ghost use Rattle.fluent_uri.specs.Target.{resolution_of_texts};
+ghost use Rattle.fluent_uri.specs.Uris.{uri_ref_text, uri_text};
+
+use fluent_uri::build::BuildError;
+use fluent_uri::component::{Authority, IAuthority, Scheme};
+use fluent_uri::pct_enc::EStr;
+use fluent_uri::pct_enc::encoder::{Fragment, IFragment, IPath, Path, Query};
+use fluent_uri::resolve::ResolveError;
+use fluent_uri::{ConvertError, Iri, IriRef, ParseError, Uri, UriRef};
+use std::alloc::{AllocError, Global};
+use std::cmp::Ordering;
+use std::convert::{TryFrom, TryInto};
+use std::fmt;
+use std::hash::{Hash, Hasher};
+
+/// `String::from` of a URI.
+pub fn string_of_uri(value: Uri<String>) -> String
+    ensures { string_bytes result ≡ uri_text value }
+{
+    String::from(value)
+}
+
+/// `String::from` of a URI reference.
+pub fn string_of_uri_ref(value: UriRef<String>) -> String
+    ensures { string_bytes result ≡ uri_ref_text value }
+{
+    String::from(value)
+}
+
+/// `String::from` of an IRI.
+pub fn string_of_iri(value: Iri<String>) -> String
+    ensures { string_bytes result ≡ iri_text value }
+{
+    String::from(value)
+}
+
+/// `String::from` of an IRI reference.
+pub fn string_of_iri_ref(value: IriRef<String>) -> String
+    ensures { string_bytes result ≡ iri_ref_text value }
+{
+    String::from(value)
+}
+
+/// `into` of a URI.
+pub fn uri_into_string(value: Uri<String>) -> String
+    ensures { string_bytes result ≡ uri_text value }
+{
+    value.into()
+}
+
+/// `into` of a URI reference.
+pub fn uri_ref_into_string(value: UriRef<String>) -> String
+    ensures { string_bytes result ≡ uri_ref_text value }
+{
+    value.into()
+}
+
+/// `into` of an IRI.
+pub fn iri_into_string(value: Iri<String>) -> String
+    ensures { string_bytes result ≡ iri_text value }
+{
+    value.into()
+}
+
+/// `into` of an IRI reference.
+pub fn iri_ref_into_string(value: IriRef<String>) -> String
+    ensures { string_bytes result ≡ iri_ref_text value }
+{
+    value.into()
+}
+
+/// `try_from` and `try_into` of texts.
+pub fn uri_of_text(text: &str) -> Result<Uri<&str>, ParseError>
+    ensures accepts { IsOk result ↔ IsOfKind uri text.now }
+    ensures text { IfOk result (λ value. uri_text value ≡ text.now) }
+{
+    Uri::try_from(text)
+}
+
+/// The same into an IRI reference, over the text itself.
+pub fn iri_ref_of_string(text: String) -> Result<IriRef<String>, (ParseError, String)>
+    ensures accepts { IsOk result ↔ IsOfKind iri_ref (string_bytes text) }
+    ensures back { IfErr result (λ rejected. string_bytes rejected.1 ≡ string_bytes text) }
+{
+    IriRef::try_from(text)
+}
+
+/// `default` of a URI reference.
+pub fn empty_uri_ref<'a>() -> UriRef<&'a str>
+    ensures { uri_ref_text result ≡ [] }
+{
+    UriRef::<&str>::default()
+}
+
+/// `default` of an IRI reference.
+pub fn empty_iri_ref<'a>() -> IriRef<&'a str>
+    ensures { iri_ref_text result ≡ [] }
+{
+    IriRef::<&str>::default()
+}
+
+/// The scheme, which an IRI has.
+pub fn scheme_of_iri<'a>(value: Iri<&'a str>) -> Scheme<'a>
+    ensures { Some (scheme_text result) ≡ (components (iri_text value.entry)).scheme }
+{
+    value.scheme()
+}
+
+/// The scheme, which an IRI reference may have.
+pub fn scheme_of_iri_ref(value: &IriRef<String>) -> Option<Scheme<'_>>
+    ensures { option_map scheme_text result ≡ (components (iri_ref_text value.now)).scheme }
+{
+    value.scheme()
+}
+
+/// `has_scheme` of a reference.
+pub fn is_relative(value: &UriRef<String>) -> bool {
+    !value.has_scheme()
+}
+
+/// `has_authority`, `has_query` and `has_fragment`.
+pub fn has_all_parts(value: &Uri<String>) -> bool {
+    value.has_authority() && value.has_query() && value.has_fragment()
+}
+
+/// The authority of a URI, and that of an IRI over a text of its own.
+pub fn authorities<'a>(
+    value: Uri<&'a str>,
+    other: &'a Iri<String>,
+) -> (Option<Authority<'a>>, Option<IAuthority<'a>>) {
+    (value.authority(), other.authority())
+}
+
+/// The path, and the query.
+pub fn path_and_query(value: &UriRef<String>) -> (EStr<'_, Path>, Option<EStr<'_, Query>>) {
+    (value.path(), value.query())
+}
+
+/// The path and the fragment, which outlive the value that they are of.
+pub fn path_and_fragment<'a>(
+    value: IriRef<&'a str>,
+) -> (EStr<'a, IPath>, Option<EStr<'a, IFragment>>) {
+    (value.path(), value.fragment())
+}
+
+/// `to_owned` of what is borrowed: a copy of a value that owns its text.
+pub fn copy_of(alloc: Global, value: &Iri<String>) -> Result<Iri<String>, AllocError>
+    ensures { IfOk result (λ copy. iri_text copy ≡ iri_text value.now) }
+{
+    value.borrow().to_owned(alloc)
+}
+
+/// `into_string`.
+pub fn text_of_iri_ref(value: IriRef<String>) -> String
+    ensures { string_bytes result ≡ iri_ref_text value }
+{
+    value.into_string()
+}
+
+/// `strip_fragment`.
+pub fn without_fragment(value: &Uri<String>) -> Uri<&str>
+    ensures { IsWithFragment (uri_text value.now) None (uri_text result) }
+{
+    value.strip_fragment()
+}
+
+/// `with_fragment` over a `&str`, which is kept.
+pub fn with_fragment(
+    alloc: Global,
+    value: Uri<&str>,
+    fragment: EStr<'_, Fragment>,
+) -> Result<Uri<String>, AllocError>
+    ensures { IfOk result (λ made.
+        IsWithFragment (uri_text value.entry) (Some (text_of fragment.entry)) (uri_text made)) }
+{
+    value.with_fragment(alloc, Some(fragment))
+}
+
+/// `set_fragment` with none, which is never refused.
+pub fn take_fragment_away(value: &mut IriRef<String>) -> Result<(), AllocError>
+    ensures { IsOk result }
+{
+    value.set_fragment(None)
+}
+
+/// `normalize` of a value that owns its text.
+pub fn normalized(alloc: Global, value: &IriRef<String>) -> Result<IriRef<String>, AllocError>
+    ensures { IfOk result (λ normal.
+        IsNormalForm iri_ref default_port (iri_ref_text value.now) (iri_ref_text normal)) }
+{
+    value.normalize(alloc)
+}
+
+/// `to_uri`.
+pub fn encoded(alloc: Global, value: &Iri<String>) -> Result<Uri<String>, AllocError> {
+    value.to_uri(alloc)
+}
+
+/// `to_uri_ref`.
+pub fn encoded_ref(alloc: Global, value: IriRef<&str>) -> Result<UriRef<String>, AllocError> {
+    value.to_uri_ref(alloc)
+}
+
+/// `From` to each wider kind.
+pub fn wider<'a>(value: Uri<&'a str>) -> (UriRef<&'a str>, Iri<&'a str>, IriRef<&'a str>)
+    ensures uri_ref { uri_ref_text result.0 ≡ uri_text value.entry }
+    ensures iri { iri_text result.1 ≡ uri_text value.entry }
+    ensures iri_ref { iri_ref_text result.2 ≡ uri_text value.entry }
+{
+    (UriRef::from(value), Iri::from(value), IriRef::from(value))
+}
+
+/// `From` to the widest kind, of a URI reference and of an IRI.
+pub fn widest(value: UriRef<String>, other: Iri<String>) -> (IriRef<String>, IriRef<String>)
+    ensures uri_ref { iri_ref_text result.0 ≡ uri_ref_text value }
+    ensures iri { iri_ref_text result.1 ≡ iri_text other }
+{
+    (value.into(), other.into())
+}
+
+/// `TryFrom` to a narrower kind.
+pub fn narrower(value: Iri<&str>) -> Result<Uri<&str>, ConvertError>
+    ensures accepts { IsOk result ↔ IsOfKind uri (iri_text value.entry) }
+    ensures text { IfOk result (λ made. uri_text made ≡ iri_text value.entry) }
+{
+    Uri::try_from(value)
+}
+
+/// `try_into` a narrower kind, over the text itself.
+pub fn narrowest(value: IriRef<String>) -> Result<Uri<String>, (ConvertError, IriRef<String>)>
+    ensures { IsOk result ↔ IsOfKind uri (iri_ref_text value) }
+{
+    value.try_into()
+}
+
+/// `clone` of what is `Copy`: it is the same value.
+pub fn clone_of<'a>(value: &UriRef<&'a str>) -> Result<UriRef<&'a str>, AllocError>
+    ensures { IfOk result (λ copy. copy ≡ value.now) }
+{
+    value.clone()
+}
+
+/// A value over a `&str` is copied where it is used twice.
+pub fn twice(value: Iri<&str>) -> (Iri<&str>, Iri<&str>) {
+    (value, value)
+}
+
+/// `==` and `<` within one type.
+pub fn is_equal_or_less(value: &Iri<String>, other: &Iri<String>) -> bool {
+    value == other || value < other
+}
+
+/// `cmp` within one type.
+pub fn order_of(value: UriRef<&str>, other: UriRef<&str>) -> Ordering {
+    value.cmp(&other)
+}
+
+/// `hash` of a value of its own text.
+pub fn feed_hash<H: Hasher>(value: &Uri<String>, state: &mut H) {
+    value.hash(state)
+}
+
+/// `{:?}`.
+pub fn write_parts<W: fmt::Write>(out: &mut W, value: Iri<&str>) -> fmt::Result {
+    write!(out, "{value:?}")
+}
+
+/// `{}`.
+pub fn write_text<W: fmt::Write>(out: &mut W, value: &IriRef<String>) -> fmt::Result {
+    write!(out, "{value}")
+}
+
+/// `resolve_against` a base of the kind's own: of an IRI reference, an IRI.
+pub fn target_of(
+    alloc: Global,
+    value: &IriRef<String>,
+    base: &Iri<&str>,
+) -> Result<Iri<String>, ResolveError>
+    ensures { IfOk result (λ target.
+        resolution_of_texts (iri_text base.now) (iri_ref_text value.now) ≡ Ok (iri_text target)) }
+{
+    value.resolve_against(alloc, base)
+}
+
+/// `builder` of an IRI, which begins with its scheme.
+pub fn built_iri(
+    alloc: Global,
+    scheme: Scheme<'_>,
+    path: EStr<'_, IPath>,
+) -> Result<Iri<String>, BuildError> {
+    Iri::<String>::builder(alloc)
+        .scheme(scheme)
+        .path(path)
+        .build()
+}
+
+/// `builder` of an IRI reference, which may begin with its path.
+pub fn built_iri_ref(alloc: Global, path: EStr<'_, IPath>) -> Result<IriRef<String>, BuildError> {
+    IriRef::<String>::builder(alloc).path(path).build()
+}

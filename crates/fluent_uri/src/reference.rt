@@ -1,0 +1,173 @@
+//! The values of the four kinds: texts of a kind (RFC 3986, sections 3 and 4.1; RFC 3987, section
+//! 2.2).
+ghost use Rattle.std.specs.Prelude.{◌≡◌, Some, string_bytes};
+ghost use Rattle.std.specs.Str.{IsUtf8};
+ghost use Rattle.uri_parts.specs.Grammar.{IsOfKind};
+
+mod borrowed;
+mod owned;
+mod shared;
+
+use std::alloc::AllocError;
+use std::convert::{AsStr, TryFrom};
+use std::fmt;
+use uri_ops::traits::{RiMaybeRef, WithOwned};
+use uri_parts::core_text::Core;
+use uri_parts::error::ParseError;
+use uri_parts::kind::Kind;
+use uri_parts::positions::Positions;
+
+/// A text of the kind of `K`, over `&str` or over `String`.
+///
+/// `Uri`, `UriRef`, `Iri` and `IriRef` are this at the four kinds.
+#[derive(Drop)]
+#[derive_where(PartialEq, Eq, PartialOrd, Ord, Hash)]
+pub struct Reference<K: Kind, T: AsStr> {
+    core: Core<K, T>,
+}
+
+impl<K: Kind, T: AsStr + Copy> Clone for Reference<K, T> {
+    ghost use Rattle.std.specs.Prelude.{⊤};
+
+    ghost is_clone = { λ value copy. copy ≡ value };
+
+    ghost is_infallible = { λ _. ⊤ };
+
+    fn clone(&self) -> Result<Self, AllocError> {
+        Ok(Reference {
+            core: self.core.clone()?,
+        })
+    }
+}
+
+impl<K: Kind, T: AsStr + Copy> Copy for Reference<K, T> {}
+
+impl<K: Kind, T: AsStr> RiMaybeRef for Reference<K, T> {
+    ghost use Rattle.std.specs.Prelude.{refl};
+    ghost use Rattle.uri_ops.proofs.TextKinds.FourKinds.{known_sets};
+    ghost use Rattle.fluent_uri.specs.References.{reference_text};
+
+    type Owned = Reference<K, String>;
+
+    type UserinfoE = K::UserinfoE;
+
+    type RegNameE = K::RegNameE;
+
+    type PathE = K::PathE;
+
+    type QueryE = K::QueryE;
+
+    type FragmentE = K::FragmentE;
+
+    type Kind = K;
+
+    ghost kind = { K.kind };
+
+    ghost text = { reference_text };
+
+    ghost owned_text = { reference_text };
+
+    fn as_str(&self) -> &str {
+        self.core.borrow().as_str()
+    }
+
+    fn positions(&self) -> Positions {
+        self.core.borrow().positions()
+    }
+
+    fn make_owned(owned: String, positions: Positions) -> Reference<K, String> {
+        Reference {
+            core: Core::new(owned, positions),
+        }
+    }
+
+    ghost kind_is_its_own = { refl };
+
+    ghost component_sets = { known_sets K.kind K.known };
+}
+
+impl<K: Kind, T: AsStr> WithOwned for Reference<K, T> {
+    ghost use Rattle.std.specs.Prelude.{refl};
+
+    ghost owned_kind = { refl };
+
+    ghost owned_text_is_text = { λ _. refl };
+}
+
+impl<K: Kind, T: AsStr> Reference<K, T> {
+    ghost use Rattle.uri_parts.specs.CoreTexts.{core_text};
+    ghost use Rattle.fluent_uri.specs.References.{reference_text};
+
+    /// Returns the value that holds this.
+    #[doc(hidden)]
+    pub fn of_core(core: Core<K, T>) -> Self
+        ensures { reference_text result ≡ core_text core }
+    {
+        Reference { core }
+    }
+
+    /// Returns what it holds.
+    #[doc(hidden)]
+    pub fn into_core(self) -> Core<K, T>
+        ensures text { core_text result ≡ reference_text self }
+        ensures of_kind { IsOfKind K.kind (core_text result) }
+        ensures utf8 { IsUtf8 (core_text result) }
+    {
+        let _text = self.core.borrow();
+        self.core
+    }
+}
+
+impl<'a, K: Kind> TryFrom<&'a str> for Reference<K, &'a str> {
+    ghost use Rattle.fluent_uri.specs.Parses.{Parses};
+    ghost use Rattle.fluent_uri.specs.References.{reference_text};
+
+    type Error = ParseError;
+
+    ghost try_from_gives = { λ text result. Parses K.kind reference_text text.now result };
+
+    /// The same as `parse`.
+    fn try_from(text: &'a str) -> Result<Self, ParseError> {
+        Reference::<K, &'a str>::parse(text)
+    }
+}
+
+impl<K: Kind> TryFrom<String> for Reference<K, String> {
+    ghost use Rattle.fluent_uri.specs.Parses.{ParsesOwned};
+    ghost use Rattle.fluent_uri.specs.References.{reference_text};
+
+    type Error = (ParseError, String);
+
+    ghost try_from_gives = { λ text result.
+        ParsesOwned K.kind reference_text (string_bytes text) result };
+
+    /// The same as `parse`.
+    fn try_from(text: String) -> Result<Self, (ParseError, String)> {
+        Reference::<K, String>::parse(text)
+    }
+}
+
+impl<K: Kind> From<Reference<K, String>> for String {
+    ghost use Rattle.fluent_uri.specs.References.{reference_text};
+
+    ghost from_gives = { λ value text. string_bytes text ≡ reference_text value };
+
+    /// The same as `into_string`.
+    fn from(value: Reference<K, String>) -> String {
+        value.into_string()
+    }
+}
+
+impl<K: Kind, T: AsStr> fmt::Display for Reference<K, T> {
+    ghost use Rattle.std.specs.Fmt.{styled_text};
+    ghost use Rattle.fluent_uri.specs.References.{reference_text};
+
+    ghost output = { λ value. Some (reference_text value) };
+
+    ghost styled_output = { λ value spec. Some (styled_text spec (reference_text value)) };
+
+    /// Prints the text as it stands, padded and cut as the format asks.
+    fn fmt<W: fmt::Write>(&self, f: &mut fmt::Formatter<W>) -> fmt::Result {
+        f.pad(self.core().as_str())
+    }
+}

@@ -1,0 +1,93 @@
+//! What is made of a value over whichever text, and lends nothing of it.
+ghost use Rattle.std.specs.Prelude.{◌≡◌, IfOk, is_some, option_map};
+ghost use Rattle.uri_pct.specs.EncodedTexts.{text_of};
+ghost use Rattle.uri_parts.specs.Components.{components};
+ghost use Rattle.uri_parts.specs.Fragments.{IsWithFragment};
+ghost use Rattle.uri_parts.specs.SchemePorts.{default_port};
+ghost use Rattle.uri_ops.specs.Normalizers.{IsNormalForm};
+ghost use Rattle.fluent_uri.specs.References.{reference_text};
+
+use crate::reference::Reference;
+use std::alloc::{AllocError, Global};
+use std::convert::AsStr;
+use uri_ops::normalize;
+use uri_ops::traits::RiMaybeRef;
+use uri_parts::kind::Kind;
+use uri_pct::pct_enc::EStr;
+
+impl<K: Kind, T: AsStr> Reference<K, T> {
+    /// Returns whether there is an authority.
+    ///
+    /// # Examples
+    ///
+    /// `http://example.com` has one, and `http:a` has none.
+    pub fn has_authority(&self) -> bool
+        ensures { result ≡ is_some (components (reference_text self.now)).authority }
+    {
+        self.core().has_authority()
+    }
+
+    /// Returns whether there is a query.
+    ///
+    /// # Examples
+    ///
+    /// `http:a?` has one, which is empty, and `http:a` has none.
+    pub fn has_query(&self) -> bool
+        ensures { result ≡ is_some (components (reference_text self.now)).query }
+    {
+        self.core().has_query()
+    }
+
+    /// Returns whether there is a fragment.
+    ///
+    /// # Examples
+    ///
+    /// `http:a#` has one, which is empty, and `http:a` has none.
+    pub fn has_fragment(&self) -> bool
+        ensures { result ≡ is_some (components (reference_text self.now)).fragment }
+    {
+        self.core().has_fragment()
+    }
+
+    /// Returns a copy with this fragment in place of its own, or with none (RFC 3986, section 3.5).
+    ///
+    /// # Errors
+    ///
+    /// Only if memory is refused.
+    ///
+    /// # Examples
+    ///
+    /// Of `http://example.com/` with the fragment `fragment` it is `http://example.com/#fragment`,
+    /// with the empty fragment `http://example.com/#`, and with none `http://example.com/`.
+    pub fn with_fragment(
+        &self,
+        alloc: Global,
+        fragment: Option<EStr<'_, K::FragmentE>>,
+    ) -> Result<Reference<K, String>, AllocError>
+        ensures { IfOk result (λ made.
+            IsWithFragment (reference_text self.now) (option_map text_of fragment.entry)
+            (reference_text made)) }
+    {
+        Ok(Reference {
+            core: self.core().with_fragment(alloc, fragment)?,
+        })
+    }
+
+    /// Returns the normal form: what `Normalizer::new()` returns (RFC 3986, section 6.2.2).
+    ///
+    /// # Errors
+    ///
+    /// Only if memory is refused.
+    ///
+    /// # Examples
+    ///
+    /// `HTTP://Example.com:80/%7efoo` is normalised to `http://example.com/~foo`.
+    /// `HTTP://example.com/%c3%a9` is normalised to `http://example.com/é` as an IRI, and to
+    /// `http://example.com/%C3%A9` as a URI.
+    pub fn normalize(&self, alloc: Global) -> Result<Reference<K, String>, AllocError>
+        ensures { IfOk result (λ normal.
+            IsNormalForm K.kind default_port (reference_text self.now) (reference_text normal)) }
+    {
+        normalize::normal(alloc, self)
+    }
+}

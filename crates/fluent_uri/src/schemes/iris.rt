@@ -1,0 +1,96 @@
+//! The schemes of an `Iri`, which has one (RFC 3987, section 2.2), and of an `IriRef`, which may
+//! have one.
+ghost use Rattle.std.specs.Prelude.{◌≡◌, Some, is_some, option_map};
+ghost use Rattle.uri_parts.specs.Components.{components};
+ghost use Rattle.uri_parts.specs.Schemes.{scheme_text};
+ghost use Rattle.fluent_uri.specs.References.{reference_text};
+
+use crate::reference::Reference;
+use std::convert::AsStr;
+use std::fmt;
+use uri_ops::traits::RiMaybeRef;
+use uri_parts::component::Scheme;
+use uri_parts::kind::{IriKind, IriRefKind};
+
+#[tactic(auto, using(uri_parts::proofs::TextKinds::KindSets::iri_laws))]
+impl<'a> Reference<IriKind, &'a str> {
+    /// Returns the scheme without its `:` (RFC 3986, section 3.1).
+    ///
+    /// # Examples
+    ///
+    /// Of `http://例え.jp/a?b#c` it is `http`.
+    pub fn scheme(self) -> Scheme<'a>
+        ensures { Some (scheme_text result) ≡ (components (reference_text self.entry)).scheme }
+    {
+        self.into_core().needed_scheme()
+    }
+}
+
+impl Reference<IriKind, String> {
+    /// Returns the scheme without its `:` (RFC 3986, section 3.1).
+    ///
+    /// # Examples
+    ///
+    /// Of `http://例え.jp/a?b#c` it is `http`.
+    pub fn scheme(&self) -> Scheme<'_>
+        ensures { Some (scheme_text result) ≡ (components (reference_text self.now)).scheme }
+    {
+        self.borrow().scheme()
+    }
+}
+
+impl<'a> Reference<IriRefKind, &'a str> {
+    /// Returns the scheme without its `:`, if there is one (RFC 3986, section 3.1).
+    ///
+    /// # Examples
+    ///
+    /// Of `http://例え.jp/a?b#c` it is `http`, and of `a` there is none.
+    pub fn scheme(self) -> Option<Scheme<'a>>
+        ensures { option_map scheme_text result ≡ (components (reference_text self.entry)).scheme }
+    {
+        self.into_core().scheme()
+    }
+}
+
+impl Reference<IriRefKind, String> {
+    /// Returns the scheme without its `:`, if there is one (RFC 3986, section 3.1).
+    ///
+    /// # Examples
+    ///
+    /// Of `http://例え.jp/a?b#c` it is `http`, and of `a` there is none.
+    pub fn scheme(&self) -> Option<Scheme<'_>>
+        ensures { option_map scheme_text result ≡ (components (reference_text self.now)).scheme }
+    {
+        self.core().scheme()
+    }
+}
+
+impl<T: AsStr> Reference<IriRefKind, T> {
+    /// Returns whether there is a scheme.
+    ///
+    /// # Examples
+    ///
+    /// `http://例え.jp` has one, and `a` has none.
+    pub fn has_scheme(&self) -> bool
+        ensures { result ≡ is_some (components (reference_text self.now)).scheme }
+    {
+        self.core().has_scheme()
+    }
+}
+
+#[tactic(auto, using(uri_parts::proofs::TextKinds::KindSets::iri_laws))]
+impl<T: AsStr> fmt::Debug for Reference<IriKind, T> {
+    /// Prints the components by name.
+    fn fmt<W: fmt::Write>(&self, f: &mut fmt::Formatter<W>) -> fmt::Result {
+        let core = self.core();
+        core.debug("Iri", core.needed_scheme(), f)
+    }
+}
+
+impl<T: AsStr> fmt::Debug for Reference<IriRefKind, T> {
+    /// Prints the components by name.
+    fn fmt<W: fmt::Write>(&self, f: &mut fmt::Formatter<W>) -> fmt::Result {
+        let core = self.core();
+        core.debug("IriRef", core.scheme(), f)
+    }
+}

@@ -1,0 +1,96 @@
+//! The schemes of a `Uri`, which has one (RFC 3986, section 3), and of a `UriRef`, which may have
+//! one (section 4.1).
+ghost use Rattle.std.specs.Prelude.{◌≡◌, Some, is_some, option_map};
+ghost use Rattle.uri_parts.specs.Components.{components};
+ghost use Rattle.uri_parts.specs.Schemes.{scheme_text};
+ghost use Rattle.fluent_uri.specs.References.{reference_text};
+
+use crate::reference::Reference;
+use std::convert::AsStr;
+use std::fmt;
+use uri_ops::traits::RiMaybeRef;
+use uri_parts::component::Scheme;
+use uri_parts::kind::{UriKind, UriRefKind};
+
+#[tactic(auto, using(uri_parts::proofs::TextKinds::KindSets::uri_laws))]
+impl<'a> Reference<UriKind, &'a str> {
+    /// Returns the scheme without its `:` (RFC 3986, section 3.1).
+    ///
+    /// # Examples
+    ///
+    /// Of `http://example.com/a?b#c` it is `http`.
+    pub fn scheme(self) -> Scheme<'a>
+        ensures { Some (scheme_text result) ≡ (components (reference_text self.entry)).scheme }
+    {
+        self.into_core().needed_scheme()
+    }
+}
+
+impl Reference<UriKind, String> {
+    /// Returns the scheme without its `:` (RFC 3986, section 3.1).
+    ///
+    /// # Examples
+    ///
+    /// Of `http://example.com/a?b#c` it is `http`.
+    pub fn scheme(&self) -> Scheme<'_>
+        ensures { Some (scheme_text result) ≡ (components (reference_text self.now)).scheme }
+    {
+        self.borrow().scheme()
+    }
+}
+
+impl<'a> Reference<UriRefKind, &'a str> {
+    /// Returns the scheme without its `:`, if there is one (RFC 3986, section 3.1).
+    ///
+    /// # Examples
+    ///
+    /// Of `http://example.com/a?b#c` it is `http`, and of `a` there is none.
+    pub fn scheme(self) -> Option<Scheme<'a>>
+        ensures { option_map scheme_text result ≡ (components (reference_text self.entry)).scheme }
+    {
+        self.into_core().scheme()
+    }
+}
+
+impl Reference<UriRefKind, String> {
+    /// Returns the scheme without its `:`, if there is one (RFC 3986, section 3.1).
+    ///
+    /// # Examples
+    ///
+    /// Of `http://example.com/a?b#c` it is `http`, and of `a` there is none.
+    pub fn scheme(&self) -> Option<Scheme<'_>>
+        ensures { option_map scheme_text result ≡ (components (reference_text self.now)).scheme }
+    {
+        self.core().scheme()
+    }
+}
+
+impl<T: AsStr> Reference<UriRefKind, T> {
+    /// Returns whether there is a scheme.
+    ///
+    /// # Examples
+    ///
+    /// `http://example.com` has one, and `a` has none.
+    pub fn has_scheme(&self) -> bool
+        ensures { result ≡ is_some (components (reference_text self.now)).scheme }
+    {
+        self.core().has_scheme()
+    }
+}
+
+#[tactic(auto, using(uri_parts::proofs::TextKinds::KindSets::uri_laws))]
+impl<T: AsStr> fmt::Debug for Reference<UriKind, T> {
+    /// Prints the components by name.
+    fn fmt<W: fmt::Write>(&self, f: &mut fmt::Formatter<W>) -> fmt::Result {
+        let core = self.core();
+        core.debug("Uri", core.needed_scheme(), f)
+    }
+}
+
+impl<T: AsStr> fmt::Debug for Reference<UriRefKind, T> {
+    /// Prints the components by name.
+    fn fmt<W: fmt::Write>(&self, f: &mut fmt::Formatter<W>) -> fmt::Result {
+        let core = self.core();
+        core.debug("UriRef", core.scheme(), f)
+    }
+}

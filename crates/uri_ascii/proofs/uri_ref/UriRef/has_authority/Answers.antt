@@ -1,5 +1,0 @@
-use Rattle.std.proofs.Common.{rules}
-use Rattle.uri_ascii.proofs.uri_ref.UriRef.has_authority.Goals as goal
-
-pub returns : goal.returns
-returns g c = search rules

@@ -1,5 +1,0 @@
-use Rattle.std.proofs.Common.{rules}
-use Rattle.uri_ascii.proofs.uri_ref.owned.UriRef+String.borrow.Goals as goal
-
-pub returns : goal.returns
-returns c = search rules

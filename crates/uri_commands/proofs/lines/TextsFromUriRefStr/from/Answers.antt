@@ -1,5 +1,0 @@
-use Rattle.std.proofs.Common.{rules}
-use Rattle.uri_commands.proofs.lines.TextsFromUriRefStr.from.Goals as goal
-
-pub returns : goal.returns
-returns c = search rules

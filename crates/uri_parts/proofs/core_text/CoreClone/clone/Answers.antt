@@ -1,0 +1,27 @@
+-- A copy of a core is the core: what holds of its fields has one proof.
+use Rattle.std.proofs.Common.{◌≡◌, ℕ, List, ap}
+use Rattle.std.proofs.Props.{props}
+use Rattle.uri_parts.specs.Grammar.{Kind, IsOfKind}
+use Rattle.uri_parts.specs.Positions.{AreAt}
+use Rattle.uri_parts.specs.declared.positions.Positions.{Positions}
+use Rattle.uri_parts.proofs.core_text.CoreClone.clone.Goals as goal
+
+held_once : (kind : Kind) (text : List ℕ) (positions : Positions)
+    → IsProp (IsOfKind kind text × AreAt text positions)
+held_once kind text positions = hlevel props
+
+-- src/core_text.rt:55:5
+pub returns : goal.returns
+returns g c =
+    let text = g.T.AsStr.text c.args.self.now.text in
+    let positions = c.args.self.now.positions in
+    record {
+      cases = ap (λ (held : IsOfKind g.K.Kind.kind text × AreAt text positions). record {
+        text = c.args.self.now.text;
+        positions = positions;
+        kind = record {};
+        of_kind = held.0;
+        at = held.1;
+      }) (held_once g.K.Kind.kind text positions (_, _)
+          (c.args.self.now.of_kind, c.args.self.now.at));
+    }
