@@ -1,105 +1,108 @@
-//! What `vectors` prints for rows that hold and for rows that differ, and the status that it ends
-//! with.
+//! What `vectors` prints for rows that hold, for rows that differ and for malformed rows, and the
+//! status that it ends with.
 use crate::writers::Takes;
 use checks::equal;
-use fluent_uri::ParseErrorKind::UnexpectedChar;
-use fluent_uri::resolve::ResolveError::{BaseWithFragment, InvalidReferenceAgainstOpaqueBase};
 use std::alloc::Global;
 use std::process::Abort;
-use uri_rows::ask::Ask::{
-    NoTarget, Normal, NormalTarget, NormalUnder, Refused, Repeated, Strict, Target,
-};
-use uri_rows::ask::Row;
-use uri_rows::parsed::Kind::{Uri, UriRef};
 use uri_rows::run::run;
+use uri_rows::{Row, push_rows};
 
-/// Two rows that hold, and between them two that differ.
-const ROWS: &[Row] = &[
-    Row("1", &[Refused(Uri, "foo", UnexpectedChar, 3)]),
-    Row("A2", &[Refused(Uri, "foo", UnexpectedChar, 2)]),
-    Row(
-        "A3.1",
-        &[
-            Refused(Uri, "foo", UnexpectedChar, 3),
-            Refused(Uri, "foo:", UnexpectedChar, 3),
-        ],
-    ),
-    Row("4", &[Refused(Uri, ":", UnexpectedChar, 0)]),
-];
-
-fn prints<R: Abort>(rt: &R, alloc: Global, rows: &[Row], status: u8, lines: &str) {
+fn prints<R: Abort>(rt: &R, alloc: Global, text: &str, status: u8, lines: &str) {
+    let mut rows: Vec<Row<'_>> = Vec::new(alloc);
+    push_rows(alloc, "f", text.as_bytes(), &mut rows).expect(rt, text);
     let mut out = Vec::new(alloc);
-    equal(run(alloc, rows, &mut out), status).expect(rt, lines);
+    equal(run(alloc, rows.as_slice(), &mut out), status).expect(rt, lines);
     equal(out.as_slice(), lines.as_bytes()).expect(rt, lines);
 }
 
-#[test]
-fn rows_that_differ_are_named(rt: HostRuntime) {
-    let lines = "fail A2\nfail A3.1\nrows 4 failed 2\n";
-    prints(&rt, rt.alloc(), ROWS, 1, lines);
-}
+/// Rows of each sort that hold, with comments, a blank line, columns, and texts with escapes.
+const HOLD: &str = "\
+# rows that hold
+
+error  uri   foo              -> UnexpectedChar 3
+error  uri   foo\\sbar         -> UnexpectedChar 3
+parse  iri   s:\\u{e9}?\\3{ab}  -> scheme=s path=é query=ababab
+normalize-under uri S://h:1 s 1 -> s://h
+resolve uri s:/a/b ../c -> s:/c
+to-string-lossy a%20b -> owned a\\sb
+";
 
 #[test]
 fn rows_that_hold_are_counted(rt: HostRuntime) {
-    prints(&rt, rt.alloc(), &ROWS[..1], 0, "rows 1 failed 0\n");
+    prints(&rt, rt.alloc(), HOLD, 0, "rows 6 failed 0\n");
+    prints(&rt, rt.alloc(), "", 0, "rows 0 failed 0\n");
 }
 
-/// Rows of normal forms: one of each question that holds, and then some that differ.
-const NORMAL_FORMS: &[Row] = &[
-    Row("1", &[Normal(UriRef, "//@:", "//@")]),
-    Row("2", &[NormalUnder(("s", 1), Uri, "S://h:1", "s://h")]),
-    Row("3", &[Strict(Uri, "s:/a/..", "s:/", false)]),
-    Row(
-        "4",
-        &[Repeated(Uri, &[("s:/", 1), ("../", 2)], &[("s:/", 1)], true)],
-    ),
-    Row("B1", &[Normal(UriRef, "//@:", "//@:")]),
-    Row("B2", &[Normal(Uri, "//@:", "//@")]),
-    Row("B3", &[NormalUnder(("s", 2), Uri, "S://h:1", "s://h")]),
-    Row("B4", &[NormalUnder(("t", 1), Uri, "S://h:1", "s://h")]),
-    Row("B5", &[Strict(Uri, "s:/a/..", "s:/", true)]),
-    Row("B6", &[Strict(Uri, "s:/..", "s:/", false)]),
-    Row("B7", &[Strict(Uri, "s:/..", "s:/..", true)]),
-    Row(
-        "B8",
-        &[Repeated(Uri, &[("s:/", 1), ("a/", 2)], &[("s:/a/", 1)], false)],
-    ),
-];
+/// Rows of which each differs in one thing, and one among them that holds.
+const DIFFER: &str = "\
+error uri foo -> UnexpectedChar 2
+error uri foo -> InvalidPctEncodedOctet 3
+error uri foo -> UnexpectedChar 3
+normalize uri-ref //@: -> //@:
+normalize-under uri S://h:1 t 1 -> s://h
+normalize-strict uri s:/.. -> s:/
+resolve uri s:/a/b ../c -> s:/a/c
+resolve-strict uri s:/a ../c -> s:/c
+resolve uri s:a b -> error BaseWithFragment
+";
+
+const DIFFERENCES: &str = "\
+fail f:1: expected UnexpectedChar 2, got UnexpectedChar 3
+fail f:2: expected InvalidPctEncodedOctet 3, got UnexpectedChar 3
+fail f:4: expected //@:, got //@
+fail f:5: expected s://h, got s://h:1
+fail f:6: expected s:/, got error PathUnderflow
+fail f:7: expected s:/a/c, got s:/c
+fail f:8: expected s:/c, got error PathUnderflow
+fail f:9: expected error BaseWithFragment, got error InvalidReferenceAgainstOpaqueBase
+rows 9 failed 8
+";
 
 #[test]
-fn normal_forms_that_differ_are_named(rt: HostRuntime) {
-    let lines =
-        "fail B1\nfail B2\nfail B3\nfail B4\nfail B5\nfail B6\nfail B7\nfail B8\nrows 12 failed 8\n";
-    prints(&rt, rt.alloc(), NORMAL_FORMS, 1, lines);
+fn rows_that_differ_are_named(rt: HostRuntime) {
+    prints(&rt, rt.alloc(), DIFFER, 1, DIFFERENCES);
 }
 
-/// Rows of targets: one of each question that holds, and then some that differ.
-const TARGETS: &[Row] = &[
-    Row("1", &[Target(Uri, ("s:/a/b", "../c"), "s:/c", false)]),
-    Row(
-        "2",
-        &[NoTarget(Uri, ("s:a", "b"), InvalidReferenceAgainstOpaqueBase)],
-    ),
-    Row("3", &[NormalTarget(Uri, ("S:/a", "%62"), "s:/b")]),
-    Row("B1", &[Target(Uri, ("s:/a/b", "../c"), "s:/a/c", false)]),
-    Row("B2", &[Target(Uri, ("s:/a/b", "../c"), "s:/c", true)]),
-    Row("B3", &[Target(Uri, ("s:/a", "../c"), "s:/c", false)]),
-    Row("B4", &[Target(UriRef, ("s:/a/b", "../c"), "s:/c", false)]),
-    Row("B5", &[NoTarget(Uri, ("s:a", "b"), BaseWithFragment)]),
-    Row("B6", &[NoTarget(Uri, ("s:/a", "b"), BaseWithFragment)]),
-    Row("B7", &[NormalTarget(Uri, ("S:/a", "%62"), "S:/%62")]),
-];
+/// Malformed rows.
+const MALFORMED: &str = "\
+parse uri s:/a
+# a comment
+pars uri s:/a -> path=/a
+parse url s:/a -> path=/a
+parse uri -> path=/a
+parse uri s:/a s:/b -> scheme=s path=/a
+parse uri s:\\x -> scheme=s path=/a
+parse uri s:\\u{110000} -> scheme=s path=/a
+normalize-under uri s:/ s x -> s:/
+resolve uri a b -> b
+";
+
+const FAULTS: &str = "\
+fail f:1: no ` -> `
+fail f:3: no such operation
+fail f:4: no such kind
+fail f:5: a field is missing
+fail f:6: a field too many
+fail f:7: an escape is malformed
+fail f:8: no such character
+fail f:9: a field is not a number
+fail f:10: a text is not of its kind
+rows 9 failed 9
+";
 
 #[test]
-fn targets_that_differ_are_named(rt: HostRuntime) {
-    let lines = "fail B1\nfail B2\nfail B3\nfail B4\nfail B5\nfail B6\nfail B7\nrows 10 failed 7\n";
-    prints(&rt, rt.alloc(), TARGETS, 1, lines);
+fn malformed_rows_are_named(rt: HostRuntime) {
+    prints(&rt, rt.alloc(), MALFORMED, 1, FAULTS);
 }
 
 #[test]
 fn failing_write_is_status_one(rt: HostRuntime) {
+    let alloc = rt.alloc();
+    let row = "error uri foo -> UnexpectedChar 3";
+    let mut rows: Vec<Row<'_>> = Vec::new(alloc);
+    push_rows(alloc, "f", row.as_bytes(), &mut rows).expect(&rt, row);
     for writes in 0..2 {
-        let status = run(rt.alloc(), &ROWS[..1], &mut Takes(writes));
+        let status = run(alloc, rows.as_slice(), &mut Takes(writes));
         equal((writes, status), (writes, 1)).expect(&rt, "status");
     }
 }

@@ -18,3 +18,5 @@ mod targets;
 mod texts;
 #[cfg(test)]
 mod without_memory;
+#[cfg(test)]
+mod without_requests;

@@ -1,10 +1,16 @@
-//! Stored rows of texts and of what `fluent_uri` must answer for them, and their run over any
-//! writer.
+//! Rows of what `fluent_uri` is asked and of what it must return, as texts, and their run over any
+//! writer. `crates/vectors/data/README.txt` says how a row is written.
 #![tactic(auto)]
 
-pub mod ask;
-mod normal;
-pub mod parsed;
-pub mod rows;
+mod answer;
+mod conversions;
+mod encoded;
+mod fields;
+mod operation;
+mod parsed;
+mod references;
+mod row;
 pub mod run;
-mod target;
+mod settings;
+
+pub use row::{Row, push_rows};

@@ -1,162 +1,130 @@
-//! What the accessors of a parsed text answer, as plain texts and numbers.
+//! What the accessors of a value return, as words.
 
-use fluent_uri::component::{Authority, HostOf, Scheme};
-use fluent_uri::pct_enc::EStr;
+use crate::fields::{Fault, Words};
+use fluent_uri::component::{Authority, HostOf, Scheme, SocketTarget};
 use fluent_uri::pct_enc::encoder::Encoder;
-use fluent_uri::{Iri, IriRef, ParseError, Uri, UriRef};
+use fluent_uri::pct_enc::{CowStr, EStr};
+use fluent_uri::{ParseErrorKind, RiMaybeRef};
+use std::alloc::{AllocError, Global};
 
-/// A kind that a text is parsed as.
-#[derive(Clone, Copy)]
-pub enum Kind {
-    /// A URI.
-    Uri,
-    /// A URI reference.
-    UriRef,
-    /// An IRI.
-    Iri,
-    /// An IRI reference.
-    IriRef,
+/// Says the components that are present (RFC 3986, section 3).
+pub(crate) fn say_components<R: RiMaybeRef>(
+    value: &R,
+    words: &mut Words,
+) -> Result<(), AllocError> {
+    words.named("scheme", value.scheme_opt().map(Scheme::as_str))?;
+    words.named("authority", value.authority().map(Authority::as_str))?;
+    words.named("path", Some(value.path().as_str()))?;
+    words.named("query", value.query().map(EStr::as_str))?;
+    words.named("fragment", value.fragment().map(EStr::as_str))
 }
 
-/// The components of a reference (RFC 3986, section 3).
-#[derive(Clone, Copy, PartialEq, Eq)]
-pub struct Components<'a> {
-    /// The text before the first `:` that ends a scheme.
-    pub scheme: Option<&'a str>,
-    /// The text behind `//`.
-    pub authority: Option<&'a str>,
-    /// The path, which may be empty.
-    pub path: &'a str,
-    /// The text behind `?`.
-    pub query: Option<&'a str>,
-    /// The text behind `#`.
-    pub fragment: Option<&'a str>,
-}
-
-/// No component but an empty path.
-pub const EMPTY: Components<'static> = Components {
-    scheme: None,
-    authority: None,
-    path: "",
-    query: None,
-    fragment: None,
-};
-
-/// The parts of an authority (RFC 3986, section 3.2).
-#[derive(Clone, Copy, PartialEq, Eq)]
-pub struct AuthorityParts<'a> {
-    /// The text before the `@`.
-    pub userinfo: Option<&'a str>,
-    /// The host, with the brackets that it has.
-    pub host: &'a str,
-    /// The digits behind the `:`, which may be none.
-    pub port: Option<&'a str>,
-}
-
-/// A host by its kind: an address by its numbers, a registered name by its text.
-#[derive(Clone, Copy, PartialEq, Eq)]
-pub enum HostValue<'a> {
-    /// An IPv4 address.
-    Ipv4([u8; 4]),
-    /// An IPv6 address.
-    Ipv6([u16; 8]),
-    /// An address of a later version.
-    IpvFuture,
-    /// A registered name.
-    RegName(&'a str),
-}
-
-/// What the accessors of a parsed text answer; `authority` and `host` are of its authority.
-#[derive(Clone, Copy)]
-pub(crate) struct Parsed<'a> {
-    pub(crate) components: Components<'a>,
-    pub(crate) authority: Option<AuthorityParts<'a>>,
-    pub(crate) host: Option<HostValue<'a>>,
-}
-
-impl<'a> Parsed<'a> {
-    /// Parses the text as the kind, and asks its accessors.
-    pub(crate) fn of(kind: Kind, text: &'a str) -> Result<Parsed<'a>, ParseError> {
-        match kind {
-            Kind::Uri => {
-                let uri = Uri::<&str>::parse(text)?;
-                Ok(Parsed::new(
-                    Some(uri.scheme()),
-                    uri.authority(),
-                    uri.path(),
-                    uri.query(),
-                    uri.fragment(),
-                ))
-            }
-            Kind::UriRef => {
-                let reference = UriRef::<&str>::parse(text)?;
-                Ok(Parsed::new(
-                    reference.scheme(),
-                    reference.authority(),
-                    reference.path(),
-                    reference.query(),
-                    reference.fragment(),
-                ))
-            }
-            Kind::Iri => {
-                let iri = Iri::<&str>::parse(text)?;
-                Ok(Parsed::new(
-                    Some(iri.scheme()),
-                    iri.authority(),
-                    iri.path(),
-                    iri.query(),
-                    iri.fragment(),
-                ))
-            }
-            Kind::IriRef => {
-                let reference = IriRef::<&str>::parse(text)?;
-                Ok(Parsed::new(
-                    reference.scheme(),
-                    reference.authority(),
-                    reference.path(),
-                    reference.query(),
-                    reference.fragment(),
-                ))
-            }
-        }
+/// Says the components of an authority (RFC 3986, section 3.2).
+pub(crate) fn say_authority<U: Encoder, R: Encoder>(
+    authority: Authority<'_, U, R>,
+    words: &mut Words,
+) -> Result<(), AllocError> {
+    words.named("userinfo", authority.userinfo().map(EStr::as_str))?;
+    words.named("host", Some(authority.host()))?;
+    words.named("port", authority.port().map(EStr::as_str))?;
+    if authority.has_userinfo() != authority.userinfo().is_some() {
+        words.verbatim("has_userinfo")?;
     }
-
-    fn new<U: Encoder, R: Encoder, P: Encoder, Q: Encoder, F: Encoder>(
-        scheme: Option<Scheme<'a>>,
-        authority: Option<Authority<'a, U, R>>,
-        path: EStr<'a, P>,
-        query: Option<EStr<'a, Q>>,
-        fragment: Option<EStr<'a, F>>,
-    ) -> Parsed<'a> {
-        Parsed {
-            components: Components {
-                scheme: scheme.map(Scheme::as_str),
-                authority: authority.map(Authority::as_str),
-                path: path.as_str(),
-                query: query.map(EStr::as_str),
-                fragment: fragment.map(EStr::as_str),
-            },
-            authority: authority.map(authority_parts),
-            host: authority.map(host_value),
-        }
+    if authority.has_port() != authority.port().is_some() {
+        words.verbatim("has_port")?;
     }
+    Ok(())
 }
 
-fn authority_parts<'a, U: Encoder, R: Encoder>(
-    authority: Authority<'a, U, R>,
-) -> AuthorityParts<'a> {
-    AuthorityParts {
-        userinfo: authority.userinfo().map(EStr::as_str),
-        host: authority.host(),
-        port: authority.port().map(EStr::as_str),
-    }
-}
-
-fn host_value<'a, U: Encoder, R: Encoder>(authority: Authority<'a, U, R>) -> HostValue<'a> {
+/// Says what the host of an authority is (RFC 3986, section 3.2.2).
+pub(crate) fn say_host<U: Encoder, R: Encoder>(
+    alloc: Global,
+    authority: Authority<'_, U, R>,
+    words: &mut Words,
+) -> Result<(), AllocError> {
     match authority.host_parsed() {
-        HostOf::Ipv4(address) => HostValue::Ipv4(address.octets()),
-        HostOf::Ipv6(address) => HostValue::Ipv6(address.segments()),
-        HostOf::IpvFuture => HostValue::IpvFuture,
-        HostOf::RegName(name) => HostValue::RegName(name.as_str()),
+        HostOf::Ipv4(address) => {
+            words.verbatim("ipv4")?;
+            for octet in address.octets() {
+                words.verbatim(format!(in alloc; "{octet}")?.as_str())?;
+            }
+            Ok(())
+        }
+        HostOf::Ipv6(address) => {
+            words.verbatim("ipv6")?;
+            for segment in address.segments() {
+                words.verbatim(format!(in alloc; "{segment:x}")?.as_str())?;
+            }
+            Ok(())
+        }
+        HostOf::IpvFuture => words.verbatim("ipvfuture"),
+        HostOf::RegName(name) => {
+            words.verbatim("name")?;
+            words.text(name.as_str())
+        }
     }
+}
+
+/// Says the port as a number (RFC 3986, section 3.2.3).
+pub(crate) fn say_port<U: Encoder, R: Encoder>(
+    alloc: Global,
+    authority: Authority<'_, U, R>,
+    words: &mut Words,
+) -> Result<(), AllocError> {
+    match authority.port_to_u16() {
+        Ok(Some(port)) => words.verbatim(format!(in alloc; "{port}")?.as_str()),
+        Ok(None) => words.verbatim("none"),
+        Err(_) => words.verbatim("error"),
+    }
+}
+
+/// Says where to connect, at the default port 80.
+pub(crate) fn say_socket<U: Encoder, R: Encoder>(
+    alloc: Global,
+    authority: Authority<'_, U, R>,
+    words: &mut Words,
+) -> Result<(), AllocError> {
+    match authority.socket_target(alloc, 80) {
+        Ok(SocketTarget::V4(address, port)) => {
+            words.verbatim(format!(in alloc; "V4 {address} {port}")?.as_str())
+        }
+        Ok(SocketTarget::V6(address, port)) => {
+            words.verbatim(format!(in alloc; "V6 {address} {port}")?.as_str())
+        }
+        Ok(SocketTarget::Name(name, port)) => {
+            say_cow(&name, words)?;
+            words.verbatim(format!(in alloc; "{port}")?.as_str())
+        }
+        Err(error) => words.verbatim(format!(in alloc; "{error:?}")?.as_str()),
+    }
+}
+
+/// Says a text, and whether it is borrowed.
+pub(crate) fn say_cow(text: &CowStr<'_>, words: &mut Words) -> Result<(), AllocError> {
+    match text {
+        CowStr::Borrowed(text) => {
+            words.verbatim("borrowed")?;
+            words.text(text)
+        }
+        CowStr::Owned(text) => {
+            words.verbatim("owned")?;
+            words.text(text.as_str())
+        }
+    }
+}
+
+/// The name of a kind of error.
+pub(crate) fn name_of(kind: ParseErrorKind) -> &'static str {
+    match kind {
+        ParseErrorKind::InvalidPctEncodedOctet => "InvalidPctEncodedOctet",
+        ParseErrorKind::UnexpectedChar => "UnexpectedChar",
+        ParseErrorKind::InvalidIpv6Addr => "InvalidIpv6Addr",
+    }
+}
+
+/// The authority of a value that has one.
+pub(crate) fn authority_of<R: RiMaybeRef>(
+    value: &R,
+) -> Result<Authority<'_, R::UserinfoE, R::RegNameE>, Fault> {
+    value.authority().ok_or(Fault::NoAuthority)
 }

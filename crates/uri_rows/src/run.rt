@@ -1,18 +1,18 @@
-//! The run of stored rows, over any writer.
+//! The run of rows, over any writer.
 ghost use Rattle.std.specs.Prelude.{◌≡◌, ◌≤◌, length, Ok};
 ghost use Rattle.std.specs.Io.KnownBytes.{Appends, Keeps};
 ghost use Rattle.uri_rows.specs.Lines.{summary};
 
-use crate::ask::Row;
+use crate::row::{Difference, Row};
 use std::alloc::Global;
 use std::io::{self, Write};
 
-/// Runs each row, writes `fail ID` for each that differs and last `rows N failed M`, and answers
-/// the exit status.
+/// Runs each row, writes a line `fail FILE:LINE: ..` for each that differs and last
+/// `rows N failed M`, and returns the exit status.
 ///
-/// 0: no row differs, and `out` got the last line alone. 1: a row differs, or `out` failed, which
-/// ends the run.
-pub fn run<O: Write>(alloc: Global, rows: &[Row], out: &mut O) -> u8
+/// 0: no row differs, and `out` got the last line alone. 1: a row differs or is malformed, or `out`
+/// failed, which ends the run.
+pub fn run<O: Write>(alloc: Global, rows: &[Row<'_>], out: &mut O) -> u8
     ensures passed { result ≡ 0 → Appends (O.contents out.old) (O.contents out.new)
         (summary (length rows.now) 0) }
     ensures status { result ≤ 1 }
@@ -23,8 +23,8 @@ pub fn run<O: Write>(alloc: Global, rows: &[Row], out: &mut O) -> u8
     }
 }
 
-/// Writes the lines, and answers how many rows differ.
-fn report<O: Write>(alloc: Global, rows: &[Row], out: &mut O) -> io::Result<usize>
+/// Writes the lines, and returns how many rows differ.
+fn report<O: Write>(alloc: Global, rows: &[Row<'_>], out: &mut O) -> io::Result<usize>
     ensures { result ≡ Ok 0 → Appends (O.contents out.old) (O.contents out.new)
         (summary (length rows.now) 0) }
 {
@@ -33,16 +33,28 @@ fn report<O: Write>(alloc: Global, rows: &[Row], out: &mut O) -> io::Result<usiz
     Ok(failed)
 }
 
-/// Writes a line for each row that differs, and answers how many these are.
-fn report_failures<O: Write>(alloc: Global, rows: &[Row], out: &mut O) -> io::Result<usize>
+/// Writes a line for each row that differs, and returns how many these are.
+fn report_failures<O: Write>(alloc: Global, rows: &[Row<'_>], out: &mut O) -> io::Result<usize>
     ensures { result ≡ Ok 0 → Keeps (O.contents out.old) (O.contents out.new) }
 {
     let mut failed: usize = 0;
     for row in rows {
-        if !row.holds(alloc) {
-            writeln!(out, "fail {}", row.id())?;
+        if let Err(difference) = row.check(alloc) {
+            print_failure(row, &difference, out)?;
             failed = failed.saturating_add(1);
         }
     }
     Ok(failed)
+}
+
+/// Writes where a row is, and what is wrong with it.
+fn print_failure<O: Write>(row: &Row<'_>, difference: &Difference, out: &mut O) -> io::Result<()> {
+    let (file, line) = (row.file, row.line);
+    match difference {
+        Difference::Fault(fault) => writeln!(out, "fail {file}:{line}: {fault}"),
+        Difference::Answer { expected, got } => {
+            let (expected, got) = (expected.as_str(), got.as_str());
+            writeln!(out, "fail {file}:{line}: expected {expected}, got {got}")
+        }
+    }
 }

@@ -1,14 +1,20 @@
-//! Stored rows of texts and of what `fluent_uri` must answer for them, run one after the other.
+//! Runs the rows of the files that are its arguments, as `crates/vectors/data` has them.
 #![tactic(auto)]
 
+use std::env;
+use std::fs::File;
+use std::io::{self, BufReader, ErrorKind};
 use std::process::ExitCode;
-use uri_rows::rows;
 use uri_rows::run::run;
+use uri_rows::{Row, push_rows};
 
-fn main(rt: HostRuntime) -> ExitCode {
+fn main(rt: HostRuntime) -> io::Result<ExitCode> {
     let alloc = rt.alloc();
-    match rows::all(alloc) {
-        Ok(rows) => ExitCode::from(run(alloc, rows.as_slice(), &mut rt.stdout())),
-        Err(_) => ExitCode::from(1),
+    let files: Vec<String> = env::args(&rt)?.skip(1).collect(alloc)?;
+    let mut rows: Vec<Row<'_>> = Vec::new(alloc);
+    for file in files.as_slice() {
+        let reader = BufReader::new(alloc, File::open(&rt, file.as_str())?)?;
+        push_rows(alloc, file.as_str(), reader, &mut rows)?;
     }
+    Ok(ExitCode::from(run(alloc, rows.as_slice(), &mut rt.stdout())))
 }

@@ -1,0 +1,204 @@
+//! What texts and bytes are encoded as, at the encoders of the components and at a caller's own.
+ghost use Rattle.std.specs.Prelude.{◌≡◌, ◌∷◌, [], refl, true};
+ghost use Rattle.fluent_uri.specs.Sets.{plain, difference, is_one_of, path_set};
+
+use checks::{equal, prints};
+use fluent_uri::pct_enc::encoder::{Data, Encoder, IData, Path, Query};
+use fluent_uri::pct_enc::{EStr, EString, Table, table};
+use std::cmp::Ordering;
+use std::process::Abort;
+
+/// No character and no octet.
+pub(crate) struct Nothing;
+
+impl Encoder for Nothing {
+    ghost set = { plain (is_one_of []) };
+
+    fn table() -> Table {
+        Table::new(b"")
+    }
+
+    ghost lacks_percent = { refl };
+}
+
+/// Octets alone.
+pub(crate) struct Octets;
+
+impl Encoder for Octets {
+    ghost set = { record (plain (is_one_of [])) { pct_encoded = true } };
+
+    fn table() -> Table {
+        Nothing::table().or_pct_encoded()
+    }
+
+    ghost lacks_percent = { refl };
+}
+
+/// The characters of `iprivate` alone.
+pub(crate) struct Private;
+
+impl Encoder for Private {
+    ghost set = { record (plain (is_one_of [])) { iprivate = true } };
+
+    fn table() -> Table {
+        Nothing::table().or_iprivate()
+    }
+
+    ghost lacks_percent = { refl };
+}
+
+/// A path without `/`.
+struct Segment;
+
+impl Encoder for Segment {
+    ghost set = { difference path_set (plain (is_one_of (47 ∷ []))) };
+
+    fn table() -> Table {
+        Path::table().sub(&Table::new(b"/"))
+    }
+
+    ghost lacks_percent = { refl };
+}
+
+/// The value where there is one, which the test asks for.
+pub(crate) fn valid<'a, R: Abort, E: Encoder>(rt: &R, text: &'a str) -> EStr<'a, E> {
+    EStr::new(text).expect(rt, text)
+}
+
+fn push<R: Abort, E: Encoder>(rt: &R, text: &mut EString<E>, ch: char) {
+    assert!(rt; E::table().allows(ch));
+    text.push(ch).expect(rt, "memory");
+}
+
+fn encode_str<R: Abort, E: Encoder, SubE: Encoder>(rt: &R, text: &mut EString<E>, more: &str) {
+    assert!(rt; SubE::table().is_subset(&E::table()));
+    assert!(rt; SubE::table().allows_pct_encoded());
+    text.encode_str::<SubE>(more).expect(rt, more);
+}
+
+fn encode_bytes<R: Abort, E: Encoder, SubE: Encoder>(rt: &R, text: &mut EString<E>, more: &[u8]) {
+    assert!(rt; SubE::table().is_subset(&E::table()));
+    assert!(rt; SubE::table().allows_pct_encoded());
+    text.encode_bytes::<SubE>(more).expect(rt, "memory");
+}
+
+fn push_estr<R: Abort, E: Encoder>(rt: &R, text: &mut EString<E>, more: &str) {
+    text.push_estr(valid(rt, more)).expect(rt, more);
+}
+
+fn is_text<R: Abort, E: Encoder>(rt: &R, text: &EString<E>, wanted: &str) {
+    equal(text.as_estr().as_str(), wanted).expect(rt, wanted);
+}
+
+#[test]
+fn pairs_of_a_query(rt: HostRuntime) {
+    let mut query = EString::<Query>::new(rt.alloc());
+    equal(query.as_estr().is_empty(), true).expect(&rt, "new");
+    encode_str::<_, _, Data>(&rt, &mut query, "name");
+    push(&rt, &mut query, '=');
+    encode_str::<_, _, Data>(&rt, &mut query, "张三");
+    push(&rt, &mut query, '&');
+    encode_str::<_, _, Data>(&rt, &mut query, "speech");
+    push(&rt, &mut query, '=');
+    encode_str::<_, _, Data>(&rt, &mut query, "¡Olé!");
+    let wanted = "name=%E5%BC%A0%E4%B8%89&speech=%C2%A1Ol%C3%A9%21";
+    is_text(&rt, &query, wanted);
+    equal(query.into_string().as_str(), wanted).expect(&rt, wanted);
+}
+
+#[test]
+fn a_slash_in_a_segment(rt: HostRuntime) {
+    let mut path = EString::<Path>::new(rt.alloc());
+    push(&rt, &mut path, '/');
+    encode_str::<_, _, Segment>(&rt, &mut path, "foo/bar");
+    is_text(&rt, &path, "/foo%2Fbar");
+}
+
+/// RFC 3986, section 2.4: a `%` of the data is encoded too.
+#[test]
+fn percent_of_the_data(rt: HostRuntime) {
+    let mut path = EString::<Path>::new(rt.alloc());
+    encode_str::<_, _, Path>(&rt, &mut path, "%41");
+    push_estr(&rt, &mut path, "%41");
+    is_text(&rt, &path, "%2541%41");
+}
+
+/// RFC 3986, section 2.3, and RFC 3987, section 2.2.
+#[test]
+fn encoders_of_data(rt: HostRuntime) {
+    let mut data = EString::<Data>::new(rt.alloc());
+    let mut idata = EString::<IData>::new(rt.alloc());
+    encode_str::<_, _, Data>(&rt, &mut data, "a-._~é/?\u{E000}");
+    encode_str::<_, _, IData>(&rt, &mut idata, "a-._~é/?\u{E000}");
+    is_text(&rt, &data, "a-._~%C3%A9%2F%3F%EE%80%80");
+    is_text(&rt, &idata, "a-._~é%2F%3F%EE%80%80");
+    let others = Data::table().sub(&table::UNRESERVED);
+    equal(table::UNRESERVED.is_subset(&Data::table()), true).expect(&rt, "unreserved");
+    equal(others.is_subset(&Octets::table()), true).expect(&rt, "octets");
+}
+
+#[test]
+fn own_encoders(rt: HostRuntime) {
+    let mut octets = EString::<Octets>::new(rt.alloc());
+    encode_str::<_, _, Octets>(&rt, &mut octets, "a%é");
+    encode_bytes::<_, _, Octets>(&rt, &mut octets, b"\xFFb");
+    is_text(&rt, &octets, "%61%25%C3%A9%FF%62");
+    let mut private = EString::<Private>::with_capacity(rt.alloc(), 8).expect(&rt, "memory");
+    equal(private.capacity() >= 8, true).expect(&rt, "capacity");
+    push(&rt, &mut private, '\u{E000}');
+    push_estr(&rt, &mut private, "\u{10FFFD}");
+    is_text(&rt, &private, "\u{E000}\u{10FFFD}");
+    let mut nothing = EString::<Nothing>::new(rt.alloc());
+    push_estr(&rt, &mut nothing, "");
+    equal(nothing.into_string().as_str(), "").expect(&rt, "nothing");
+}
+
+#[test]
+fn what_own_encoders_refuse(rt: HostRuntime) {
+    let refused = [
+        EStr::<Private>::new("a").is_none(),
+        EStr::<Private>::new("é").is_none(),
+        EStr::<Private>::new("%61").is_none(),
+        EStr::<Nothing>::new("\u{E000}").is_none(),
+        EStr::<Octets>::new("a").is_none(),
+        !Private::table().is_subset(&Path::table()),
+        !Private::table().allows_pct_encoded(),
+        !Path::table().is_subset(&Segment::table()),
+    ];
+    equal(refused, [true; 8]).expect(&rt, "refused");
+}
+
+#[test]
+fn cleared_texts(rt: HostRuntime) {
+    let mut path = EString::<Segment>::new(rt.alloc());
+    equal(path.as_estr() == EStr::EMPTY, true).expect(&rt, "new");
+    push(&rt, &mut path, 'a');
+    let capacity = path.capacity();
+    path.clear();
+    is_text(&rt, &path, "");
+    equal(path.capacity(), capacity).expect(&rt, "capacity");
+    push(&rt, &mut path, 'b');
+    is_text(&rt, &path, "b");
+}
+
+#[test]
+fn owned_texts_compare_by_bytes(rt: HostRuntime) {
+    let (a, b) = (
+        valid::<_, Segment>(&rt, "a%41"),
+        valid::<_, Segment>(&rt, "ab"),
+    );
+    let first = a.to_owned(rt.alloc()).expect(&rt, "memory");
+    let second = b.to_owned(rt.alloc()).expect(&rt, "memory");
+    let third = a.to_owned(rt.alloc()).expect(&rt, "memory");
+    is_text(&rt, &first, "a%41");
+    let compared = [first == third, first != second, first < second];
+    equal(compared, [true; 3]).expect(&rt, "comparisons");
+    equal(second.cmp(&first), Ordering::Greater).expect(&rt, "order");
+    prints(rt.alloc(), &second, "ab").expect(&rt, "Display");
+}
+
+#[test]
+fn room_that_is_refused(rt: HostRuntime) {
+    let text = EString::<Path>::with_capacity(rt.alloc(), usize::MAX);
+    equal(text.is_err(), true).expect(&rt, "capacity");
+}

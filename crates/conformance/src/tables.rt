@@ -1,0 +1,37 @@
+//! Tables that are combined.
+use checks::equal;
+use fluent_uri::pct_enc::Table;
+use std::process::Abort;
+
+/// The table has these characters, and no others up to 127, nor `é`.
+fn has_characters<R: Abort>(rt: &R, table: &Table, characters: &str) {
+    for code in 0..128u8 {
+        let ch = char::from(code);
+        let wanted = characters.contains(ch);
+        equal((ch, table.allows(ch)), (ch, wanted)).expect(rt, characters);
+    }
+    equal(table.allows('é'), false).expect(rt, characters);
+}
+
+#[test]
+fn tables_combine(rt: HostRuntime) {
+    let (ab, bc) = (Table::new(b"ab"), Table::new(b"bc"));
+    has_characters(&rt, &ab.or(&bc), "abc");
+    has_characters(&rt, &ab.sub(&bc), "a");
+    let subsets = [
+        ab.is_subset(&ab.or(&bc)),
+        ab.is_subset(&bc),
+        ab.or_pct_encoded().is_subset(&ab),
+    ];
+    equal(subsets, [true, false, false]).expect(&rt, "subsets");
+    let past_ascii = [
+        ab.or_ucschar().allows('é'),
+        ab.or_ucschar().allows('\u{E000}'),
+        ab.or_iprivate().allows('\u{E000}'),
+        ab.or_ucschar()
+            .or_iprivate()
+            .sub(&ab.or_ucschar())
+            .allows('é'),
+    ];
+    equal(past_ascii, [true, false, true, false]).expect(&rt, "past ASCII");
+}

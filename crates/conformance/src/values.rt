@@ -1,0 +1,136 @@
+//! Values of a text: made by `TryFrom`, resolved by their own calls, and with one fragment after
+//! another; what outlives them, and what a scheme prints.
+use checks::{equal, prints};
+use fluent_uri::component::Scheme;
+use fluent_uri::pct_enc::EStr;
+use fluent_uri::pct_enc::encoder::{Encoder, Fragment};
+use fluent_uri::resolve::ResolveError;
+use fluent_uri::{Iri, IriRef, RiMaybeRef, Uri, UriRef};
+use std::process::Abort;
+
+#[test]
+fn converts_from_text(rt: HostRuntime) {
+    let reference: UriRef<&str> = "/a".try_into().expect(&rt, "/a");
+    equal(reference.as_str(), "/a").expect(&rt, "/a");
+    UriRef::try_from("a b").err().expect(&rt, "a b");
+}
+
+#[test]
+fn path_outlives_its_reference(rt: HostRuntime) {
+    let text = String::from_str(rt.alloc(), "/a?b").expect(&rt, "memory");
+    let path = {
+        let reference = UriRef::<&str>::parse(text.as_str()).expect(&rt, "/a?b");
+        reference.path()
+    };
+    equal(path.as_str(), "/a").expect(&rt, "/a?b");
+}
+
+/// The components that are present, as the calls of each kind say.
+#[test]
+fn presence_of_components(rt: HostRuntime) {
+    for (text, wanted) in [("s://h?q#f", true), ("s:/p", false)] {
+        let uri = Uri::<&str>::parse(text).expect(&rt, text);
+        let has = (uri.has_authority(), uri.has_query(), uri.has_fragment());
+        equal(has, (wanted, wanted, wanted)).expect(&rt, text);
+        let iri = Iri::<&str>::parse(text).expect(&rt, text);
+        let has = (iri.has_authority(), iri.has_query(), iri.has_fragment());
+        equal(has, (wanted, wanted, wanted)).expect(&rt, text);
+    }
+    for (text, wanted) in [("s://h?q#f", true), ("/p", false)] {
+        let reference = UriRef::<&str>::parse(text).expect(&rt, text);
+        let has = (reference.has_scheme(), reference.has_authority());
+        equal(has, (wanted, wanted)).expect(&rt, text);
+        let has = (reference.has_query(), reference.has_fragment());
+        equal(has, (wanted, wanted)).expect(&rt, text);
+        let reference = IriRef::<&str>::parse(text).expect(&rt, text);
+        let has = (reference.has_scheme(), reference.has_authority());
+        equal(has, (wanted, wanted)).expect(&rt, text);
+        let has = (reference.has_query(), reference.has_fragment());
+        equal(has, (wanted, wanted)).expect(&rt, text);
+    }
+}
+
+#[test]
+fn schemes_stand_as_they_are(rt: HostRuntime) {
+    let text = "HtTp";
+    equal(Scheme::new("1a").is_none(), true).expect(&rt, "1a");
+    assert!(rt; Scheme::new(text).is_some());
+    let scheme = Scheme::new_or_panic(text);
+    equal(scheme.as_str(), text).expect(&rt, text);
+    prints(rt.alloc(), &scheme, text).expect(&rt, text);
+}
+
+fn is_target<A: Abort, R: RiMaybeRef + Drop>(
+    rt: &A,
+    target: Result<R, ResolveError>,
+    wanted: &str,
+) {
+    equal(target.expect(rt, wanted).as_str(), wanted).expect(rt, wanted);
+}
+
+/// RFC 3987, sections 3.1 and 6.5.
+#[test]
+fn iris_and_their_uris(rt: HostRuntime) {
+    let alloc = rt.alloc();
+    let base = Iri::<&str>::parse("http://é/a/b").expect(&rt, "a base");
+    let reference = IriRef::<&str>::parse("../ü").expect(&rt, "a reference");
+    is_target(&rt, reference.resolve_against(alloc, &base), "http://é/ü");
+    let owned_base = base.to_owned(alloc).expect(&rt, "memory");
+    let owned = reference.to_owned(alloc).expect(&rt, "memory");
+    is_target(&rt, owned.resolve_against(alloc, &owned_base), "http://é/ü");
+    let encoded_base = base.to_uri(alloc).expect(&rt, "memory");
+    let encoded = reference.to_uri_ref(alloc).expect(&rt, "memory");
+    let target = encoded.resolve_against(alloc, &encoded_base);
+    is_target(&rt, target, "http://%C3%A9/%C3%BC");
+}
+
+/// The fragment, or none: `None` stands for a fragment that is taken away.
+fn fragment_of<'a, R: Abort, E: Encoder>(rt: &R, text: Option<&'a str>) -> Option<EStr<'a, E>> {
+    Some(EStr::new(text?).expect(rt, "a fragment"))
+}
+
+/// Fragments that one value is given one after another, and what it is then.
+const ONE_AFTER_ANOTHER: &[(Option<&str>, &str)] = &[
+    (Some("one"), "//h/p?q#one"),
+    (Some("another"), "//h/p?q#another"),
+    (Some(""), "//h/p?q#"),
+    (Some("more"), "//h/p?q#more"),
+    (None, "//h/p?q"),
+];
+
+/// The others of its components stay.
+#[test]
+fn one_fragment_after_another(rt: HostRuntime) {
+    let reference = UriRef::<&str>::parse("//h/p?q").expect(&rt, "//h/p?q");
+    let mut value = reference.to_owned(rt.alloc()).expect(&rt, "//h/p?q");
+    for &(given, wanted) in ONE_AFTER_ANOTHER {
+        let fragment = fragment_of::<_, Fragment>(&rt, given);
+        value.set_fragment(fragment).expect(&rt, wanted);
+        equal(value.as_str(), wanted).expect(&rt, wanted);
+        equal(value.query().map(EStr::as_str), Some("q")).expect(&rt, wanted);
+    }
+}
+
+#[test]
+fn texts_of_each_kind(rt: HostRuntime) {
+    let text = "http://example.com/?q#f";
+    let uri = Uri::<&str>::parse(text)
+        .expect(&rt, text)
+        .to_owned(rt.alloc());
+    equal(String::from(uri.expect(&rt, text)).as_str(), text).expect(&rt, "a URI");
+    let text = "../a?q";
+    let reference = UriRef::<&str>::parse(text)
+        .expect(&rt, text)
+        .to_owned(rt.alloc());
+    equal(String::from(reference.expect(&rt, text)).as_str(), text).expect(&rt, "a URI reference");
+    let text = "http://résumé.example.org/";
+    let iri = Iri::<&str>::parse(text)
+        .expect(&rt, text)
+        .to_owned(rt.alloc());
+    equal(String::from(iri.expect(&rt, text)).as_str(), text).expect(&rt, "an IRI");
+    let text = "../é?q";
+    let reference = IriRef::<&str>::parse(text)
+        .expect(&rt, text)
+        .to_owned(rt.alloc());
+    equal(String::from(reference.expect(&rt, text)).as_str(), text).expect(&rt, "an IRI reference");
+}

@@ -1,5 +1,0 @@
-//! What becomes of long texts.
-#![tactic(auto)]
-
-#[cfg(test)]
-mod runs;

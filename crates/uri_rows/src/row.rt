@@ -1,0 +1,83 @@
+//! Rows as they stand in a file.
+
+use crate::answer::answer;
+use crate::fields::{Fault, Words, unescaped};
+use std::alloc::Global;
+use std::io::{self, BufRead};
+
+/// A row: where it stands, and its text.
+#[derive(Drop)]
+pub struct Row<'f> {
+    pub(crate) file: &'f str,
+    pub(crate) line: u64,
+    text: String,
+}
+
+/// Appends the rows of a file, which are its lines but for blank ones and those that begin with
+/// `#`.
+///
+/// # Errors
+///
+/// If the reader fails, a line is not UTF-8, or memory runs out.
+pub fn push_rows<'f, R: BufRead + Drop>(
+    alloc: Global,
+    file: &'f str,
+    reader: R,
+    rows: &mut Vec<Row<'f>>,
+) -> io::Result<()> {
+    let mut number: u64 = 0;
+    for line in reader.lines(alloc) {
+        let text = line?;
+        number = number.saturating_add(1);
+        if !text.trim().is_empty() && !text.starts_with('#') {
+            rows.push(Row {
+                file,
+                line: number,
+                text,
+            })?;
+        }
+    }
+    Ok(())
+}
+
+/// What is wrong with a row that does not hold.
+#[derive(Drop)]
+pub(crate) enum Difference {
+    /// The row has no answer.
+    Fault(Fault),
+    /// The answer is another one.
+    Answer { expected: Words, got: Words },
+}
+
+impl From<Fault> for Difference {
+    fn from(fault: Fault) -> Difference {
+        Difference::Fault(fault)
+    }
+}
+
+impl Row<'_> {
+    /// Compares the answer with the expected one.
+    pub(crate) fn check(&self, alloc: Global) -> Result<(), Difference> {
+        let Some((asked, wanted)) = self.text.split_once(" -> ") else {
+            return Err(Difference::Fault(Fault::NoArrow));
+        };
+        let expected = canonical(alloc, wanted)?;
+        let got = answer(alloc, asked)?;
+        if got.as_str() == expected.as_str() {
+            Ok(())
+        } else {
+            Err(Difference::Answer { expected, got })
+        }
+    }
+}
+
+/// The words with one space between two of them, each escaped as answers are.
+fn canonical(alloc: Global, wanted: &str) -> Result<Words, Fault> {
+    let mut words = Words::new(alloc);
+    for word in wanted.split(' ') {
+        if !word.is_empty() {
+            words.text(unescaped(alloc, word)?.as_str())?;
+        }
+    }
+    Ok(words)
+}
