@@ -1,4 +1,4 @@
--- What is told of a text that is refused.
+-- The errors of a text that is refused.
 pub mod Colons
 pub mod Complete
 pub mod Digits

@@ -1,5 +1,5 @@
--- What a refusal of the parser tells. RFC 3986, section 3, says what is refused, and no RFC what is
--- told of it.
+-- What an error of the parser says. RFC 3986, section 3, says which texts are rejected, and no RFC
+-- with which error.
 use Rattle.std.specs.Prelude.{◌≡◌, ℕ, ◌<◌, ◌-◌, List, ⊤, slice_index}
 use Rattle.std.specs.Str.{IsCharBoundary}
 use Rattle.uri_pct.specs.Texts.{IsStrayPercent}

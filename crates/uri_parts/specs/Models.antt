@@ -4,4 +4,4 @@ pub mod Literals
 pub mod LiteralGroups
 pub mod Cursors
 pub mod Parsing
-pub mod Refusing
+pub mod ParseErrors

@@ -1,4 +1,4 @@
--- Texts, and what is told of them.
+-- Texts, and their errors.
 use Rattle.std.specs.Prelude.{ℕ, List, [], ◌∷◌, Some, None, codes}
 use Rattle.uri_parts.specs.Refusals.{Refusal, unexpected, stray_percent, no_address}
 

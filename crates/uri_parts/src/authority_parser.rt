@@ -20,8 +20,8 @@ ghost use Rattle.std.specs.Result.{result_err};
 ghost use Rattle.uri_parts.specs.Components.{starts};
 ghost use Rattle.uri_parts.specs.Refusals.{literal, from_path};
 ghost use Rattle.uri_parts.specs.Refusals.{last_colon as last_colon_before};
-ghost use Rattle.uri_parts.specs.Models.Refusing.{left_over_told, name_told, host_told, user_told};
-ghost use Rattle.uri_parts.specs.Models.Refusing.{other_told, authority_told};
+ghost use Rattle.uri_parts.specs.Models.ParseErrors.{left_over_error, name_error, host_error, userinfo_error};
+ghost use Rattle.uri_parts.specs.Models.ParseErrors.{other_error, authority_error};
 ghost use Rattle.uri_parts.specs.Errors.{IsErrorIn};
 ghost use Rattle.uri_parts.specs.KindTables.{kind_of};
 ghost use Rattle.uri_parts.specs.Models.Literals.{parses_literal, literal_length};
@@ -75,12 +75,12 @@ fn find_name(cursor: &mut Cursor<'_>, tables: &KindTables) -> Option<usize>
 
 /// The refusal of what is left over behind an authority: a malformed octet of the path that is
 /// scanned there, or else what is next.
-#[tactic(auto, unfolding(crate::specs::Models::Refusing::left_over_told))]
+#[tactic(auto, unfolding(crate::specs::Models::ParseErrors::left_over_error))]
 #[inline(always)]
 fn left_over(cursor: Cursor<'_>, tables: &KindTables) -> ParseError
     ensures error { IsErrorIn (cursor_text cursor.entry) result }
-    ensures told { Some result
-        ≡ left_over_told (kind_of tables.now) (cursor_text cursor.entry) (place_of cursor.entry) }
+    ensures returned { Some result
+        ≡ left_over_error (kind_of tables.now) (cursor_text cursor.entry) (place_of cursor.entry) }
 {
     let mut path = cursor;
     match path.pass(&tables.path) {
@@ -114,14 +114,14 @@ fn last_colon(text: &str, start: usize, end: usize) -> Option<usize>
 /// The refusal of what was scanned as userinfo up to `end`, where no `@` is next. Up to `start` it
 /// is a name and a port, and behind that stands the last of several `:`, or the port's first byte
 /// that is no digit.
-#[tactic(auto, using(crate::proofs::Refusals::Colons::last_below), unfolding(crate::specs::Models::Refusing::name_told))]
+#[tactic(auto, using(crate::proofs::Refusals::Colons::last_below), unfolding(crate::specs::Models::ParseErrors::name_error))]
 #[inline(always)]
 fn name_fault(start: Cursor<'_>, end: Cursor<'_>, tables: &KindTables) -> ParseError
     requires text { cursor_text end ≡ cursor_text start }
     requires order { place_of start ≤ place_of end }
     requires some { 0 < place_of start }
     ensures error { IsErrorIn (cursor_text start.entry) result }
-    ensures told { Some result ≡ name_told (kind_of tables.now) (cursor_text start.entry)
+    ensures returned { Some result ≡ name_error (kind_of tables.now) (cursor_text start.entry)
         (place_of start.entry) (place_of end.entry) }
 {
     if start.position() == end.position() {
@@ -158,7 +158,7 @@ fn pass_literal(cursor: &mut Cursor<'_>) -> Result<(), ParseError>
 
 /// Passes a host and the port behind it, if there is one, which have to end the authority. Answers
 /// where the host ends.
-#[tactic(auto, using(crate::proofs::Authorities::AuthorityCuts::behind), unfolding(crate::specs::Models::AuthorityParsing::finds_host, crate::specs::Models::AuthorityParsing::passes_host, crate::specs::Models::AuthorityParsing::host_length, crate::specs::Models::AuthorityParsing::host_end, crate::specs::Models::Refusing::host_told, crate::specs::Models::Refusing::port_told, crate::specs::Models::Refusing::ended_told))]
+#[tactic(auto, using(crate::proofs::Authorities::AuthorityCuts::behind), unfolding(crate::specs::Models::AuthorityParsing::finds_host, crate::specs::Models::AuthorityParsing::passes_host, crate::specs::Models::AuthorityParsing::host_length, crate::specs::Models::AuthorityParsing::host_end, crate::specs::Models::ParseErrors::host_error, crate::specs::Models::ParseErrors::port_error, crate::specs::Models::ParseErrors::ended_error))]
 #[inline(always)]
 fn find_host(cursor: &mut Cursor<'_>, tables: &KindTables) -> Result<usize, ParseError>
     ensures accepts { is_ok result ≡ finds_host (kind_of tables.now) (rest_of cursor.old) }
@@ -167,8 +167,8 @@ fn find_host(cursor: &mut Cursor<'_>, tables: &KindTables) -> Result<usize, Pars
     ensures text { cursor_text cursor.new ≡ cursor_text cursor.old }
     ensures place { OnOk result (place_of cursor.new
         ≡ place_of cursor.old + host_length (kind_of tables.now) (rest_of cursor.old)) }
-    ensures told { let kind = kind_of tables.now in let text = cursor_text cursor.old in
-        host_told kind text (place_of cursor.old)
+    ensures returned { let kind = kind_of tables.now in let text = cursor_text cursor.old in
+        host_error kind text (place_of cursor.old)
         ≡ option_or (result_err result) (from_path kind text (place_of cursor.new)) }
     ensures err { IfErr result (IsErrorIn (cursor_text cursor.old)) }
 {
@@ -187,7 +187,7 @@ fn find_host(cursor: &mut Cursor<'_>, tables: &KindTables) -> Result<usize, Pars
 }
 
 /// Passes userinfo, of which a name and a port were passed, and its `@`.
-#[tactic(auto, using(crate::proofs::Authorities::AuthorityCuts::behind), unfolding(crate::specs::Models::AuthorityParsing::more_user, crate::specs::Models::Refusing::user_told))]
+#[tactic(auto, using(crate::proofs::Authorities::AuthorityCuts::behind), unfolding(crate::specs::Models::AuthorityParsing::more_user, crate::specs::Models::ParseErrors::userinfo_error))]
 #[inline(always)]
 fn pass_userinfo(cursor: &mut Cursor<'_>, tables: &KindTables) -> Result<(), ParseError>
     requires { 0 < place_of cursor.old }
@@ -198,9 +198,9 @@ fn pass_userinfo(cursor: &mut Cursor<'_>, tables: &KindTables) -> Result<(), Par
         ≡ place_of cursor.old + (more_user (kind_of tables.now) (rest_of cursor.old) + 1)) }
     ensures rest { OnOk result (rest_of cursor.new
         ≡ drop (more_user (kind_of tables.now) (rest_of cursor.old) + 1) (rest_of cursor.old)) }
-    ensures told { let kind = kind_of tables.now in let text = cursor_text cursor.old in
-        user_told kind text (place_of cursor.old)
-        ≡ option_or (result_err result) (host_told kind text (place_of cursor.new)) }
+    ensures returned { let kind = kind_of tables.now in let text = cursor_text cursor.old in
+        userinfo_error kind text (place_of cursor.old)
+        ≡ option_or (result_err result) (host_error kind text (place_of cursor.new)) }
     ensures err { IfErr result (IsErrorIn (cursor_text cursor.old)) }
 {
     let start = *cursor;
@@ -217,7 +217,7 @@ fn pass_userinfo(cursor: &mut Cursor<'_>, tables: &KindTables) -> Result<(), Par
 
 /// An authority that is more than a name and a port, of which these were passed: where it lies, and
 /// its host.
-#[tactic(auto, using(crate::proofs::Authorities::AuthorityCuts::behind), unfolding(crate::specs::Models::AuthorityParsing::finds_other, crate::specs::Models::AuthorityParsing::passes_user, crate::specs::Models::AuthorityParsing::user_length, crate::specs::Models::AuthorityParsing::host_place, crate::specs::Models::AuthorityParsing::other_authority, crate::specs::Models::Refusing::other_told))]
+#[tactic(auto, using(crate::proofs::Authorities::AuthorityCuts::behind), unfolding(crate::specs::Models::AuthorityParsing::finds_other, crate::specs::Models::AuthorityParsing::passes_user, crate::specs::Models::AuthorityParsing::user_length, crate::specs::Models::AuthorityParsing::host_place, crate::specs::Models::AuthorityParsing::other_authority, crate::specs::Models::ParseErrors::other_error))]
 #[inline(always)]
 fn find_other_authority(
     start: Cursor<'_>,
@@ -232,10 +232,10 @@ fn find_other_authority(
     ensures found { IfOk result (λ a.
         a ≡ other_authority (kind_of tables.now) (place_of start.entry) (rest_of start.entry)) }
     ensures boundary { IfOk result (λ a. IsCharBoundary (cursor_text start.entry) a.end) }
-    ensures told { let kind = kind_of tables.now in let text = cursor_text start.entry in
-        IfErr result (λ e. other_told kind text (place_of start.entry) ≡ Some e) }
+    ensures returned { let kind = kind_of tables.now in let text = cursor_text start.entry in
+        IfErr result (λ e. other_error kind text (place_of start.entry) ≡ Some e) }
     ensures goes_on { let kind = kind_of tables.now in let text = cursor_text start.entry in
-        IfOk result (λ a. other_told kind text (place_of start.entry)
+        IfOk result (λ a. other_error kind text (place_of start.entry)
         ≡ from_path kind text a.end) }
     ensures err { IfErr result (IsErrorIn (cursor_text start.entry)) }
 {
@@ -269,9 +269,9 @@ fn find_other_of_kind<K: Kind>(
     ensures accepts { is_ok result ≡ finds_other K.kind (drop start text.now) }
     ensures found { IfOk result (λ a. a ≡ other_authority K.kind start (drop start text.now)) }
     ensures boundary { IfOk result (λ a. IsCharBoundary text.now a.end) }
-    ensures told { IfErr result (λ e. other_told K.kind text.now start ≡ Some e) }
+    ensures returned { IfErr result (λ e. other_error K.kind text.now start ≡ Some e) }
     ensures goes_on { IfOk result (λ a.
-        other_told K.kind text.now start ≡ from_path K.kind text.now a.end) }
+        other_error K.kind text.now start ≡ from_path K.kind text.now a.end) }
     ensures err { IfErr result (IsErrorIn text.now) }
 {
     let behind_name = Cursor::at(text, behind_name);
@@ -279,7 +279,7 @@ fn find_other_of_kind<K: Kind>(
 }
 
 /// An authority: where it lies, and its host.
-#[tactic(auto, unfolding(crate::specs::Models::AuthorityParsing::finds_authority, crate::specs::Models::AuthorityParsing::found_length, crate::specs::Models::AuthorityParsing::found_authority, crate::specs::Models::AuthorityParsing::other_length, crate::specs::Models::AuthorityParsing::other_authority, crate::specs::Models::Refusing::authority_told))]
+#[tactic(auto, unfolding(crate::specs::Models::AuthorityParsing::finds_authority, crate::specs::Models::AuthorityParsing::found_length, crate::specs::Models::AuthorityParsing::found_authority, crate::specs::Models::AuthorityParsing::other_length, crate::specs::Models::AuthorityParsing::other_authority, crate::specs::Models::ParseErrors::authority_error))]
 #[inline(always)]
 pub(crate) fn find_authority<K: Kind>(
     cursor: &mut Cursor<'_>,
@@ -296,7 +296,7 @@ pub(crate) fn find_authority<K: Kind>(
     ensures rest { OnOk result (rest_of cursor.new
         ≡ drop (found_length (kind_of tables.now) (rest_of cursor.old)) (rest_of cursor.old)) }
     ensures refused { let kind = kind_of tables.now in let text = cursor_text cursor.old in
-        authority_told kind text (place_of cursor.old)
+        authority_error kind text (place_of cursor.old)
         ≡ option_or (result_err result) (from_path kind text (place_of cursor.new)) }
     ensures err { IfErr result (IsErrorIn (cursor_text cursor.old)) }
 {

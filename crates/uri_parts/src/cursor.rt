@@ -191,7 +191,7 @@ impl<'a> Cursor<'a> {
     #[inline]
     pub fn unexpected(&self) -> ParseError
         ensures error { IsErrorIn (cursor_text self.now) result }
-        ensures told { result ≡ unexpected (place_of self.now) }
+        ensures returned { result ≡ unexpected (place_of self.now) }
     {
         ParseError::new(self.position, ParseErrorKind::UnexpectedChar)
     }

@@ -25,12 +25,12 @@ pub enum ParseErrorKind {
     InvalidIpv6Addr,
 }
 
-/// Why a text is no URI or IRI, and where. `docs/REFUSALS.md` says which of the three is told of a
-/// text, and at which index.
+/// Why a text is not a URI or IRI, and where. `docs/REFUSALS.md` says which of the three errors a
+/// text gets, and at which index.
 ///
 /// # Examples
 ///
-/// `http://a b` is refused at index 8, and prints `unexpected character at index 8`.
+/// `http://a b` is rejected at index 8; the error prints `unexpected character at index 8`.
 #[derive(Clone, Copy, Debug, PartialEq, Eq, Error)]
 #[error("{} at index {index}", kind_text(.kind))]
 pub struct ParseError {

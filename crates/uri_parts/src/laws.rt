@@ -180,17 +180,17 @@ pub fn authority_test_is_the_grammar()
         ↔ IsAuthorityFor users names text (authority_parts text)) }
 {}
 
-/// What is told of some texts.
+/// The errors of some texts.
 #[doc(hidden)]
-pub fn some_texts_are_told()
+pub fn some_texts_have_errors()
     ensures references { map (λ row. refusal uri_ref row.0) uri_ref_rows
         ≡ map (λ row. row.1) uri_ref_rows }
     ensures uris { map (λ row. refusal uri row.0) uri_rows ≡ map (λ row. row.1) uri_rows }
 {}
 
-/// There is a refusal exactly if the text is none of the kind.
+/// `refusal` gives no error exactly for the texts of the kind.
 #[doc(hidden)]
-pub fn refused_exactly_if_none<K: Kind>(text: &str)
+pub fn accepted_exactly_if_no_error<K: Kind>(text: &str)
     ensures { refusal K.kind text.now ≡ None ↔ IsOfKind K.kind text.now }
 {
     let _parsed = parse::<K>(text);

@@ -134,7 +134,7 @@ fn is_dotted(text: &str, first: usize, last: usize) -> bool
 }
 
 /// Each group has a `:` before it but the first.
-fn is_amiss(has_colon: bool, is_first: bool) -> bool
+fn is_malformed_turn(has_colon: bool, is_first: bool) -> bool
     ensures { result ≡ (has_colon && is_first || not has_colon && not is_first) }
 {
     has_colon == is_first
@@ -165,7 +165,7 @@ fn groups_end(text: &str, start: usize, room: usize) -> GroupsEnd
         if ends_text(text, first, last) {
             return GroupsEnd::End(room - counted, last);
         }
-        if is_amiss(has_colon, counted == 0) {
+        if is_malformed_turn(has_colon, counted == 0) {
             return GroupsEnd::Malformed;
         }
         if is_dotted(text, first, last) {

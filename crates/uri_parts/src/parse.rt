@@ -4,8 +4,8 @@ ghost use Rattle.std.specs.Option.{option_or};
 ghost use Rattle.std.specs.Result.{result_err};
 ghost use Rattle.uri_parts.specs.Refusals.{from_fragment, from_query, from_path, from_relative};
 ghost use Rattle.uri_parts.specs.Refusals.{refusal};
-ghost use Rattle.uri_parts.specs.Models.Refusing.{authority_told, hier_told, schemeless_told};
-ghost use Rattle.uri_parts.specs.Models.Refusing.{parsed_told};
+ghost use Rattle.uri_parts.specs.Models.ParseErrors.{authority_error, hier_error, schemeless_error};
+ghost use Rattle.uri_parts.specs.Models.ParseErrors.{parsed_error};
 ghost use Rattle.uri_parts.specs.Errors.{IsErrorIn};
 ghost use Rattle.uri_parts.specs.Grammar.{IsOfKind};
 ghost use Rattle.uri_parts.specs.KindTables.{kind_of, segment_nz_nc_of};
@@ -115,7 +115,7 @@ fn pass_authority<K: Kind>(
         ≡ positions_from kind b cursor.new) }
     ensures text { cursor_text cursor.new ≡ cursor_text cursor.old }
     ensures refused { let kind = kind_of tables.now in let text = cursor_text cursor.old in
-        authority_told kind text (place_of cursor.old)
+        authority_error kind text (place_of cursor.old)
         ≡ option_or (result_err result) (from_path kind text (place_of cursor.new)) }
     ensures err { IfErr result (IsErrorIn (cursor_text cursor.old)) }
 {
@@ -128,7 +128,7 @@ fn pass_authority<K: Kind>(
 }
 
 /// What follows a scheme, before a path.
-#[tactic(auto, unfolding(crate::specs::Models::Parsing::parses_hier, crate::specs::Models::Parsing::hier_positions, crate::specs::Models::Refusing::hier_told))]
+#[tactic(auto, unfolding(crate::specs::Models::Parsing::parses_hier, crate::specs::Models::Parsing::hier_positions, crate::specs::Models::ParseErrors::hier_error))]
 #[inline(always)]
 fn pass_hier<K: Kind>(
     cursor: &mut Cursor<'_>,
@@ -143,7 +143,7 @@ fn pass_hier<K: Kind>(
         ≡ positions_from kind b cursor.new) }
     ensures text { cursor_text cursor.new ≡ cursor_text cursor.old }
     ensures refused { let kind = kind_of tables.now in let text = cursor_text cursor.old in
-        hier_told kind text (place_of cursor.old)
+        hier_error kind text (place_of cursor.old)
         ≡ option_or (result_err result) (from_path kind text (place_of cursor.new)) }
     ensures err { IfErr result (IsErrorIn (cursor_text cursor.old)) }
 {
@@ -187,7 +187,7 @@ fn pass_relative(cursor: &mut Cursor<'_>, tables: &KindTables) -> Result<BeforeP
 
 /// What stands before a path in a text that has no scheme, behind the characters that might have
 /// been one.
-#[tactic(auto, unfolding(crate::specs::Models::Parsing::parses_schemeless, crate::specs::Models::Parsing::schemeless_positions, crate::specs::Models::Refusing::schemeless_told))]
+#[tactic(auto, unfolding(crate::specs::Models::Parsing::parses_schemeless, crate::specs::Models::Parsing::schemeless_positions, crate::specs::Models::ParseErrors::schemeless_error))]
 #[inline(always)]
 fn pass_schemeless<K: Kind>(
     cursor: &mut Cursor<'_>,
@@ -203,7 +203,7 @@ fn pass_schemeless<K: Kind>(
         ≡ positions_from kind b cursor.new) }
     ensures text { cursor_text cursor.new ≡ cursor_text cursor.old }
     ensures refused { let kind = kind_of tables.now in let text = cursor_text cursor.old in
-        schemeless_told (segment_nz_nc_of tables.now) kind text (place_of cursor.old)
+        schemeless_error (segment_nz_nc_of tables.now) kind text (place_of cursor.old)
         ≡ option_or (result_err result) (from_path kind text (place_of cursor.new)) }
     ensures err { IfErr result (IsErrorIn (cursor_text cursor.old)) }
 {
@@ -215,7 +215,7 @@ fn pass_schemeless<K: Kind>(
 }
 
 /// What stands before a path, from the beginning of the text on.
-#[tactic(auto, using(uri_pct::proofs::TableSets::Constants::scheme_table), unfolding(crate::specs::Models::Parsing::parses, crate::specs::Models::Parsing::parsed_positions, crate::specs::Models::Refusing::parsed_told))]
+#[tactic(auto, using(uri_pct::proofs::TableSets::Constants::scheme_table), unfolding(crate::specs::Models::Parsing::parses, crate::specs::Models::Parsing::parsed_positions, crate::specs::Models::ParseErrors::parsed_error))]
 #[inline(always)]
 fn pass_front<K: Kind>(
     cursor: &mut Cursor<'_>,
@@ -231,7 +231,7 @@ fn pass_front<K: Kind>(
         ≡ positions_from kind b cursor.new) }
     ensures text { cursor_text cursor.new ≡ cursor_text cursor.old }
     ensures refused { let kind = kind_of tables.now in let text = cursor_text cursor.old in
-        parsed_told (segment_nz_nc_of tables.now) kind text
+        parsed_error (segment_nz_nc_of tables.now) kind text
         ≡ option_or (result_err result) (from_path kind text (place_of cursor.new)) }
     ensures err { IfErr result (IsErrorIn (cursor_text cursor.old)) }
 {
@@ -260,7 +260,7 @@ fn parse_text<K: Kind>(tables: &KindTables, text: &str) -> Result<Positions, Par
     ensures places { IfOk result (λ p.
         p ≡ parsed_positions (segment_nz_nc_of tables.now) (kind_of tables.now) text.now) }
     ensures refused { result_err result
-        ≡ parsed_told (segment_nz_nc_of tables.now) (kind_of tables.now) text.now }
+        ≡ parsed_error (segment_nz_nc_of tables.now) (kind_of tables.now) text.now }
     ensures err { IfErr result (IsErrorIn text.now) }
 {
     let mut cursor = Cursor::new(text);

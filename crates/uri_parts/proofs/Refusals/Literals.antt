@@ -1,4 +1,4 @@
--- What is told of an address in brackets.
+-- The errors of an address in brackets.
 use Rattle.std.proofs.Common.{◌≡◌, ℕ, ◌+◌, ◌-◌, ◌<◌, true, false, eqb, List, [], ◌∷◌, ◌++◌, length}
 use Rattle.std.proofs.Common.{drop, get_or, Some, None, refl, sym, ap, ◌∙◌, arith, ◌||◌, ⊎_elim}
 use Rattle.std.proofs.Common.{get_or-drop, add-zero, length-append, length-drop}
@@ -70,19 +70,19 @@ module _ (text : List ℕ) (i : ℕ) where
       cond-false _ _ _ (not_from_true _ plain)
       ∙ cond-true _ _ _ (ap (is_one_of (codes "vV")) (sym first_at) ∙ l.0)
 
-  pub told_open : (starts 118 (drop i text) || starts 86 (drop i text)) ≡ false
+  pub error_open : (starts 118 (drop i text) || starts 86 (drop i text)) ≡ false
       → is_no_ipv6 text i ≡ true → literal text i ≡ Err (unexpected i)
   unfolding literal
-  told_open e none = cond-false _ _ _ (not_from_true _ none)
+  error_open e none = cond-false _ _ _ (not_from_true _ none)
       ∙ cond-false _ _ _ (ap (is_one_of (codes "vV")) (sym first_at) ∙ letter_none (drop i text) e)
 
   closed_as : is_no_ipv6 text i ≡ false → literal text i ≡ closed text i (ipv6_end text i)
   unfolding literal
   closed_as some = cond-true _ _ _ (not_from_false _ some)
 
-  pub told_none : is_no_ipv6 text i ≡ false → ipv6_end text i ≡ None
+  pub error_none : is_no_ipv6 text i ≡ false → ipv6_end text i ≡ None
       → literal text i ≡ Err (no_address i)
-  told_none some e = closed_as some ∙ ap (closed text i) e
+  error_none some e = closed_as some ∙ ap (closed text i) e
 
   -- what is read so with a `]` behind it is parsed
   pub read_parsed : (end : ℕ) → ipv6_end text i ≡ Some end → starts 93 (drop end text) ≡ true
@@ -91,9 +91,9 @@ module _ (text : List ℕ) (i : ℕ) where
       let w = ipv6_sound text i end e c in
       address_parsed (drop i text) w.address (drop end text) w.segments w.split w.is c
 
-  pub told_some : (end : ℕ) → is_no_ipv6 text i ≡ false → ipv6_end text i ≡ Some end
+  pub error_some : (end : ℕ) → is_no_ipv6 text i ≡ false → ipv6_end text i ≡ Some end
       → parses_literal (drop i text) ≡ false → literal text i ≡ Err (unexpected end)
-  told_some end some e none = closed_as some ∙ ap (closed text i) e ∙ cond-false _ _ _
+  error_some end some e none = closed_as some ∙ ap (closed text i) e ∙ cond-false _ _ _
       (⊎_elim (λ c. absurd (both_ways _ none (read_parsed end e c))) (λ c. c)
       (cases_Bool (starts 93 (drop end text))))
 

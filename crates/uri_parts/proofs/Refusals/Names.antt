@@ -1,4 +1,4 @@
--- What is told of an authority.
+-- The errors of an authority.
 use Rattle.std.proofs.Common.{◌≡◌, ◌≢◌, ℕ, zero, suc, ◌+◌, ◌<◌, ◌≤◌, Bool, true, false, cond, eqb, List}
 use Rattle.std.proofs.Common.{[], ◌∷◌, drop, Some, refl, sym, ap, ◌∙◌, arith, ◌&&◌, ⊎_elim}
 use Rattle.std.specs.Prelude.{codes, nat_lt}
@@ -19,12 +19,12 @@ use Rattle.uri_parts.specs.Models.AuthorityParsing.{user_length}
 use Rattle.uri_parts.specs.Refusals.{Refusal, sees, end_of, last_colon, unexpected}
 use Rattle.uri_parts.specs.Refusals.{stray_percent, from_path, from_host, from_name}
 use Rattle.uri_parts.specs.Refusals.{from_authority}
-use Rattle.uri_parts.specs.Models.Refusing.{left_over_told, name_told, ended_told, port_told, host_told}
-use Rattle.uri_parts.specs.Models.Refusing.{user_told, other_told, authority_told}
+use Rattle.uri_parts.specs.Models.ParseErrors.{left_over_error, name_error, ended_error, port_error, host_error}
+use Rattle.uri_parts.specs.Models.ParseErrors.{userinfo_error, other_error, authority_error}
 use Rattle.uri_parts.proofs.Authorities.NamesAndPorts.{front_nil}
 use Rattle.uri_parts.proofs.Authorities.FoundAuthorities.{user_is, more_is}
 use Rattle.uri_parts.proofs.Refusals.Colons.{last_below, last_at, last_plain, last_kept}
-use Rattle.uri_parts.proofs.Refusals.Rooted.{Adjoins, read_if, stray_front, none_next, rooted_told}
+use Rattle.uri_parts.proofs.Refusals.Rooted.{Adjoins, read_if, stray_front, none_next, rooted_error}
 use Rattle.uri_parts.proofs.Refusals.Rooted.{port_end, host_is}
 use Rattle.uri_parts.proofs.TextKinds.Separations.{Separates}
 
@@ -132,8 +132,8 @@ module _ (segment : TableSet) (kind : Kind) (w : Separates segment kind) (a : Ad
         omega (arith, u, m, d)
 
     -- what `from_name` tells, by whether more of userinfo stands behind the name and the port
-    abbrev told : Refusal
-    told = cond (eqb behind user) (ended_told kind text user)
+    abbrev found : Refusal
+    found = cond (eqb behind user) (ended_error kind text user)
         (cond (nat_lt (last_colon text user) behind) (Some (unexpected behind))
         (Some (unexpected (last_colon text user))))
 
@@ -148,19 +148,19 @@ module _ (segment : TableSet) (kind : Kind) (w : Separates segment kind) (a : Ad
         let z' = ap (λ n. front kind.userinfo (drop n text)) b in
         (b, omega (arith, user_on, b, z, z'))
 
-    name_told_none : sees text 58 name ≡ false → from_name kind text i user ≡ told
+    name_error_none : sees text 58 name ≡ false → from_name kind text i user ≡ found
     unfolding from_name
-    name_told_none e =
+    name_error_none e =
         let n = name_none e in
         let l = last_below text user (omega (arith, n.1, inside)) in
         cond-false _ _ _ (le-ltb name (last_colon text user) (omega (arith, n.1)))
         ∙ cond-false _ _ _ (and_left _ _ (le-ltb name user (omega (arith, n.1))))
-        ∙ sym (rooted_told segment kind w a text user)
+        ∙ sym (rooted_error segment kind w a text user)
         ∙ sym (cond-true _ _ _ (eq-eqb behind user (n.0 ∙ sym n.1)))
 
-    name_told_some : sees text 58 name ≡ true → from_name kind text i user ≡ told
+    name_error_some : sees text 58 name ≡ true → from_name kind text i user ≡ found
     unfolding from_name
-    name_told_some e =
+    name_error_some e =
         let port : ℕ = end_of text digit_set (name + 1) in
         let b : behind ≡ port =
         behind_is ∙ port_end segment kind w a text name ∙ cond-true _ _ _ e in
@@ -179,7 +179,7 @@ module _ (segment : TableSet) (kind : Kind) (w : Separates segment kind) (a : Ad
         let l : last_colon text user ≡ name = ap (last_colon text) (sym u) ∙ at_name in
         cond-false _ _ _ (le-ltb name (last_colon text user) (omega (arith, l)))
         ∙ cond-false _ _ _ (and_right _ _ (le-ltb port user (omega (arith, b, u))))
-        ∙ sym (rooted_told segment kind w a text user) ∙ sym (cond-true _ _ _ d))
+        ∙ sym (rooted_error segment kind w a text user) ∙ sym (cond-true _ _ _ d))
         (λ d.
         let ne : behind ≢ user = λ u. both_ways _ d (eq-eqb behind user u) in
         let more_than : behind < user = omega (arith, same, ne) in
@@ -200,8 +200,8 @@ module _ (segment : TableSet) (kind : Kind) (w : Separates segment kind) (a : Ad
         (last_kept text behind more))
         (cases_Bool (eqb behind user))
 
-    name_is : from_name kind text i user ≡ told
-    name_is = ⊎_elim name_told_some name_told_none (cases_Bool (sees text 58 name))
+    name_is : from_name kind text i user ≡ found
+    name_is = ⊎_elim name_error_some name_error_none (cases_Bool (sees text 58 name))
 
     -- by what stands behind the userinfo
     abbrev stray : Bool
@@ -220,19 +220,19 @@ module _ (segment : TableSet) (kind : Kind) (w : Separates segment kind) (a : Ad
         (cond (eqb end i) (from_host kind text i) (from_name kind text i end)))
 
     -- a host alone
-    host_alone : sees text 91 i ≡ false → from_host kind text i ≡ ended_told kind text behind
-    unfolding host_told port_told
+    host_alone : sees text 91 i ≡ false → from_host kind text i ≡ ended_error kind text behind
+    unfolding host_error port_error
     host_alone e = sym (host_is segment kind w a text i) ∙ cond-false _ _ _ e
-        ∙ ap (ended_told kind text) (sym behind_is)
+        ∙ ap (ended_error kind text) (sym behind_is)
 
     at_behind : finds_name kind rest ≡ begins_any (codes "/?#") (drop behind text)
     unfolding finds_name
     at_behind = ap (begins_any (codes "/?#")) (drop-drop (name_length kind rest) i text)
 
-    alone : (b : Bool) → begins_any (codes "/?#") (drop behind text) ≡ b → ended_told kind text behind
-        ≡ cond b (from_path kind text behind) (left_over_told kind text behind)
-    unfolding ended_told
-    alone b e = ap (λ t. cond t (from_path kind text behind) (left_over_told kind text behind)) e
+    alone : (b : Bool) → begins_any (codes "/?#") (drop behind text) ≡ b → ended_error kind text behind
+        ≡ cond b (from_path kind text behind) (left_over_error kind text behind)
+    unfolding ended_error
+    alone b e = ap (λ t. cond t (from_path kind text behind) (left_over_error kind text behind)) e
 
     finds_case : begins_any (codes "/?#") (drop behind text) ≡ true
         → from_path kind text behind ≡ from_authority kind text i
@@ -248,10 +248,10 @@ module _ (segment : TableSet) (kind : Kind) (w : Separates segment kind) (a : Ad
         (λ d. cond-true _ _ _ d ∙ host_alone (ap (sees text 91) (sym (eqb-true user i d) ∙ u) ∙ o.bracket)
         ∙ alone true f)
         (λ d. cond-false _ _ _ d ∙ name_is ∙ cond-true _ _ _ (eq-eqb behind user (sym u))
-        ∙ ap (ended_told kind text) u ∙ alone true f)
+        ∙ ap (ended_error kind text) u ∙ alone true f)
         (cases_Bool (eqb user i)))
 
-    bracket_case : sees text 91 i ≡ true → host_told kind text i ≡ from_authority kind text i
+    bracket_case : sees text 91 i ≡ true → host_error kind text i ≡ from_authority kind text i
     bracket_case e =
         let z = none_next (codes "[") kind.userinfo w.userinfo_lacks w.userinfo_starts rest
         (mark_next 91 (codes "[") rest refl e) in
@@ -265,32 +265,32 @@ module _ (segment : TableSet) (kind : Kind) (w : Separates segment kind) (a : Ad
     within : (i ≤ behind) × (behind ≤ user)
     within = (omega arith, omega (arith, user_on))
 
-    told_other : begins_any (codes "/?#") (drop behind text) ≡ false
-        → told ≡ name_told kind text behind user
-    unfolding name_told
-    told_other f = ⊎_elim
-        (λ d. cond-true _ _ _ d ∙ ap (ended_told kind text) (sym (eqb-true behind user d))
-        ∙ alone false f ∙ ap (left_over_told kind text) (eqb-true behind user d)
+    error_other : begins_any (codes "/?#") (drop behind text) ≡ false
+        → found ≡ name_error kind text behind user
+    unfolding name_error
+    error_other f = ⊎_elim
+        (λ d. cond-true _ _ _ d ∙ ap (ended_error kind text) (sym (eqb-true behind user d))
+        ∙ alone false f ∙ ap (left_over_error kind text) (eqb-true behind user d)
         ∙ sym (cond-true _ _ _ d))
         (λ d. cond-false _ _ _ d ∙ sym (cond-false _ _ _ d))
         (cases_Bool (eqb behind user))
 
     named : begins_any (codes "/?#") (drop behind text) ≡ false → sees text 91 i ≡ false
-        → name_told kind text behind user
+        → name_error kind text behind user
         ≡ cond (eqb user i) (from_host kind text i) (from_name kind text i user)
-    unfolding name_told
+    unfolding name_error
     named f e = ⊎_elim
         (λ d.
         let same : behind ≡ user = let h = eqb-true user i d in omega (arith, within.0, within.1) in
         cond-true _ _ _ (eq-eqb behind user same)
-        ∙ ap (left_over_told kind text) (sym same) ∙ sym (alone false f)
+        ∙ ap (left_over_error kind text) (sym same) ∙ sym (alone false f)
         ∙ sym (cond-true _ _ _ d ∙ host_alone e))
-        (λ d. sym (cond-false _ _ _ d ∙ name_is ∙ told_other f))
+        (λ d. sym (cond-false _ _ _ d ∙ name_is ∙ error_other f))
         (cases_Bool (eqb user i))
 
     user_case : begins_any (codes "/?#") (drop behind text) ≡ false → sees text 91 i ≡ false
-        → user_told kind text behind ≡ from_authority kind text i
-    unfolding user_told name_told
+        → userinfo_error kind text behind ≡ from_authority kind text i
+    unfolding userinfo_error name_error
     user_case f e = ⊎_elim
         (λ m.
         let z = none_next (codes "@/?#") kind.userinfo w.userinfo_lacks w.userinfo_marks
@@ -305,18 +305,18 @@ module _ (segment : TableSet) (kind : Kind) (w : Separates segment kind) (a : Ad
         (λ m.
         cond-false _ _ _ m
         ∙ read_if text kind.userinfo behind (λ end. cond (sees text 64 end)
-        (host_told kind text (end + 1)) (name_told kind text behind end))
+        (host_error kind text (end + 1)) (name_error kind text behind end))
         ∙ ap (λ n. cond (kind.userinfo.pct_encoded && sees text 37 n) (Some (stray_percent n))
-        (cond (sees text 64 n) (host_told kind text (n + 1)) (name_told kind text behind n)))
+        (cond (sees text 64 n) (host_error kind text (n + 1)) (name_error kind text behind n)))
         (sym user_on)
-        ∙ ap (λ h. split (λ n. h) (name_told kind text behind user))
+        ∙ ap (λ h. split (λ n. h) (name_error kind text behind user))
         (host_is segment kind w a text (user + 1))
         ∙ ap (split (from_host kind text)) (named f e)
         ∙ sym authority_split)
         (cases_Bool (sees text 64 behind))
 
-    pub authority_is : authority_told kind text i ≡ from_authority kind text i
-    unfolding authority_told other_told
+    pub authority_is : authority_error kind text i ≡ from_authority kind text i
+    unfolding authority_error other_error
     authority_is = ⊎_elim
         (λ f. cond-true _ _ _ (at_behind ∙ f) ∙ finds_case f)
         (λ f. cond-false _ _ _ (at_behind ∙ f)

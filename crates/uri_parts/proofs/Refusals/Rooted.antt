@@ -1,4 +1,4 @@
--- What is told behind an authority, and of a host.
+-- The errors after an authority, and of a host.
 use Rattle.std.proofs.Common.{◌≡◌, ℕ, ◌+◌, Bool, true, false, cond, eqb, List, [], ◌∷◌, drop}
 use Rattle.std.proofs.Common.{Some, refl, sym, ap, ◌∙◌, arith, ◌&&◌, ◌||◌, ⊎_elim}
 use Rattle.std.specs.Prelude.{Ok, Err, codes}
@@ -19,7 +19,7 @@ use Rattle.uri_parts.specs.Models.Parsing.{is_end}
 use Rattle.uri_parts.specs.Refusals.{End, Refusal, ◌>>=◌, sees, end_of, read, literal, unexpected}
 use Rattle.uri_parts.specs.Refusals.{stray_percent, from_end, from_fragment, from_query, from_path}
 use Rattle.uri_parts.specs.Refusals.{from_rooted, from_port, from_host}
-use Rattle.uri_parts.specs.Models.Refusing.{left_over_told, ended_told, port_told, host_told}
+use Rattle.uri_parts.specs.Models.ParseErrors.{left_over_error, ended_error, port_error, host_error}
 use Rattle.uri_parts.proofs.Authorities.NamesAndPorts.{front_nil}
 use Rattle.uri_parts.proofs.TextKinds.Separations.{Separates}
 
@@ -103,10 +103,10 @@ other (b ∷ bs) e = record {
 
 module _ (segment : TableSet) (kind : Kind) (w : Separates segment kind) (a : Adjoins kind)
     (text : List ℕ) where
-  left_over_is : (p : ℕ) → left_over_told kind text p
+  left_over_is : (p : ℕ) → left_over_error kind text p
       ≡ cond (kind.path.pct_encoded && sees text 37 (end_of text kind.path p))
       (Some (stray_percent (end_of text kind.path p))) (Some (unexpected p))
-  unfolding left_over_told
+  unfolding left_over_error
   left_over_is p = read_if text kind.path p (λ _. Some (unexpected p))
 
   rooted_is : (p : ℕ) → from_rooted kind text p
@@ -148,7 +148,7 @@ module _ (segment : TableSet) (kind : Kind) (w : Separates segment kind) (a : Ad
       cond-false _ _ _ o.question ∙ cond-false _ _ _ o.number ∙ cond-false _ _ _ o.some
 
   pub rooted_other : (p : ℕ) → begins_any (codes "/?#") (drop p text) ≡ false
-      → from_rooted kind text p ≡ left_over_told kind text p
+      → from_rooted kind text p ≡ left_over_error kind text p
   rooted_other p e =
       let o = other (drop p text) e in
       let end : ℕ = end_of text kind.path p in
@@ -161,9 +161,9 @@ module _ (segment : TableSet) (kind : Kind) (w : Separates segment kind) (a : Ad
       (cases_Bool (eqb end p)))
       ∙ sym (left_over_is p)
 
-  pub rooted_told : (p : ℕ) → ended_told kind text p ≡ from_rooted kind text p
-  unfolding ended_told
-  rooted_told p = ⊎_elim
+  pub rooted_error : (p : ℕ) → ended_error kind text p ≡ from_rooted kind text p
+  unfolding ended_error
+  rooted_error p = ⊎_elim
       (λ e. cond-true _ _ _ e ∙ sym (rooted_ended p e))
       (λ e. cond-false _ _ _ e ∙ sym (rooted_other p e))
       (cases_Bool (begins_any (codes "/?#") (drop p text)))
@@ -180,9 +180,9 @@ module _ (segment : TableSet) (kind : Kind) (w : Separates segment kind) (a : Ad
       omega (arith, l) ∙ sym (cond-false _ _ _ e))
       (cases_Bool (sees text 58 n))
 
-  pub port_is : (n : ℕ) → port_told kind text n ≡ from_port kind text n
-  unfolding port_told from_port
-  port_is n = rooted_told (n + port_length (drop n text)) ∙ ap (from_rooted kind text) (port_end n)
+  pub port_is : (n : ℕ) → port_error kind text n ≡ from_port kind text n
+  unfolding port_error from_port
+  port_is n = rooted_error (n + port_length (drop n text)) ∙ ap (from_rooted kind text) (port_end n)
 
   from_none : (n : ℕ) → sees text 58 n ≡ false → from_port kind text n ≡ from_rooted kind text n
   unfolding from_port
@@ -190,7 +190,7 @@ module _ (segment : TableSet) (kind : Kind) (w : Separates segment kind) (a : Ad
 
   -- a stray `%` behind a name is one in the path that is read there
   stray_port : (i : ℕ) → sees text 37 (end_of text kind.reg_name i) ≡ true
-      → port_told kind text (end_of text kind.reg_name i)
+      → port_error kind text (end_of text kind.reg_name i)
       ≡ Some (stray_percent (end_of text kind.reg_name i))
   stray_port i e =
       let n : ℕ = end_of text kind.reg_name i in
@@ -208,8 +208,8 @@ module _ (segment : TableSet) (kind : Kind) (w : Separates segment kind) (a : Ad
       (Some (unexpected n))) last
       ∙ cond-true _ _ _ (and_from _ _ a.path_octets e)
 
-  pub host_is : (i : ℕ) → host_told kind text i ≡ from_host kind text i
-  unfolding host_told from_host
+  pub host_is : (i : ℕ) → host_error kind text i ≡ from_host kind text i
+  unfolding host_error from_host
   host_is i =
       let n : ℕ = end_of text kind.reg_name i in
       ⊎_elim

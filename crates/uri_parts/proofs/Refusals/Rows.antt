@@ -1,4 +1,4 @@
--- What is told of some texts, by the definition alone.
+-- The errors of some texts, by the definition alone.
 use Rattle.std.proofs.Common.{◌≡◌, map, refl}
 use Rattle.uri_pct.specs.Models.Fronts.{front_from, allows_first, begins_hex, first_char}
 use Rattle.uri_pct.specs.Sets.{allows_past_ascii, is_ucschar, is_iprivate}
@@ -11,10 +11,10 @@ use Rattle.uri_parts.specs.Refusals.{literal, last_colon, from_end, from_fragmen
 use Rattle.uri_parts.specs.Refusals.{from_path, from_rooted, from_port, from_host, from_name}
 use Rattle.uri_parts.specs.Refusals.{from_authority, from_hier, from_relative}
 
-pub uri_ref_told : map (λ row. refusal uri_ref row.0) uri_ref_rows ≡ map (λ row. row.1) uri_ref_rows
+pub uri_ref_error : map (λ row. refusal uri_ref row.0) uri_ref_rows ≡ map (λ row. row.1) uri_ref_rows
 unfolding front_from allows_first begins_hex first_char allows_past_ascii is_ucschar is_iprivate is_end refusal octet_end octets_end groups_from ipv6_end is_no_ipv6 literal last_colon from_end from_fragment from_query from_path from_rooted from_port from_host from_name from_authority from_hier from_relative
-uri_ref_told = refl
+uri_ref_error = refl
 
-pub uri_told : map (λ row. refusal uri row.0) uri_rows ≡ map (λ row. row.1) uri_rows
+pub uri_error : map (λ row. refusal uri row.0) uri_rows ≡ map (λ row. row.1) uri_rows
 unfolding front_from allows_first begins_hex first_char allows_past_ascii is_ucschar is_iprivate is_end refusal octet_end octets_end groups_from ipv6_end is_no_ipv6 literal last_colon from_end from_fragment from_query from_path from_rooted from_port from_host from_name from_authority from_hier from_relative
-uri_told = refl
+uri_error = refl

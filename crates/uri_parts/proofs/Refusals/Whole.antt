@@ -12,7 +12,7 @@ use Rattle.uri_parts.specs.Components.{has_authority}
 use Rattle.uri_parts.specs.Grammar.{Kind, first_segment_set, one_of_four}
 use Rattle.uri_parts.specs.Refusals.{Refusal, ◌>>=◌, sees, end_of, unexpected, stray_percent}
 use Rattle.uri_parts.specs.Refusals.{from_path, from_authority, from_relative, from_hier, refusal}
-use Rattle.uri_parts.specs.Models.Refusing.{hier_told, schemeless_told, parsed_told}
+use Rattle.uri_parts.specs.Models.ParseErrors.{hier_error, schemeless_error, parsed_error}
 use Rattle.uri_parts.proofs.Parsing.WholeTexts.{slashes_front, slashes_scanned}
 use Rattle.uri_parts.proofs.Splitting.Relative.{scheme_lacks}
 use Rattle.uri_parts.proofs.Refusals.Names.{authority_is}
@@ -34,15 +34,15 @@ module _ (segment : TableSet) (kind : Kind) (w : Separates segment kind) (j : Ad
       (if segment.pct_encoded && sees text 37 e then Err (stray_percent e) else Ok e) >>= λ end.
       if sees text 58 end then Some (unexpected end) else from_path kind text end) segment_end
 
-  hier_is : (i : ℕ) → hier_told kind text i ≡ from_hier kind text i
-  unfolding hier_told from_hier
+  hier_is : (i : ℕ) → hier_error kind text i ≡ from_hier kind text i
+  unfolding hier_error from_hier
   hier_is i = ap (λ r. cond (has_authority (drop i text)) r (from_path kind text i))
       (authority_is segment kind w j text (i + 2) (omega arith))
 
-  schemeless_is : schemeless_told segment kind text (front scheme_set text)
+  schemeless_is : schemeless_error segment kind text (front scheme_set text)
       ≡ (if has_authority text then from_authority kind text 2
       else from_relative kind text segment 0)
-  unfolding schemeless_told
+  unfolding schemeless_error
   schemeless_is = ⊎_elim
       (λ a. cond-true _ _ _ (slashes_scanned text ∙ a)
       ∙ authority_is segment kind w j text (front scheme_set text + 2) (omega arith)
@@ -51,16 +51,16 @@ module _ (segment : TableSet) (kind : Kind) (w : Separates segment kind) (j : Ad
       (λ a. cond-false _ _ _ (slashes_scanned text ∙ a) ∙ relative_on ∙ sym (cond-false _ _ _ a))
       (cases_Bool (has_authority text))
 
-  parsed_is : segment ≡ first_segment_set kind → parsed_told segment kind text ≡ refusal kind text
-  unfolding parsed_told refusal
+  parsed_is : segment ≡ first_segment_set kind → parsed_error segment kind text ≡ refusal kind text
+  unfolding parsed_error refusal
   parsed_is e =
       let scheme : ℕ = end_of text scheme_set 0 in
       let rest : Refusal → Refusal → Refusal = λ h r. cond (sees text 58 scheme)
       (cond (is_ascii_alphabetic (get_or text 0 0)) h (Some (unexpected 0)))
       (cond kind.needs_scheme (Some (unexpected scheme)) r) in
-      ap (λ h. rest h (schemeless_told segment kind text scheme)) (hier_is (scheme + 1))
+      ap (λ h. rest h (schemeless_error segment kind text scheme)) (hier_is (scheme + 1))
       ∙ ap (rest (from_hier kind text (scheme + 1)))
-      (ap (schemeless_told segment kind text) (zero-add (front scheme_set text)) ∙ schemeless_is
+      (ap (schemeless_error segment kind text) (zero-add (front scheme_set text)) ∙ schemeless_is
       ∙ ap (λ s. cond (has_authority text) (from_authority kind text 2)
       (from_relative kind text s 0)) e)
 
@@ -98,7 +98,7 @@ known_adjoins kind known = subst Adjoins (sym known) (one_adjoins _ _)
 pub whole_refusal : (kind tables : Kind) (segment : TableSet)
     → kind ≡ one_of_four kind.path.ucschar kind.needs_scheme → tables ≡ kind
     → segment ≡ first_segment_set kind
-    → (text : List ℕ) → parsed_told segment tables text ≡ refusal kind text
+    → (text : List ℕ) → parsed_error segment tables text ≡ refusal kind text
 whole_refusal kind tables segment known k s text =
     parsed_is segment tables (tables_of kind tables segment known k s)
     (subst Adjoins (sym k) (known_adjoins kind known)) text

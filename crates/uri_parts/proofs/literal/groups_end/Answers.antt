@@ -40,15 +40,15 @@ returns-then-ends_text-clause-exact c =
     ∙ over _ _ _ _ _ _ _ n c.behind_colon-first.ensures.exact c.digits_end-last.ensures.exact c.if-last-first.false
     (sym c.ends_text.ensures ∙ c.if-ends_text.true))
 
-pub returns-then-is_amiss-clause-exact : goal.returns-then-is_amiss-clause-exact
-returns-then-is_amiss-clause-exact c =
+pub returns-then-is_malformed_turn-clause-exact : goal.returns-then-is_malformed_turn-clause-exact
+returns-then-is_malformed_turn-clause-exact c =
     let n : c.args.room - c.loop-counted.counted ≡ (c.args.room - (c.loop-counted.counted + 1)) + 1 =
     omega (arith, c.loop-counted-test.true) in
     sym (c.loop-counted.invariant.left
     ∙ amiss _ _ _ _ _ _ _ n c.behind_colon-first.ensures.exact c.digits_end-last.ensures.exact c.if-last-first.false
     (sym c.ends_text.ensures ∙ c.if-ends_text.false)
     (ap (λ h. h && (c.loop-counted.counted == 0) || not h && not (c.loop-counted.counted == 0))
-    (sym c.sees-has_colon.ensures.value) ∙ sym c.is_amiss.ensures ∙ c.if-is_amiss.true))
+    (sym c.sees-has_colon.ensures.value) ∙ sym c.is_malformed_turn.ensures ∙ c.if-is_malformed_turn.true))
 
 pub returns-then-room-counted-eq1-clause-exact : goal.returns-then-room-counted-eq1-clause-exact
 returns-then-room-counted-eq1-clause-exact c =
@@ -58,7 +58,7 @@ returns-then-room-counted-eq1-clause-exact c =
     ∙ dotted_full _ _ _ _ _ _ _ n c.behind_colon-first.ensures.exact c.digits_end-last.ensures.exact c.if-last-first.false
     (sym c.ends_text.ensures ∙ c.if-ends_text.false)
     (ap (λ h. h && (c.loop-counted.counted == 0) || not h && not (c.loop-counted.counted == 0))
-    (sym c.sees-has_colon.ensures.value) ∙ sym c.is_amiss.ensures ∙ c.if-is_amiss.false)
+    (sym c.sees-has_colon.ensures.value) ∙ sym c.is_malformed_turn.ensures ∙ c.if-is_malformed_turn.false)
     (sym c.is_dotted.ensures ∙ c.if-is_dotted.true) (omega (arith, c.if-room-counted-eq1.true)))
 
 pub returns-in-Some-clause-exact : goal.returns-in-Some-clause-exact
@@ -71,7 +71,7 @@ returns-in-Some-clause-exact c =
     ∙ dotted _ _ _ _ _ _ _ n c.behind_colon-first.ensures.exact c.digits_end-last.ensures.exact c.if-last-first.false
     (sym c.ends_text.ensures ∙ c.if-ends_text.false)
     (ap (λ h. h && (c.loop-counted.counted == 0) || not h && not (c.loop-counted.counted == 0))
-    (sym c.sees-has_colon.ensures.value) ∙ sym c.is_amiss.ensures ∙ c.if-is_amiss.false)
+    (sym c.sees-has_colon.ensures.value) ∙ sym c.is_malformed_turn.ensures ∙ c.if-is_malformed_turn.false)
     (sym c.is_dotted.ensures ∙ c.if-is_dotted.true) (λ z. c.if-room-counted-eq1.false (omega arith))
     ∙ ap (behind_ipv4 c.args.text.now _) (sym c.ipv4_end.ensures.exact ∙ c.in-Some.is) ∙ ap (λ k. Groups_end k c.in-Some.end) less)
 
@@ -83,7 +83,7 @@ returns-in-None-clause-exact c =
     ∙ dotted _ _ _ _ _ _ _ n c.behind_colon-first.ensures.exact c.digits_end-last.ensures.exact c.if-last-first.false
     (sym c.ends_text.ensures ∙ c.if-ends_text.false)
     (ap (λ h. h && (c.loop-counted.counted == 0) || not h && not (c.loop-counted.counted == 0))
-    (sym c.sees-has_colon.ensures.value) ∙ sym c.is_amiss.ensures ∙ c.if-is_amiss.false)
+    (sym c.sees-has_colon.ensures.value) ∙ sym c.is_malformed_turn.ensures ∙ c.if-is_malformed_turn.false)
     (sym c.is_dotted.ensures ∙ c.if-is_dotted.true) (λ z. c.if-room-counted-eq1.false (omega arith))
     ∙ ap (behind_ipv4 c.args.text.now _) (sym c.ipv4_end.ensures.exact ∙ c.in-None.is))
 
@@ -98,7 +98,7 @@ loop-counted-preserved c =
           ∙ goes_on _ _ _ _ _ _ _ n c.behind_colon-first.ensures.exact c.digits_end-last.ensures.exact
           c.if-last-first.false (sym c.ends_text.ensures ∙ c.if-ends_text.false)
           (ap (λ h. h && (c.loop-counted.counted == 0) || not h && not (c.loop-counted.counted == 0))
-          (sym c.sees-has_colon.ensures.value) ∙ sym c.is_amiss.ensures ∙ c.if-is_amiss.false)
+          (sym c.sees-has_colon.ensures.value) ∙ sym c.is_malformed_turn.ensures ∙ c.if-is_malformed_turn.false)
           (sym c.is_dotted.ensures ∙ c.if-is_dotted.false)
           ∙ ap (λ f. groups_from c.args.text.now (c.args.room - (c.loop-counted.counted + 1)) f
           c.digits_end-last.result) (sym later);

@@ -3,7 +3,7 @@ use Rattle.std.specs.Prelude.{Result, Ok, Err, None, IsOk}
 use Rattle.std.specs.Result.{result_err}
 use Rattle.std.proofs.lemmas.Option.{none-some}
 use Rattle.std.proofs.lemmas.Bool.{false≢true}
-use Rattle.uri_parts.proofs.laws.refused_exactly_if_none.Goals as goal
+use Rattle.uri_parts.proofs.laws.accepted_exactly_if_no_error.Goals as goal
 
 ok_is : {A E : Type 0} (r : Result A E) → result_err r ≡ None → IsOk r
 ok_is (Ok x) e = refl
@@ -15,6 +15,6 @@ none_is (Err x) e = absurd (false≢true e)
 
 pub returns : goal.returns
 returns g c =
-    let told = c.parse-parsed.ensures.refused in
+    let found = c.parse-parsed.ensures.refused in
     let accepts = c.parse-parsed.ensures.accepts in
-    ((λ none. accepts.0 (ok_is _ (told ∙ none))), (λ of_kind. sym told ∙ none_is _ (accepts.1 of_kind)))
+    ((λ none. accepts.0 (ok_is _ (found ∙ none))), (λ of_kind. sym found ∙ none_is _ (accepts.1 of_kind)))
