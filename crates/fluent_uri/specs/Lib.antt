@@ -22,6 +22,7 @@ pub use Rattle.uri_parts.specs.Grammar
 pub use Rattle.uri_parts.specs.GrammarInWords
 pub use Rattle.uri_parts.specs.Hosts
 pub use Rattle.uri_parts.specs.Ports
+pub use Rattle.uri_parts.specs.Refusals
 pub use Rattle.uri_parts.specs.SchemePorts
 pub use Rattle.uri_parts.specs.Schemes
 pub use Rattle.uri_ops.specs.Conversions

@@ -97,10 +97,10 @@ pub mod laws {
     };
     pub use uri_ops::swap::{resolving_and_normalising_swap, targets_are_texts};
     pub use uri_parts::laws::{
-        components_are_a_split, components_are_the_only_split, components_recompose,
-        ipv4_addresses_compare_alike, ipv4_addresses_compare_by_octets, ipv4_is_less_than_ipv6,
-        ipv4_text_is_read_back, ipv6_addresses_compare_alike, ipv6_addresses_compare_by_segments,
-        ipv6_text_is_read_back,
+        accepted_exactly_if_no_error, components_are_a_split, components_are_the_only_split,
+        components_recompose, ipv4_addresses_compare_alike, ipv4_addresses_compare_by_octets,
+        ipv4_is_less_than_ipv6, ipv4_text_is_read_back, ipv6_addresses_compare_alike,
+        ipv6_addresses_compare_by_segments, ipv6_text_is_read_back,
     };
     pub use uri_pct::laws::{
         lossy_texts_are_those_of_std, octets_are_read_in_either_case,
