@@ -280,7 +280,7 @@ impl<T: AsStr> Iri<T> {
     ///
     /// # Errors
     ///
-    /// Only if memory is refused.
+    /// Only if allocation fails.
     ///
     /// # Examples
     ///
@@ -310,7 +310,7 @@ impl<T: AsStr> IriRef<T> {
     ///
     /// # Errors
     ///
-    /// Only if memory is refused.
+    /// Only if allocation fails.
     ///
     /// # Examples
     ///

@@ -166,7 +166,7 @@ impl<K: Kind, T: AsStr> fmt::Display for Reference<K, T> {
 
     ghost styled_output = { λ value spec. Some (styled_text spec (reference_text value)) };
 
-    /// Prints the text as it stands, padded and cut as the format asks.
+    /// Prints the text as it is, padded and cut as the format asks.
     fn fmt<W: fmt::Write>(&self, f: &mut fmt::Formatter<W>) -> fmt::Result {
         f.pad(self.core().as_str())
     }

@@ -21,7 +21,7 @@ impl<K: RefKind, T: AsStr> Reference<K, T> {
     /// `BaseWithFragment` if the base has a fragment, and else `InvalidReferenceAgainstOpaqueBase`
     /// if the base has no authority and its path doesn't begin with `/`, and this reference has no
     /// scheme, is not empty and doesn't begin with `#`, both before memory is asked for;
-    /// `OutOfMemory` if memory is refused. Never `PathUnderflow`.
+    /// `OutOfMemory` if allocation fails. Never `PathUnderflow`.
     ///
     /// # Examples
     ///

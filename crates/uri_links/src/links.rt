@@ -66,7 +66,7 @@ pub struct Register<P: DefaultPort> {
         get_by_text places text ≡ position (bytes_eq text) (map uri_text targets.items) },
 }
 
-/// What an error comes to: it is an outcome, unless memory was refused.
+/// What an error comes to: it is an outcome, unless allocation failed.
 fn refused(error: ResolveError) -> Result<Outcome, AllocError>
     ensures outcome { IfOk result (λ outcome.
         (outcome ≡ Outcome.Refused error) × (error ≢ ResolveError.OutOfMemory)) }
@@ -146,7 +146,7 @@ impl<P: DefaultPort> Register<P> {
         self.places.get(text).copied()
     }
 
-    /// Registers a target, and answers its id.
+    /// Registers a target, and returns its id.
     fn add(&mut self, target: Uri<String>) -> Result<usize, AllocError>
         requires new { position (bytes_eq (uri_text target)) (texts_of self.old) ≡ None }
         requires normal { normal_text (meaning_of uri (port_function_of self.old) (uri_text target))
@@ -186,13 +186,13 @@ impl<P: DefaultPort> Register<P> {
     }
 
     /// Notes a reference against a base, by the meaning of its target: where a registered target
-    /// has that meaning, its id is answered, and else the target's normal form is registered at the
-    /// end. A reference that has no target is refused, and nothing is registered.
+    /// has that meaning, its id is returned, and else the target's normal form is registered at the
+    /// end. A reference that has no target is rejected, and nothing is registered.
     ///
     /// # Errors
     ///
-    /// Only if memory is refused. The register has then what it had. A reference that has no target
-    /// asks for no memory, so it is refused whatever memory there is.
+    /// Only if allocation fails. The register has then what it had. A reference that has no target
+    /// asks for no memory, so it is rejected whatever memory there is.
     ///
     /// # Examples
     ///
@@ -212,7 +212,7 @@ impl<P: DefaultPort> Register<P> {
             (uri_ref_text reference.now)) }
         ensures kept { OnErr result (texts_of self.new ≡ texts_of self.old) }
         ensures ports { port_function_of self.new ≡ port_function_of self.old }
-        // A reference that has no target is refused whatever memory there is.
+        // A reference that has no target is rejected whatever memory there is.
         ensures refused { OnErr result (is_ok (resolution_of (components (uri_text base.now))
             (components (uri_ref_text reference.now))) ≡ true) }
     {
@@ -222,13 +222,13 @@ impl<P: DefaultPort> Register<P> {
         }
     }
 
-    /// Notes the references against a base in order, as `note` does each, and answers their
+    /// Notes the references against a base in order, as `note` does each, and returns their
     /// outcomes in that order.
     ///
     /// # Errors
     ///
-    /// Only if memory is refused. The register has then what it has where some front of the
-    /// references was noted, each of them whole, and none behind them.
+    /// Only if allocation fails. The register has then what it has where some prefix of the
+    /// references was noted, each of them whole, and none after them.
     ///
     /// # Examples
     ///
@@ -242,7 +242,7 @@ impl<P: DefaultPort> Register<P> {
         ensures noted { IfOk result (λ outcomes.
             outcomes_of (port_function_of self.old) (uri_text base.now) (texts_of self.old)
             (map uri_ref_text references.now) ≡ (outcomes.items, texts_of self.new)) }
-        // So each id that is answered has its target.
+        // So each id that is returned has its target.
         ensures ids { IfOk result (λ outcomes. All (HasText (texts_of self.new)) outcomes.items) }
         ensures front { OnErr result ((n : ℕ) × (texts_of self.new ≡
             (outcomes_of (port_function_of self.old) (uri_text base.now) (texts_of self.old)

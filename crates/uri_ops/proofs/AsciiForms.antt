@@ -1,4 +1,4 @@
--- Texts without characters past ASCII: the octets of each stand in its place.
+-- Texts without characters past ASCII: the octets of each are in its place.
 pub mod EncodedTokens
 pub mod EncodedReadings
 pub mod EncodedPaths

@@ -52,7 +52,7 @@ pub ruleset directory_laws = (
   underflows_directory,
 )
 
--- They may be removed from the front of a path first,
+-- They may be removed from the prefix of a path first,
 pub ruleset piece_laws = (removed_in_pieces, underflows_in_pieces)
 
 -- and from a base's path before a reference's is merged with it: RFC 3986, section 5.2.3.

@@ -1,4 +1,4 @@
--- What is refused of the parts of a builder: RFC 3986, sections 3.3 and 4.2.
+-- What is rejected of the parts of a builder: RFC 3986, sections 3.3 and 4.2.
 use Rattle.std.specs.Prelude.{◌≡◌, ◌&&◌, ◌||◌, not, ℕ, Bool, List, [], Option, Some, None, is_some}
 use Rattle.std.specs.Prelude.{unwrap_or, if◌then◌else◌}
 use Rattle.uri_parts.specs.Components as Components
@@ -14,7 +14,7 @@ use Rattle.uri_pct.specs.Delimiters.{slash}
 
 -- section 3.3: with an authority the path is empty or begins with `/`, without one it does not
 -- begin with `//`;
--- section 4.2: with neither a scheme nor an authority no `:` stands in the first segment
+-- section 4.2: with neither a scheme nor an authority no `:` is in the first segment
 unfoldable pub refusal_of : Bool → Bool → List ℕ → Option BuildError
 refusal_of has_scheme has_authority path =
     if has_authority

@@ -30,7 +30,7 @@ ascii_refusal text = option_map (λ index. NotAscii index) (first_past_ascii tex
 unfoldable pub uri_refusal : List ℕ → Option ConvertError
 uri_refusal text = option_or (scheme_refusal text) (ascii_refusal text)
 
--- a value is taken exactly if its text is of the kind, as it stands, and else refused for this
+-- a value is taken exactly if its text is of the kind, as it is, and else rejected for this
 -- reason
 pub record Converts {A : Type 0} (kind : Kind) (text_of : A → List ℕ) (text : List ℕ)
     (refusal : Option ConvertError) (result : Result A ConvertError) : Type 0 where
@@ -38,7 +38,7 @@ pub record Converts {A : Type 0} (kind : Kind) (text_of : A → List ℕ) (text 
   pub same : IfOk result (λ value. text_of value ≡ text)
   pub refused : result_err result ≡ refusal
 
--- the same of a value that owns its text, which comes back where it is refused
+-- the same of a value that owns its text, which comes back where it is rejected
 pub record ConvertsOwned {A B : Type 0} (kind : Kind) (text_of : A → List ℕ) (text : List ℕ)
     (refusal : Option ConvertError) (value : B)
     (result : Result A (ConvertError × B)) : Type 0 where

@@ -95,7 +95,7 @@ remove_dot_segments path = (run_whole path).output
 unfoldable pub underflows : List ℕ → Bool
 underflows path = (run_whole path).underflowed
 
--- section 5.2.3: what of the base's path stands before a merged path. Other than in the RFC, a base
+-- section 5.2.3: what of the base's path is before a merged path. Other than in the RFC, a base
 -- path that ends in a double dot is kept whole, so that its dots may be removed first or last.
 unfoldable pub directory : List ℕ → List ℕ
 directory path =

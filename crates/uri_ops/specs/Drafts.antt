@@ -13,16 +13,16 @@ lengths_of p = record {
   fragment = option_map length p.fragment;
 }
 
--- a part of some length behind a mark, where it is there
+-- a part of some length after a mark, where it is there
 abbrev pub part_in : ℕ → Option ℕ → List ℕ → Option (List ℕ)
 part_in mark len text = option_map (λ n. take n (drop mark text)) len
 
--- what stands behind a part and its marks
+-- what is after a part and its marks
 abbrev pub behind_part : ℕ → Option ℕ → List ℕ → List ℕ
 behind_part marks None text = text
 behind_part marks (Some n) text = drop (marks + n) text
 
--- the parts of these lengths, one behind the other
+-- the parts of these lengths, one after the other
 abbrev pub parts_in : Lengths → List ℕ → Bool → BuilderParts
 parts_in lengths text failed =
     let rest = behind_part 1 lengths.scheme text in

@@ -48,7 +48,7 @@ marked_authority kind default authority =
     marked (codes "//")
     (option_map normal_authority (option_map (authority_meaning kind default) authority)) []
 
--- Not in the RFC: under a scheme and without an authority `/.` stands before a path that begins
+-- Not in the RFC: under a scheme and without an authority `/.` is before a path that begins
 -- with `//`, which would be read as one.
 abbrev pub normal_path : Meaning → List ℕ
 normal_path m =
@@ -67,7 +67,7 @@ normal_components m = record {
 abbrev pub normal_text : Meaning → List ℕ
 normal_text m = recompose (normal_components m)
 
--- section 6.2.2.3: the path, by the scheme and the authority that stand before it
+-- section 6.2.2.3: the path, by the scheme and the authority that are before it
 abbrev pub path_text : TableSet → Option (List ℕ) → Option (List ℕ) → List ℕ → List ℕ
 path_text set scheme authority path =
     let text = print (read set (plain_path scheme path)) in

@@ -1,4 +1,4 @@
--- What a normaliser holds, answers and refuses: RFC 3986, section 6.2.2.
+-- What a normaliser holds, returns and rejects: RFC 3986, section 6.2.2.
 use Rattle.std.specs.Prelude.{◌≡◌, ◌↔◌, ℕ, Bool, List}
 use Rattle.uri_parts.specs.Components.{components}
 use Rattle.uri_parts.specs.Grammar.{Kind}

@@ -1,4 +1,4 @@
--- What a resolver holds and answers: RFC 3986, section 5.2.
+-- What a resolver holds and returns: RFC 3986, section 5.2.
 use Rattle.std.specs.Prelude.{Bool, ◌≡◌, ℕ, true, false, List, Ok, Err, is_ok}
 use Rattle.uri_parts.specs.Components.{Components, components}
 use Rattle.uri_ops.specs.declared.resolve.Resolver.{Resolver}
@@ -25,12 +25,12 @@ components_of p = components p.text.now
 abbrev pub finished : Components → Components
 finished t = record t { path = guarded t.authority (cleaned_path t.path) }
 
--- the target's text, which is refused where its dot segments underflow and that is not allowed
+-- the target's text, which is rejected where its dot segments underflow and that is not allowed
 abbrev pub IsTarget : Bool → Components → Components → List ℕ → Type 0
 IsTarget allowed base r text =
     (resolution_of base r ≡ Ok text) × (allowed ≡ false → target_underflows base r ≡ false)
 
--- when each error is answered: the first two whenever a reference has no target, and then before
+-- when each error is returned: the first two whenever a reference has no target, and then before
 -- memory is asked for
 abbrev pub IsErrorFor : Bool → Components → Components → ResolveError → Type 0
 IsErrorFor allowed base r Of.BaseWithFragment = resolution_of base r ≡ Err BaseWithFragment

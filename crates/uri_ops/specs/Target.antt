@@ -24,7 +24,7 @@ is_fragment_only r = is_none r.scheme && is_none r.authority && is_empty r.path 
 abbrev pub is_refused_as_opaque : Components → Components → Bool
 is_refused_as_opaque base r = is_opaque base && not (is_some r.scheme || is_fragment_only r)
 
--- section 5.2.3: the reference's path behind the base's directory (of which `directory` says what
+-- section 5.2.3: the reference's path after the base's directory (of which `directory` says what
 -- is not in the RFC)
 abbrev pub merged : List ℕ → List ℕ → List ℕ
 merged base reference = directory base ++ reference
@@ -53,7 +53,7 @@ cleaned_path path =
     -- Not in the RFC: a path that does not begin with `/` keeps them, such as that of `foo:a/../b`.
     else path
 
--- Not in the RFC: without an authority `/.` stands before a path that begins with `//`, which would
+-- Not in the RFC: without an authority `/.` is before a path that begins with `//`, which would
 -- be read as one.
 abbrev pub guarded : Option (List ℕ) → List ℕ → List ℕ
 guarded authority path =

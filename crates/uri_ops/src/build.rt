@@ -42,7 +42,7 @@ use uri_pct::pct_enc::EStr;
 ///
 /// # Examples
 ///
-/// The authority `a` and the path `b` are refused as `NonemptyRootlessPath`.
+/// The authority `a` and the path `b` are rejected as `NonemptyRootlessPath`.
 #[derive(Clone, Copy, Debug, PartialEq, Eq, Error)]
 pub enum BuildError {
     /// There is an authority, and the path is neither empty nor begins with `/` (RFC 3986, section
@@ -56,7 +56,7 @@ pub enum BuildError {
     /// 3986, section 4.2).
     #[error("when neither scheme nor authority is present, first path segment should not contain ':'")]
     FirstPathSegmentContainsColon,
-    /// Memory was refused.
+    /// Allocation failed.
     #[error("out of memory")]
     OutOfMemory,
 }
@@ -84,8 +84,8 @@ pub enum BuildError {
 ///     .build()
 /// ```
 ///
-/// A step that is refused memory marks the builder failed. Later steps keep the mark, and `build`
-/// answers `OutOfMemory`.
+/// A step whose allocation fails marks the builder failed. Later steps keep the mark, and `build`
+/// returns `OutOfMemory`.
 #[derive(Drop)]
 pub struct Builder<R: RiMaybeRef, S: StateOf<R>> {
     held: S::Held,
@@ -131,8 +131,8 @@ impl<R: RiMaybeRef, S: StateOf<R>> Builder<R, S> {
         Builder::holding(self.held.taken())
     }
 
-    /// The builder that the step answers for the value, where there is one, and else the same
-    /// builder in the state behind the step.
+    /// The builder that the step returns for the value, where there is one, and else the same
+    /// builder in the state after the step.
     ///
     /// The step may be called on every builder, as each method of `Builder` may that asks nothing.
     /// `optional(Builder::query, None)` adds nothing.
@@ -284,7 +284,7 @@ impl<R: RiMaybeRef, S: StateOf<R>> Builder<R, S> {
 
     /// Gives the port (RFC 3986, section 3.2.3): a number, which is written in decimal, or digits.
     ///
-    /// It should be neither empty nor the default port of the scheme. Behind a host, `port(8042)`
+    /// It should be neither empty nor the default port of the scheme. After a host, `port(8042)`
     /// writes `:8042`.
     pub fn port<P: AsPort>(self, port: P) -> Builder<R, PortEnd>
     where
@@ -359,12 +359,12 @@ impl<R: RiMaybeRef, S: StateOf<R>> Builder<R, S> {
     ///
     /// # Errors
     ///
-    /// `OutOfMemory` exactly if a step was refused memory. Else `NonemptyRootlessPath`,
+    /// `OutOfMemory` exactly if the allocation of a step failed. Else `NonemptyRootlessPath`,
     /// `PathStartsWithDoubleSlash` or `FirstPathSegmentContainsColon`, where it applies.
     ///
     /// # Examples
     ///
-    /// The scheme `foo`, no authority and the path `//a` are refused as
+    /// The scheme `foo`, no authority and the path `//a` are rejected as
     /// `PathStartsWithDoubleSlash`.
     pub fn build(self) -> Result<R, BuildError>
     where

@@ -16,12 +16,12 @@ pub trait DefaultPort: Drop {
     /// The default port of the scheme, if it has one.
     ///
     /// The answer depends on this value and on the scheme's text in lower case alone, so equal
-    /// schemes get equal answers.
+    /// schemes get equal ports.
     fn default_port(&self, scheme: Scheme<'_>) -> Option<u16>
         ensures { result ≡ port_of self.now (lowered_scheme scheme.entry) };
 }
 
-/// The default ports that `Scheme::default_port` answers.
+/// The default ports that `Scheme::default_port` returns.
 ///
 /// # Examples
 ///

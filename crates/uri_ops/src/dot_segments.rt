@@ -81,8 +81,8 @@ fn near_slash(bytes: &[u8], start: usize) -> usize
     slash_before(bytes, start, bytes.len())
 }
 
-/// Cuts off the last segment of the directory that stands in `out` from `start` on, with the `/`
-/// behind it, and answers whether there is none.
+/// Cuts off the last segment of the directory that is in `out` from `start` on, with the `/`
+/// after it, and returns whether there is none.
 fn pop_segment(start: usize, out: &mut String) -> bool
     requires { IsPlainDirectory (drop start (string_bytes out.old)) }
     ensures bytes { string_bytes out.new
@@ -114,7 +114,7 @@ pub(crate) fn has_dot_segments(path: &str) -> bool
 }
 
 /// Appends what the pieces make of the segments of a path, without dot segments, to the directory
-/// that stands in `out` from `start` on, and answers whether a double dot had nothing left to
+/// that is in `out` from `start` on, and returns whether a double dot had nothing left to
 /// remove.
 ///
 /// Segments that can't be dot segments are one piece, with the `/` between them. It is inlined, so
@@ -155,12 +155,12 @@ pub(crate) fn push_segments(
     Ok(underflowed)
 }
 
-/// Appends a path that begins with `/`, without its dot segments, and answers whether a double dot
+/// Appends a path that begins with `/`, without its dot segments, and returns whether a double dot
 /// had nothing left to remove (RFC 3986, section 5.2.4). A dot counts percent-encoded too.
 ///
 /// # Errors
 ///
-/// Only if memory is refused; part of the path may then have been appended.
+/// Only if allocation fails; part of the path may then have been appended.
 #[doc(hidden)]
 pub fn push_without_dot_segments(path: &str, out: &mut String) -> Result<bool, AllocError>
     requires { IsAbsolute path.now }
@@ -177,7 +177,7 @@ pub fn push_without_dot_segments(path: &str, out: &mut String) -> Result<bool, A
     Ok(underflowed)
 }
 
-/// Where the directory of a base's path ends (RFC 3986, section 5.2.3): behind its last `/`, or at
+/// Where the directory of a base's path ends (RFC 3986, section 5.2.3): after its last `/`, or at
 /// its end where it ends in a double dot, which stands for a directory.
 fn directory_end(path: &str) -> usize
     requires { IsAbsolute path.now }
@@ -213,7 +213,7 @@ fn is_plain_directory(path: &str) -> bool
     path.as_bytes()[path.len() - 1] == b'/' && plain_len(path) == path.len()
 }
 
-/// The directory that a directory stands in, which is `/` for `/` too.
+/// The parent of a directory; that of `/` is `/`.
 fn parent(directory: &str) -> &str
     requires { IsPlainDirectory directory.now }
     ensures { result.now ≡ parent_directory directory.now }
@@ -273,7 +273,7 @@ fn push_from_plain(path: &str, start: usize, out: &mut String) -> Result<bool, A
     Ok(underflowed)
 }
 
-/// Appends a reference's path behind a directory without dot segments like `push_merged`. What the
+/// Appends a reference's path after a directory without dot segments like `push_merged`. What the
 /// dot segments at its beginning remove of the directory is not appended.
 fn push_behind(directory: &str, reference: &str, out: &mut String) -> Result<bool, AllocError>
     requires { IsPlainDirectory directory.now }
@@ -289,8 +289,8 @@ fn push_behind(directory: &str, reference: &str, out: &mut String) -> Result<boo
     Ok(underflowed | of_rest)
 }
 
-/// Appends a reference's path behind the directory of a base's path (RFC 3986, section 5.2.3),
-/// without dot segments, and answers whether a double dot had nothing left to remove. The two are
+/// Appends a reference's path after the directory of a base's path (RFC 3986, section 5.2.3),
+/// without dot segments, and returns whether a double dot had nothing left to remove. The two are
 /// read one after the other, and never joined.
 pub(crate) fn push_merged(base: &str, reference: &str, out: &mut String) -> Result<bool, AllocError>
     requires { IsRooted base.now }

@@ -62,7 +62,7 @@ fn is_dot_start(byte: u8) -> bool
     byte == b'.' || byte == b'%'
 }
 
-/// How far a text reads up to the first `/` that has a dot or an octet behind it, and with it.
+/// How far a text reads up to the first `/` that has a dot or an octet after it, and with it.
 ///
 /// The last window begins so that it ends with the text: what is read twice has no such `/`.
 fn long_plain_len(bytes: &[u8]) -> usize
@@ -112,7 +112,7 @@ pub(crate) fn plain_len(path: &str) -> usize
     len_before_dots(path.as_bytes())
 }
 
-/// Where the second segment begins, or the end of the path: behind the `/` that may stand at `end`.
+/// Where the second segment begins, or the end of the path: after the `/` that may be at `end`.
 #[inline(always)]
 fn next_segment(path: &str, end: usize) -> usize
     requires within { end ≤ length path.now }
@@ -124,7 +124,7 @@ fn next_segment(path: &str, end: usize) -> usize
     if end < path.len() { end + 1 } else { end }
 }
 
-/// The dot segment that a path begins with, and how many bytes that takes, with the `/` behind it.
+/// The dot segment that a path begins with, and how many bytes that takes, with the `/` after it.
 pub(crate) enum Leading {
     /// A single dot.
     SingleDot(usize),

@@ -14,7 +14,7 @@ use uri_parts::positions::{AuthorityPositions, Positions};
 use uri_pct::lanes::{LANES, ascii_end};
 use uri_pct::octet::pct_encoded;
 
-/// How many bytes stand before the first one past ASCII, or before the end.
+/// How many bytes are before the first one past ASCII, or before the end.
 #[tactic(auto, using(crate::proofs::AsciiForms::EncodedRuns::encoded_runs))]
 fn ascii_len(bytes: &[u8]) -> usize
     ensures inside { result ≤ length bytes.now }
@@ -78,8 +78,8 @@ fn push_encoded(bytes: &[u8], out: &mut Vec<u8>) -> Result<(), AllocError>
     Ok(())
 }
 
-/// Appends what stands between two places, as `push_encoded`, where what stands before the first is
-/// written, and answers where it ends.
+/// Appends what is between two places, as `push_encoded`, where what is before the first is
+/// written, and returns where it ends.
 fn push_between(
     bytes: &[u8],
     start: usize,
@@ -96,8 +96,8 @@ fn push_between(
     Ok(out.len())
 }
 
-/// Appends what stands before a path that follows this authority, as `push_encoded`, and answers
-/// where the authority lies.
+/// Appends what is before a path that follows this authority, as `push_encoded`, and returns
+/// where the authority is.
 fn push_to_authority_end(
     bytes: &[u8],
     authority: AuthorityPositions,
@@ -121,7 +121,7 @@ fn push_to_authority_end(
     })
 }
 
-/// Appends what stands before the path, as `push_encoded`, and answers where the authority lies.
+/// Appends what is before the path, as `push_encoded`, and returns where the authority is.
 fn push_to_path(
     bytes: &[u8],
     positions: &Positions,
@@ -143,7 +143,7 @@ fn push_to_path(
     }
 }
 
-/// Appends the text whose components lie so, as `push_encoded`, and answers where they lie then.
+/// Appends the text whose components are so, as `push_encoded`, and returns where they are then.
 fn push_components(
     bytes: &[u8],
     positions: &Positions,
@@ -173,7 +173,7 @@ fn push_components(
 }
 
 /// The text of a value with each character past ASCII as the octets of its UTF-8, and where its
-/// components lie.
+/// components are.
 ///
 /// Memory is asked for once, for as many bytes as it has. Where all characters are ASCII, the text
 /// is copied, with its positions.

@@ -29,7 +29,7 @@ fn is_any_formatting(text: &str) -> bool
     false
 }
 
-/// Whether a formatting character stands in the text. All begin with the byte E2, which most texts
+/// Whether a formatting character is in the text. All begin with the byte E2, which most texts
 /// have not.
 fn has_formatting(text: &str) -> bool
     ensures { result ≡ list_any is_bidi_formatting (chars text.now) }
@@ -58,7 +58,7 @@ fn push_written(text: &str, out: &mut String) -> Result<(), AllocError>
     Ok(())
 }
 
-/// Writes the formatting characters of what stands from `start` on as octets; where there is none,
+/// Writes the formatting characters of what is from `start` on as octets; where there is none,
 /// nothing is written.
 ///
 /// After an error what stood from `start` on may be gone, or a part of it.

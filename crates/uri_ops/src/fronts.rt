@@ -1,4 +1,4 @@
-//! Fronts of texts that are read as they stand (RFC 3986, sections 6.2.2.1 and 6.2.2.2).
+//! Prefixes of texts that are read as they are (RFC 3986, sections 6.2.2.1 and 6.2.2.2).
 ghost use Rattle.std.specs.Prelude.{◌≡◌, ◌<◌, ◌&&◌, ◌∷◌, ◌+◌, ◌*◌, ℕ, [], Bool, IsTrue};
 ghost use Rattle.std.specs.Prelude.{MatchOption, OnOk, false, if◌then◌else◌, nat_lt, true};
 ghost use Rattle.std.specs.Char.{digit_value, is_ascii_hexdigit};

@@ -22,10 +22,10 @@ use uri_parts::component::{Authority, HostOf, Scheme};
 use uri_parts::positions::AuthorityPositions;
 use uri_pct::encoder::Encoder;
 
-/// Appends the normal form of an authority behind its scheme: the userinfo and the host as they are
-/// read, and the port unless it is empty or the scheme's default. It answers where it lies.
+/// Appends the normal form of an authority after its scheme: the userinfo and the host as they are
+/// read, and the port unless it is empty or the scheme's default. It returns where it is.
 ///
-/// After an error some of it may stand behind what was there.
+/// After an error, part of it may have been appended.
 #[doc(hidden)]
 pub fn push_authority<U: Encoder, R: Encoder, P: DefaultPort>(
     alloc: Global,
@@ -79,7 +79,7 @@ fn push_userinfo<U: Encoder, R: Encoder>(
 /// Appends the normal form of the host: an IPv6 address by its numbers (RFC 5952), and every other
 /// host with its ASCII letters in lower case, a name as it is read.
 ///
-/// After an error some of it may stand behind what was there.
+/// After an error, part of it may have been appended.
 #[doc(hidden)]
 pub fn push_host<U: Encoder, R: Encoder>(
     alloc: Global,

@@ -36,7 +36,7 @@ use uri_parts::positions::{AuthorityPositions, Positions};
 use uri_pct::encoder::{Encoder, PathEncoder};
 use uri_pct::pct_enc::EStr;
 
-/// Appends the scheme in lower case, and its `:`, and answers where it ends.
+/// Appends the scheme in lower case, and its `:`, and returns where it ends.
 fn push_scheme(scheme: Option<Scheme<'_>>, out: &mut String) -> Result<Option<usize>, AllocError>
     ensures text { OnOk result (Pushes out.old out.new
         (marked [] (normal_scheme (option_map scheme_text scheme.entry)) (codes ":"))) }
@@ -53,7 +53,7 @@ fn push_scheme(scheme: Option<Scheme<'_>>, out: &mut String) -> Result<Option<us
     Ok(Some(end))
 }
 
-/// Appends `//` and the normal form of the authority behind this scheme, and answers where it lies.
+/// Appends `//` and the normal form of the authority after this scheme, and returns where it is.
 fn push_marked_authority<U: Encoder, R: Encoder, P: DefaultPort>(
     alloc: Global,
     authority: Option<Authority<'_, U, R>>,
@@ -83,7 +83,7 @@ fn push_marked_authority<U: Encoder, R: Encoder, P: DefaultPort>(
     Ok(Some(places))
 }
 
-/// Appends what is read of a query or a fragment, behind its mark, and answers where it ends.
+/// Appends what is read of a query or a fragment, after its mark, and returns where it ends.
 fn push_marked<E: Encoder>(
     alloc: Global,
     mark: char,
@@ -105,7 +105,7 @@ fn push_marked<E: Encoder>(
     Ok(Some(out.len()))
 }
 
-/// What stands before a path under a scheme: `/.` if it would be read as an authority.
+/// What is before a path under a scheme: `/.` if it would be read as an authority.
 fn guard_before(follows_authority: bool, path: &str) -> &'static str
     ensures { (authority : Option (List ℕ)) → is_some authority ≡ follows_authority
         → (text : List ℕ) → has_authority text ≡ has_authority path.now
@@ -135,7 +135,7 @@ fn push_read_guarded<E: Encoder>(
 }
 
 /// Appends what is read of a path without its dot segments, with `/.` before it where it would be
-/// read as an authority, and answers whether a double dot had nothing left to remove.
+/// read as an authority, and returns whether a double dot had nothing left to remove.
 fn push_read_cleaned<E: Encoder>(
     alloc: Global,
     has_authority: bool,
@@ -158,8 +158,8 @@ fn push_read_cleaned<E: Encoder>(
     Ok(underflowed)
 }
 
-/// Appends what is read of a path that stands under a scheme and begins with `/`, without its dot
-/// segments, and answers whether a double dot had nothing left to remove.
+/// Appends what is read of a path that is under a scheme and begins with `/`, without its dot
+/// segments, and returns whether a double dot had nothing left to remove.
 fn push_absolute<E: Encoder>(
     alloc: Global,
     has_authority: bool,
@@ -181,7 +181,7 @@ fn push_absolute<E: Encoder>(
     Ok(false)
 }
 
-/// Appends a path as it stands in a normal text, and answers whether a double dot had nothing left
+/// Appends a path as it is in a normal text, and returns whether a double dot had nothing left
 /// to remove. Only under a scheme and from a `/` on are dot segments removed.
 fn push_normal_path<E: PathEncoder>(
     alloc: Global,
@@ -206,10 +206,10 @@ fn push_normal_path<E: PathEncoder>(
     Ok(false)
 }
 
-/// Appends the normal text of a value to what is empty, and answers where its components lie, and
+/// Appends the normal text of a value to what is empty, and returns where its components are, and
 /// whether the removal of its dot segments underflows.
 ///
-/// After an error some of it may stand there.
+/// After an error, part of it may have been appended.
 #[doc(hidden)]
 pub fn push_normal<K: Kind, P: DefaultPort>(
     alloc: Global,

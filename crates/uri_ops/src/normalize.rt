@@ -26,14 +26,14 @@ use uri_parts::positions::Positions;
 ///
 /// # Examples
 ///
-/// `http://a/../b` is refused as `PathUnderflow` where underflow is not allowed.
+/// `http://a/../b` is rejected as `PathUnderflow` where underflow is not allowed.
 #[derive(Clone, Copy, Debug, PartialEq, Eq, Error)]
 pub enum NormalizeError {
     /// A double dot had no segment left to remove (RFC 3986, section 5.2.4), and this is not
     /// allowed.
     #[error("underflow occurred in path resolution")]
     PathUnderflow,
-    /// Memory was refused.
+    /// Allocation failed.
     #[error("out of memory")]
     OutOfMemory,
 }
@@ -53,7 +53,7 @@ impl From<AllocError> for NormalizeError {
 ///
 /// # Examples
 ///
-/// `Normalizer::new().normalize(alloc, &uri)` answers `http://example.com/` for
+/// `Normalizer::new().normalize(alloc, &uri)` returns `http://example.com/` for
 /// `HTTP://Example.com:80/`.
 #[derive(Drop)]
 pub struct Normalizer<P> {
@@ -115,7 +115,7 @@ pub(crate) fn normal_form<K: Kind, P: DefaultPort>(
     written_form(alloc, core, ports)
 }
 
-/// The normal text of a text of a kind whose components lie so. Where it is the text, that is kept.
+/// The normal text of a text of a kind whose components are so. Where it is the text, that is kept.
 pub(crate) fn normal_form_of<K: Kind, P: DefaultPort>(
     alloc: Global,
     text: String,
@@ -169,11 +169,11 @@ impl Default for Normalizer<SchemeDefaults> {
 
 impl<P: DefaultPort> Normalizer<P> {
     /// The same with another say on whether dot segments may underflow: whether `/..` is removed
-    /// where no segment stands before it (RFC 3986, section 5.2.4), in place of an error.
+    /// where no segment is before it (RFC 3986, section 5.2.4), in place of an error.
     ///
     /// # Examples
     ///
-    /// `Normalizer::new().allow_path_underflow(false)` refuses `http://a/../b`.
+    /// `Normalizer::new().allow_path_underflow(false)` rejects `http://a/../b`.
     pub fn allow_path_underflow(self, value: bool) -> Normalizer<P>
         ensures allows { normalizer_allows_underflow result ≡ value }
         ensures ports { ports_of result ≡ ports_of self }
@@ -211,7 +211,7 @@ impl<P: DefaultPort> Normalizer<P> {
     /// # Errors
     ///
     /// `PathUnderflow` if underflow is not allowed, and under a scheme a double dot of a path that
-    /// begins with `/` has nothing left to remove; `OutOfMemory` if memory is refused.
+    /// begins with `/` has nothing left to remove; `OutOfMemory` if allocation fails.
     ///
     /// # Examples
     ///

@@ -19,8 +19,8 @@ fn is_slash(text: &[u8]) -> bool
     matches!(text, [b'/'])
 }
 
-/// Appends what is read of a piece of a path. A `/` by itself, as behind an empty segment, is read
-/// as it stands.
+/// Appends what is read of a piece of a path. A `/` by itself, as after an empty segment, is read
+/// as it is.
 #[inline(always)]
 fn push_piece(alloc: Global, table: &Table, piece: &str, out: &mut String) -> Result<(), AllocError>
     requires { IsValidFor widest_set piece.now }
@@ -36,7 +36,7 @@ fn push_piece(alloc: Global, table: &Table, piece: &str, out: &mut String) -> Re
 /// How the pieces of a path are appended.
 #[derive(Clone, Copy)]
 pub(crate) enum Pieces<'t> {
-    /// As they stand.
+    /// As they are.
     Copied,
     /// As what is read of them, where the table tells what a path allows.
     Read(Global, &'t Table),

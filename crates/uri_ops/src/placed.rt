@@ -1,4 +1,4 @@
-//! A text with where its components lie, and the pieces that a target has of it as they stand (RFC
+//! A text with where its components are, and the pieces that a target has of it as they are (RFC
 //! 3986, section 5.3).
 ghost use Rattle.std.specs.Prelude.{◌≡◌, ◌≤◌, ◌+◌, ◌++◌, ℕ, List, [], codes, length, Some, None};
 ghost use Rattle.std.specs.Prelude.{is_some, option_map};
@@ -10,7 +10,7 @@ ghost use Rattle.uri_parts.specs.Positions.{AreAt, authority_at, host_end_of, po
 use crate::traits::RiMaybeRef;
 use uri_parts::positions::{AuthorityPositions, Positions};
 
-/// A text with where its components lie, whose host lies in its authority.
+/// A text with where its components are, whose host is in its authority.
 #[doc(hidden)]
 #[derive(Drop)]
 pub struct Placed<'a> {
@@ -99,7 +99,7 @@ impl<'a> Placed<'a> {
         }
     }
 
-    /// The scheme and the authority with their marks: what stands before the path.
+    /// The scheme and the authority with their marks: what is before the path.
     pub(crate) fn before_path(&self) -> &'a str
         ensures { result.now ≡ before_path (components_of self.now) }
     {
@@ -135,7 +135,7 @@ impl<'a> Placed<'a> {
         &text[..self.positions.before_fragment()]
     }
 
-    /// The query and the fragment with their marks: what stands behind the path.
+    /// The query and the fragment with their marks: what is after the path.
     pub(crate) fn behind_path(&self) -> &'a str
         ensures { let p = components_of self.now in result.now
             ≡ marked (codes "?") p.query [] ++ marked (codes "#") p.fragment [] }
@@ -160,7 +160,7 @@ impl<'a> Placed<'a> {
         &text[self.positions.before_fragment()..]
     }
 
-    /// Where its components lie.
+    /// Where its components are.
     pub(crate) fn positions(&self) -> Positions
         ensures { result ≡ positions_of (components_of self.now) }
     {
@@ -174,14 +174,14 @@ impl<'a> Placed<'a> {
         self.positions.scheme_end
     }
 
-    /// Where the authority lies, if there is one.
+    /// Where the authority is, if there is one.
     pub(crate) fn authority(&self) -> Option<AuthorityPositions>
         ensures { result ≡ (positions_of (components_of self.now)).authority }
     {
         self.positions.authority
     }
 
-    /// Where the authority lies, if there is one, when what stands before the path stands behind
+    /// Where the authority is, if there is one, when what is before the path is after
     /// this scheme with its `:`.
     pub(crate) fn authority_behind(&self, scheme: &str) -> Option<AuthorityPositions>
         requires { (components_of self.now).scheme ≡ None }
@@ -193,7 +193,7 @@ impl<'a> Placed<'a> {
     }
 }
 
-/// Where an authority lies that ends a text, when that stands behind a scheme with its `:`.
+/// Where an authority is that ends a text, when that is after a scheme with its `:`.
 fn moved(places: AuthorityPositions, text: &str, scheme: &str) -> AuthorityPositions
     requires start { places.start ≤ places.end }
     requires host_start { places.host_start ≤ places.end }

@@ -1,4 +1,4 @@
-//! Targets that are the reference's text behind a front of the base (RFC 3986, sections 5.2.2 and
+//! Targets that are the reference's text after a prefix of the base (RFC 3986, sections 5.2.2 and
 //! 5.2.3), since neither has dot segments.
 ghost use Rattle.std.specs.Prelude.{◌≡◌, ◌<◌, IfSome, false, is_some, length, true};
 ghost use Rattle.uri_ops.specs.Dots.{is_empty, lacks_dot_segments};
@@ -38,7 +38,7 @@ fn plain_directory<'a>(base: &Placed<'a>) -> Option<&'a str>
     None
 }
 
-/// What of a base stands before a reference that has no path, where the base has an authority and
+/// What of a base is before a reference that has no path, where the base has an authority and
 /// its path no dot segments: all up to its query, or up to its fragment if the reference has no
 /// query.
 fn plain_base<'a>(base: &Placed<'a>, reference: &Placed<'_>) -> Option<&'a str>
@@ -58,7 +58,7 @@ fn plain_base<'a>(base: &Placed<'a>, reference: &Placed<'_>) -> Option<&'a str>
     Some(base.before_fragment())
 }
 
-/// What of a base stands before the text of a reference in the target, where neither has dot
+/// What of a base is before the text of a reference in the target, where neither has dot
 /// segments.
 pub(crate) fn plain_front<'a>(base: &Placed<'a>, reference: &Placed<'_>) -> Option<&'a str>
     ensures { IfSome result (λ front.

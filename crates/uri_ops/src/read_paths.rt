@@ -13,7 +13,7 @@ use crate::pieces::Pieces;
 use std::alloc::{AllocError, Global};
 use uri_pct::table::Table;
 
-/// Appends what is read of a path that begins with `/`, without its dot segments, and answers
+/// Appends what is read of a path that begins with `/`, without its dot segments, and returns
 /// whether a double dot had nothing left to remove. A double dot takes back the last segment of
 /// what was appended.
 pub(crate) fn push_read_path(

@@ -75,7 +75,7 @@ fn encodes_formatting(table: &Table) -> bool
 
 /// Appends what is read of the parts of the text, with its letters lowered where that is asked.
 ///
-/// It stands apart, since most texts have no part that asks for a window.
+/// It is a function of its own, since most texts have no part that asks for a window.
 #[inline(never)]
 fn push_parts(
     alloc: Global,
@@ -99,10 +99,10 @@ fn push_parts(
 }
 
 /// Appends what is read of the tokens of the text, with its letters lowered where that is asked:
-/// runs of what is read as it stands, and between them what octets by themselves are read as. Only
+/// runs of what is read as it is, and between them what octets by themselves are read as. Only
 /// an octet past ASCII of an IRI is not read by itself. The first octet has been found.
 ///
-/// It stands apart, since most texts have no octet.
+/// It is a function of its own, since most texts have no octet.
 #[inline(never)]
 fn push_runs(
     alloc: Global,
@@ -192,10 +192,10 @@ fn push_cased(
 }
 
 /// Appends what is read of the text: each character that octets spell as it is where it is
-/// readable, every other octet with upper-case digits, and all else as it stands; but formatting
+/// readable, every other octet with upper-case digits, and all else as it is; but formatting
 /// characters of bidirectional text as octets.
 ///
-/// After an error some of it may stand behind what was there.
+/// After an error, part of it may have been appended.
 #[doc(hidden)]
 pub fn push_read(
     alloc: Global,
@@ -211,7 +211,7 @@ pub fn push_read(
 
 /// Appends what is read of a component over its encoder, as `push_read` does.
 ///
-/// After an error some of it may stand behind what was there.
+/// After an error, part of it may have been appended.
 #[doc(hidden)]
 pub fn push_component<E: Encoder>(
     alloc: Global,
@@ -226,7 +226,7 @@ pub fn push_component<E: Encoder>(
 /// Appends what is read of a name: as `push_read` does, with the ASCII letters in lower case, also
 /// those that octets spell.
 ///
-/// After an error some of it may stand behind what was there.
+/// After an error, part of it may have been appended.
 #[doc(hidden)]
 pub fn push_read_host(
     alloc: Global,
@@ -253,7 +253,7 @@ fn lower_len(text: &str) -> usize
         .unwrap_or(bytes.len())
 }
 
-/// Appends the text with its ASCII letters in lower case: runs without upper case as they stand,
+/// Appends the text with its ASCII letters in lower case: runs without upper case as they are,
 /// and between them a letter.
 #[doc(hidden)]
 pub fn push_lower(text: &str, out: &mut String) -> Result<(), AllocError>

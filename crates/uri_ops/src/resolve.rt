@@ -24,7 +24,7 @@ use thiserror::Error;
 ///
 /// # Examples
 ///
-/// `//g` against `foo:bar` is refused as `InvalidReferenceAgainstOpaqueBase`.
+/// `//g` against `foo:bar` is rejected as `InvalidReferenceAgainstOpaqueBase`.
 #[derive(Clone, Copy, Debug, PartialEq, Eq, Error)]
 pub enum ResolveError {
     /// The base has a fragment (RFC 3986, section 5.1).
@@ -38,7 +38,7 @@ pub enum ResolveError {
     /// allowed.
     #[error("underflow occurred in path resolution")]
     PathUnderflow,
-    /// Memory was refused.
+    /// Allocation failed.
     #[error("out of memory")]
     OutOfMemory,
 }
@@ -57,7 +57,7 @@ impl From<AllocError> for ResolveError {
 ///
 /// # Examples
 ///
-/// `Resolver::with_base(base).resolve(alloc, &reference)` answers `http://a/b/g` for
+/// `Resolver::with_base(base).resolve(alloc, &reference)` returns `http://a/b/g` for
 /// `http://a/b/c/d;p?q` and `../g`.
 #[derive(Drop)]
 pub struct Resolver<R> {
@@ -66,7 +66,7 @@ pub struct Resolver<R> {
 }
 
 /// The text of the target of a reference against a base (RFC 3986, section 5.2), and where its
-/// components lie.
+/// components are.
 fn resolved_text<B: Ri, Q: RefOf<B>>(
     alloc: Global,
     base: &B,
@@ -171,11 +171,11 @@ impl<R: Ri> Resolver<R> {
     }
 
     /// The same with another say on whether dot segments may underflow: whether `/..` is removed
-    /// where no segment stands before it (RFC 3986, section 5.2.4), in place of an error.
+    /// where no segment is before it (RFC 3986, section 5.2.4), in place of an error.
     ///
     /// # Examples
     ///
-    /// `Resolver::with_base(base).allow_path_underflow(false)` refuses `../../../g` against
+    /// `Resolver::with_base(base).allow_path_underflow(false)` rejects `../../../g` against
     /// `http://a/b/c/d;p?q`.
     pub fn allow_path_underflow(self, value: bool) -> Resolver<R>
         ensures base { base_of result ≡ base_of self }
@@ -198,7 +198,7 @@ impl<R: Ri> Resolver<R> {
     ///   path.
     /// - An empty reference path takes the base's path without its dot segments, if that begins
     ///   with `/`.
-    /// - A reference with a scheme keeps a path that doesn't begin with `/` as it stands.
+    /// - A reference with a scheme keeps a path that doesn't begin with `/` as it is.
     ///
     /// Nothing else of the two texts changes: the target is not normalised. Of a base and a
     /// reference that mean the same, such as their normal forms, the target means the same; and of
@@ -211,7 +211,7 @@ impl<R: Ri> Resolver<R> {
     /// `BaseWithFragment` if the base has a fragment, and else `InvalidReferenceAgainstOpaqueBase`
     /// if the base takes no such reference, both before memory is asked for; `PathUnderflow` if
     /// underflow is not allowed, and a double dot of a target path that begins with `/` has nothing
-    /// left to remove; `OutOfMemory` if memory is refused.
+    /// left to remove; `OutOfMemory` if allocation fails.
     ///
     /// # Examples
     ///
@@ -240,7 +240,7 @@ impl<R: Ri> Resolver<R> {
         resolved(alloc, &self.base, reference, self.allow_path_underflow)
     }
 
-    /// The normal form of the target of a reference against the base: what `resolve` answers where
+    /// The normal form of the target of a reference against the base: what `resolve` returns where
     /// underflow is allowed, and then `normalize` of a normaliser with these ports (RFC 3986,
     /// sections 5.2, 6.2.2 and 6.2.3). Whether underflow is allowed by either setting makes no
     /// difference. A base and a reference that mean the same, such as the normal forms of both,
@@ -248,8 +248,8 @@ impl<R: Ri> Resolver<R> {
     ///
     /// # Errors
     ///
-    /// `BaseWithFragment` and `InvalidReferenceAgainstOpaqueBase` as `resolve` answers them;
-    /// `OutOfMemory` if memory is refused.
+    /// `BaseWithFragment` and `InvalidReferenceAgainstOpaqueBase` as `resolve` returns them;
+    /// `OutOfMemory` if allocation fails.
     ///
     /// # Examples
     ///

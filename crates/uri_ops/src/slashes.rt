@@ -14,14 +14,14 @@ pub fn begins_with_slash(path: &[u8]) -> bool
     path.first() == Some(&b'/')
 }
 
-/// Whether a path would be read as an authority, where none stands before it.
+/// Whether a path would be read as an authority, where none is before it.
 pub fn begins_with_two_slashes(path: &[u8]) -> bool
     ensures { result ≡ has_authority path.now }
 {
     matches!(path, [b'/', b'/', ..])
 }
 
-/// Puts `/.` before the path that stands in `out` from `start` on, with no authority before it,
+/// Puts `/.` before the path that is in `out` from `start` on, with no authority before it,
 /// where it would be read as one.
 pub(crate) fn guard_path(start: usize, out: &mut String) -> Result<(), AllocError>
     requires { IsCharBoundary (string_bytes out.old) start }

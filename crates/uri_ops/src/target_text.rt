@@ -1,4 +1,4 @@
-//! The text of a target, and where its components lie (RFC 3986, sections 5.2 and 5.3).
+//! The text of a target, and where its components are (RFC 3986, sections 5.2 and 5.3).
 ghost use Rattle.std.specs.Prelude.{◌≡◌, ◌||◌, ◌+◌, ◌++◌, [], codes, false, length, IfOk};
 ghost use Rattle.std.specs.Prelude.{IfErr, OnOk, is_some, option_map, string_bytes, true};
 ghost use Rattle.uri_pct.specs.Delimiters.{number_sign};
@@ -20,7 +20,7 @@ use crate::slashes::{begins_with_slash, guard_path};
 use std::alloc::{AllocError, Global};
 use uri_parts::positions::{AuthorityPositions, Positions};
 
-/// The text of a target, and where its components lie.
+/// The text of a target, and where its components are.
 #[derive(Drop)]
 pub(crate) struct Target {
     pub(crate) text: String,
@@ -64,7 +64,7 @@ fn scheme_end(base: &Placed<'_>, reference: &Placed<'_>) -> Option<usize>
     }
 }
 
-/// Where the target's authority lies, if it has one.
+/// Where the target's authority is, if it has one.
 fn authority(base: &Placed<'_>, reference: &Placed<'_>) -> Option<AuthorityPositions>
     ensures { let t = joined (components_of base.now) (components_of reference.now) in
         result ≡ (positions_of t).authority }
@@ -93,7 +93,7 @@ fn push_front(base: &Placed<'_>, reference: &Placed<'_>, out: &mut String) -> Re
     out.push_str(base.before_path())
 }
 
-/// Appends a path without its dot segments, if it begins with `/`, and answers whether their
+/// Appends a path without its dot segments, if it begins with `/`, and returns whether their
 /// removal underflows.
 fn push_cleaned(path: &str, out: &mut String) -> Result<bool, AllocError>
     ensures text { OnOk result (Pushes out.old out.new (cleaned_path path.now)) }
@@ -107,7 +107,7 @@ fn push_cleaned(path: &str, out: &mut String) -> Result<bool, AllocError>
     }
 }
 
-/// Appends the target's path without its dot segments, if it begins with `/`, and answers whether
+/// Appends the target's path without its dot segments, if it begins with `/`, and returns whether
 /// their removal underflows (RFC 3986, section 5.2.2).
 fn push_target_path(
     base: &Placed<'_>,
@@ -159,7 +159,7 @@ fn push_guarded(
     Ok(underflowed)
 }
 
-/// Appends the query of a text with its `?`, where it is present, and answers where it ends.
+/// Appends the query of a text with its `?`, where it is present, and returns where it ends.
 fn push_marked_query(source: &Placed<'_>, out: &mut String) -> Result<Option<usize>, AllocError>
     ensures text { OnOk result (Pushes out.old out.new
         (marked (codes "?") (components_of source.now).query [])) }
@@ -185,7 +185,7 @@ fn push_marked_fragment(source: &Placed<'_>, out: &mut String) -> Result<(), All
     Ok(())
 }
 
-/// Appends the query and the fragment of a text with their marks, and answers where the query ends,
+/// Appends the query and the fragment of a text with their marks, and returns where the query ends,
 /// if there is one.
 fn push_behind_path(source: &Placed<'_>, out: &mut String) -> Result<Option<usize>, AllocError>
     ensures text { let p = components_of source.now in OnOk result (Pushes out.old out.new
@@ -205,7 +205,7 @@ fn push_behind_path(source: &Placed<'_>, out: &mut String) -> Result<Option<usiz
     Ok(None)
 }
 
-/// Appends the target's query and fragment with their marks, and answers where the query ends, if
+/// Appends the target's query and fragment with their marks, and returns where the query ends, if
 /// there is one.
 fn push_end(
     base: &Placed<'_>,
@@ -227,7 +227,7 @@ fn push_end(
     push_behind_path(reference, out)
 }
 
-/// Appends a target up to the end of its path to what is empty, and answers where the path begins,
+/// Appends a target up to the end of its path to what is empty, and returns where the path begins,
 /// and whether the removal of its dot segments underflows.
 fn push_to_path_end(
     base: &Placed<'_>,
@@ -252,7 +252,7 @@ fn push_to_path_end(
     Ok((path_start, underflowed))
 }
 
-/// Appends a target to what is empty, and answers where its components lie, and whether the removal
+/// Appends a target to what is empty, and returns where its components are, and whether the removal
 /// of its dot segments underflows.
 fn push_target(
     base: &Placed<'_>,
@@ -295,7 +295,7 @@ fn kept_len(base: &Placed<'_>, reference: &Placed<'_>) -> usize {
 }
 
 /// How long the text of a target may get: no longer than with its dot segments, and a `/` before
-/// a path behind an authority.
+/// a path after an authority.
 fn room_for(base: &Placed<'_>, reference: &Placed<'_>) -> usize {
     if reference.has_scheme() {
         return reference.len();
@@ -305,7 +305,7 @@ fn room_for(base: &Placed<'_>, reference: &Placed<'_>) -> usize {
         .saturating_add(1)
 }
 
-/// Where the components lie of the target that is the reference's text behind a front of the base.
+/// Where the components are of the target that is the reference's text after a prefix of the base.
 fn plain_positions(base: &Placed<'_>, reference: &Placed<'_>, front: &str) -> Positions
     requires { IsPlainTarget (components_of base.now) (components_of reference.now) front.now }
     ensures { let t = joined (components_of base.now) (components_of reference.now) in
@@ -323,7 +323,7 @@ fn plain_positions(base: &Placed<'_>, reference: &Placed<'_>, front: &str) -> Po
     positions
 }
 
-/// The target that is the reference's text behind a front of the base.
+/// The target that is the reference's text after a prefix of the base.
 fn plain_target(
     alloc: Global,
     base: &Placed<'_>,
@@ -344,7 +344,7 @@ fn plain_target(
     Ok(Target { text, positions })
 }
 
-/// The target's text, and where its components lie. An error that the components alone decide comes
+/// The target's text, and where its components are. An error that the components alone decide comes
 /// before memory is asked for.
 pub(crate) fn target_text(
     alloc: Global,

@@ -61,7 +61,7 @@ pub trait RiMaybeRef {
 
     ghost owned_text: { Self.Owned → List ℕ };
 
-    /// The text as it stands.
+    /// The text as it is.
     ///
     /// # Examples
     ///
@@ -70,7 +70,7 @@ pub trait RiMaybeRef {
         ensures text { result.now ≡ text self.now }
         ensures of_kind { IsOfKind kind result.now };
 
-    /// Where the components of the text lie.
+    /// Where the components of the text are.
     #[doc(hidden)]
     fn positions(&self) -> Positions
         ensures { AreAt (text self.now) result };
@@ -153,7 +153,7 @@ pub trait RiMaybeRef {
 
 /// A kind whose `Owned` is of the kind as well.
 ///
-/// It is implemented for the four kinds alone. Generic code that goes on with what a call answers,
+/// It is implemented for the four kinds alone. Generic code that goes on with what a call returns,
 /// as a normal form, asks for `R: WithOwned` and `R::Owned: RiMaybeRef`.
 ///
 /// # Examples

@@ -1,4 +1,4 @@
--- Text or bytes that may be borrowed, as decoding answers them: RFC 3986, section 2.1.
+-- Text or bytes that may be borrowed, as decoding returns them: RFC 3986, section 2.1.
 use Rattle.std.specs.Prelude.{ℕ, ◌≡◌, List, ⊤, string_bytes, IsUtf8}
 use Rattle.uri_pct.specs.declared.cow.CowStr.{CowStr}
 use Rattle.uri_pct.specs.declared.cow.CowStr.TheVariants as text

@@ -14,7 +14,7 @@ encode_char set c = if allows set c then Char c ∷ [] else map Octet (encode_ut
 abbrev pub encode_text : TableSet → List ℕ → List Token
 encode_text set text = flat_map (encode_char set) (chars text)
 
--- the part of a text from start to end is encoded as what is written for it, and what is behind it
+-- the part of a text from start to end is encoded as what is written for it, and what is after it
 -- by itself
 abbrev pub IsEncodedBy : (List ℕ → List ℕ) → TableSet → List ℕ → ℕ → ℕ → Type 0
 IsEncodedBy written set text start end =

@@ -10,7 +10,7 @@ pub data Part : Type 0 where
   Plain : List ℕ → Part
   Read : Piece → Part
 
--- the parts, where a run of octets stands before the chunks
+-- the parts, where a run of octets is before the chunks
 unfoldable pub parts_from : List ℕ → List Chunk → List Part
 parts_from run [] = map Read (utf8_pieces run)
 parts_from run (Byte value ∷ chunks) = parts_from (run ++ value ∷ []) chunks

@@ -57,18 +57,18 @@ unfoldable pub following : ℕ → Option (List ByteRange)
 following b =
     option_map (λ (row : Row). row.1) (find (λ (row : Row). is_within row.0 b) well_formed_rows)
 
--- how many bytes at the front of the text lie in the ranges, one after the other
+-- how many bytes at the start of the text are in the ranges, one after the other
 abbrev pub fitting : List ByteRange → List ℕ → ℕ
 fitting [] text = 0
 fitting (range ∷ ranges) [] = 0
 fitting (range ∷ ranges) (b ∷ rest) = if is_within range b then suc (fitting ranges rest) else 0
 
--- how many bytes the first piece has behind its first
+-- how many bytes the first piece has after its first
 abbrev pub taken : Option (List ByteRange) → List ℕ → ℕ
 taken None rest = 0
 taken (Some ranges) rest = fitting ranges rest
 
--- the first piece: where no character stands, it is the longest front that begins one, or else one
+-- the first piece: where no character stands, it is the longest prefix that begins one, or else one
 -- byte
 abbrev pub first_piece : Option (List ByteRange) → ℕ → List ℕ → Piece
 first_piece None b rest = IllFormed (b ∷ [])

@@ -35,7 +35,7 @@ read_piece set (IllFormed bytes) = map Octet bytes
 unfoldable pub read_run : TableSet → List ℕ → List Token
 read_run set run = flat_map (read_piece set) (utf8_pieces run)
 
--- the tokens, where a run of octets stands before them
+-- the tokens, where a run of octets is before them
 unfoldable pub read_from : TableSet → List ℕ → List Token → List Token
 read_from set run [] = read_run set run
 read_from set run (Octet value ∷ ts) = read_from set (run ++ value ∷ []) ts
@@ -61,7 +61,7 @@ formatting_as_octets set (Char c) =
     if is_never_literal set c then map Octet (encode_utf8 c) else Char c ∷ []
 formatting_as_octets set (Octet value) = Octet value ∷ []
 
--- it stands there as it is
+-- it is there as it is
 abbrev pub is_literal_formatting : Token → Bool
 is_literal_formatting (Char c) = is_bidi_formatting c
 is_literal_formatting (Octet value) = false

@@ -50,7 +50,7 @@ is_path_char c = is_pchar c || c == slash
 abbrev pub is_query_char : ℕ → Bool
 is_query_char c = is_pchar c || is_one_of (codes "/?") c
 
--- RFC 3987, section 2.2: the characters past ASCII that stand in every part of an IRI
+-- RFC 3987, section 2.2: the characters past ASCII that are in every part of an IRI
 unfoldable pub is_ucschar : ℕ → Bool
 is_ucschar c =
     is_in_range 0xA0 0xD7FF c || is_in_range 0xF900 0xFDCF c
@@ -63,7 +63,7 @@ is_ucschar c =
     || is_in_range 0xC0000 0xCFFFD c || is_in_range 0xD0000 0xDFFFD c
     || is_in_range 0xE1000 0xEFFFD c
 
--- RFC 3987, section 2.2: those that stand in a query alone
+-- RFC 3987, section 2.2: those that are in a query alone
 unfoldable pub is_iprivate : ℕ → Bool
 is_iprivate c =
     is_in_range 0xE000 0xF8FF c || is_in_range 0xF0000 0xFFFFD c || is_in_range 0x100000 0x10FFFD c

@@ -10,7 +10,7 @@ use Rattle.uri_pct.specs.Delimiters.{percent_sign, slash}
 abbrev pub lacks : ℕ → List ℕ → Bool
 lacks byte text = list_all (λ b. not (b == byte)) text
 
--- no `%` stands in the text
+-- no `%` is in the text
 abbrev pub is_unencoded : List ℕ → Bool
 is_unencoded text = lacks percent_sign text
 
@@ -18,19 +18,19 @@ is_unencoded text = lacks percent_sign text
 abbrev pub is_absolute : List ℕ → Bool
 is_absolute text = slice_index text 0 == slash
 
--- the text is cut where the byte stands first, or last
+-- the text is cut where the byte is first, or last
 abbrev pub IsFirstCut : ℕ → List ℕ → List ℕ → List ℕ → Type 0
 IsFirstCut byte text before after = (text ≡ before ++ byte ∷ after) × IsTrue (lacks byte before)
 
 abbrev pub IsLastCut : ℕ → List ℕ → List ℕ → List ℕ → Type 0
 IsLastCut byte text before after = (text ≡ before ++ byte ∷ after) × IsTrue (lacks byte after)
 
--- RFC 3986, section 2.1: two hexadecimal digits stand behind the place
+-- RFC 3986, section 2.1: two hexadecimal digits are after the place
 unfoldable pub has_digits : List ℕ → ℕ → Bool
 has_digits text i =
     is_ascii_hexdigit (slice_index text (i + 1)) && is_ascii_hexdigit (slice_index text (i + 2))
 
--- a `%` that two hexadecimal digits do not follow stands there
+-- a `%` that two hexadecimal digits do not follow is there
 pub record IsStrayPercent (text : List ℕ) (i : ℕ) : Type 0 where
   pub inside : i < length text
   pub percent : slice_index text i ≡ percent_sign

@@ -12,7 +12,7 @@ use thiserror::Error;
 /// What `a%20b` decodes to is `Owned`, and what `ab` decodes to `Borrowed`.
 #[derive(Debug, Drop)]
 pub enum CowStr<'a> {
-    /// A text that stands elsewhere.
+    /// A text that is elsewhere.
     Borrowed(&'a str),
     /// A text of its own.
     Owned(String),
@@ -25,7 +25,7 @@ pub enum CowStr<'a> {
 /// The bytes that `%E9` decodes to are `Owned`, and those of `ab` `Borrowed`.
 #[derive(Debug, Drop)]
 pub enum CowSlice<'a, T> {
-    /// Items that stand elsewhere.
+    /// Items that are elsewhere.
     Borrowed(&'a [T]),
     /// Items of its own.
     Owned(Vec<T>),
@@ -52,7 +52,7 @@ impl<'a> CowStr<'a> {
     ///
     /// # Errors
     ///
-    /// Only if memory is refused for a copy. The borrowed text is where it was.
+    /// Only if allocation fails for a copy. The borrowed text is where it was.
     ///
     /// # Examples
     ///
@@ -78,7 +78,7 @@ impl<'a> fmt::Display for CowStr<'a> {
 
     ghost styled_output = { λ text spec. Some (styled_text spec (cow_text text)) };
 
-    /// Prints the text as it stands, padded and cut as the format asks.
+    /// Prints the text as it is, padded and cut as the format asks.
     fn fmt<W: fmt::Write>(&self, f: &mut fmt::Formatter<W>) -> fmt::Result {
         f.pad(self.as_str())
     }
@@ -109,7 +109,7 @@ impl<'a, T: Copy> CowSlice<'a, T> {
     ///
     /// # Errors
     ///
-    /// Only if memory is refused for a copy. The borrowed items are where they were.
+    /// Only if allocation fails for a copy. The borrowed items are where they were.
     ///
     /// # Examples
     ///

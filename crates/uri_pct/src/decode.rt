@@ -27,12 +27,12 @@ pub enum DecodedChunk<'a> {
     PctDecoded(u8),
 }
 
-/// What is left to decode of a text: an iterator of its parts, which answers `None` for ever once
+/// What is left to decode of a text: an iterator of its parts, which returns `None` for ever once
 /// nothing is left.
 ///
 /// # Examples
 ///
-/// `EStr::<Query>::new_or_panic("a%20b").decode()` has three parts, and its `to_string` answers `a
+/// `EStr::<Query>::new_or_panic("a%20b").decode()` has three parts, and its `to_string` returns `a
 /// b`.
 #[derive(Drop)]
 pub struct Decode<'a> {
@@ -82,7 +82,7 @@ impl<'a> Decode<'a> {
     ///
     /// # Errors
     ///
-    /// Only if memory is refused, which is asked for only where a `%` is left.
+    /// Only if allocation fails. Memory is asked for only where a `%` is left.
     ///
     /// # Examples
     ///

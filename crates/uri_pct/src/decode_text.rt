@@ -87,12 +87,12 @@ impl<'a> Decode<'a> {
     ///
     /// # Errors
     ///
-    /// `NotUtf8` with the bytes, exactly if they are not UTF-8; `OutOfMemory` if memory is refused,
+    /// `NotUtf8` with the bytes, exactly if they are not UTF-8; `OutOfMemory` if allocation fails,
     /// which is asked for only where a `%` is left.
     ///
     /// # Examples
     ///
-    /// Of `%C3%A9` it is `é`, owned; of `ab` it is `ab`, borrowed; and `%E9` is refused with the
+    /// Of `%C3%A9` it is `é`, owned; of `ab` it is `ab`, borrowed; and `%E9` is rejected with the
     /// byte E9.
     pub fn to_string(self, alloc: Global) -> Result<CowStr<'a>, DecodeError>
         ensures text { IfOk result (λ text. cow_text text ≡ decoded self.entry) }
@@ -125,7 +125,7 @@ impl<'a> Decode<'a> {
     ///
     /// # Errors
     ///
-    /// Only if memory is refused, which is asked for only where a `%` is left.
+    /// Only if allocation fails. Memory is asked for only where a `%` is left.
     ///
     /// # Examples
     ///

@@ -65,7 +65,7 @@ fn refused_end(table: &Table, text: &str, start: usize) -> usize
 
 /// Appends the text: each character as it is where the table allows it, and else as octets.
 ///
-/// After an error some of it may stand behind what was there.
+/// After an error, part of it may have been appended.
 #[doc(hidden)]
 pub fn push_text(table: &Table, text: &str, out: &mut String) -> Result<(), AllocError>
     ensures ok { OnOk result
@@ -88,7 +88,7 @@ pub fn push_text(table: &Table, text: &str, out: &mut String) -> Result<(), Allo
 /// Appends the bytes: each character as `push_text` does, and each byte of an ill-formed part as
 /// an octet.
 ///
-/// After an error some of it may stand behind what was there.
+/// After an error, part of it may have been appended.
 #[doc(hidden)]
 pub fn push_bytes(table: &Table, bytes: &[u8], out: &mut String) -> Result<(), AllocError>
     ensures ok { OnOk result

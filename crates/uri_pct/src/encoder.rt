@@ -6,7 +6,7 @@ use crate::table::{self, Table};
 /// Which characters stand for themselves, and whether percent-encoded octets stand beside them.
 ///
 /// `set` names the set once and for all: whoever implements the trait chooses it, and `table`
-/// answers it. It lacks `%`, as `lacks_percent` says: that begins an octet and stands for nothing
+/// returns it. It lacks `%`, as `lacks_percent` says: that begins an octet and stands for nothing
 /// else (RFC 3986, section 2.1). Of a set that is written out `refl` proves it.
 ///
 /// # Examples

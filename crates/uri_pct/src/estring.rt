@@ -61,7 +61,7 @@ impl<E: Encoder> EString<E> {
     ///
     /// # Errors
     ///
-    /// Only if memory is refused.
+    /// Only if allocation fails.
     ///
     /// # Examples
     ///
@@ -84,7 +84,7 @@ impl<E: Encoder> EString<E> {
         EStr::new_or_panic(self.text.as_str())
     }
 
-    /// The text as it stands, for as long as the value is borrowed.
+    /// The text as it is, for as long as the value is borrowed.
     ///
     /// # Examples
     ///
@@ -141,7 +141,7 @@ impl<E: Encoder> EString<E> {
         self.text.clear();
     }
 
-    /// The text as it stands.
+    /// The text as it is.
     ///
     /// # Examples
     ///
@@ -161,7 +161,7 @@ impl<E: Encoder> EString<E> {
     ///
     /// # Errors
     ///
-    /// Only if memory is refused. The text is then as it was.
+    /// Only if allocation fails. The text is then as it was.
     ///
     /// # Examples
     ///
@@ -188,7 +188,7 @@ impl<E: Encoder> EString<E> {
     ///
     /// # Errors
     ///
-    /// Only if memory is refused. The text is then as it was.
+    /// Only if allocation fails. The text is then as it was.
     ///
     /// # Examples
     ///
@@ -210,7 +210,7 @@ impl<E: Encoder> EString<E> {
     ///
     /// # Errors
     ///
-    /// Only if memory is refused, which it isn't within the capacity. The text is then as it was.
+    /// Only if allocation fails, never within the capacity. The text is then as it was.
     ///
     /// # Examples
     ///
@@ -228,11 +228,11 @@ impl<E: Encoder> EString<E> {
         Ok(())
     }
 
-    /// Appends the text as it stands.
+    /// Appends the text as it is.
     ///
     /// # Errors
     ///
-    /// Only if memory is refused, which it isn't within the capacity. The text is then as it was.
+    /// Only if allocation fails, never within the capacity. The text is then as it was.
     ///
     /// # Examples
     ///
@@ -258,7 +258,7 @@ impl<'a, E: Encoder> EStr<'a, E> {
     ///
     /// # Errors
     ///
-    /// Only if memory is refused.
+    /// Only if allocation fails.
     ///
     /// # Examples
     ///
@@ -279,7 +279,7 @@ impl<E: Encoder> fmt::Display for EString<E> {
 
     ghost styled_output = { λ e spec. Some (styled_text spec (owned_text e)) };
 
-    /// Prints the text as it stands, padded and cut as the format asks.
+    /// Prints the text as it is, padded and cut as the format asks.
     fn fmt<W: fmt::Write>(&self, f: &mut fmt::Formatter<W>) -> fmt::Result {
         f.pad(self.as_str())
     }

@@ -121,12 +121,12 @@ fn octet_starts(bytes: &[u8], at: usize) -> u64
         × (slice_index bytes.now (at + k) ≡ percent_sign) × (has_digits bytes.now (at + k) ≡ true) }
 {
     let percents = places_of(b'%', bytes, at);
-    // The masks of the hexadecimal digits, and the two lanes behind the last, in which none stands.
+    // The masks of the hexadecimal digits, and the two lanes after the last, which have none.
     let others = outside(0x03FF_0000_0000_0000, 0x0000_007E_0000_007E, bytes, at) | 0x3_0000;
     percents & !((others >> 1) | (others >> 2))
 }
 
-/// How many of the sixteen bytes from `at` on stand before the first that is neither in the set nor
+/// How many of the sixteen bytes from `at` on are before the first that is neither in the set nor
 /// a part of an octet that ends among them.
 #[inline(always)]
 pub fn spelt_length(low: u64, high: u64, bytes: &[u8], at: usize) -> usize

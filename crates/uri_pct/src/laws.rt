@@ -47,7 +47,7 @@ pub fn octets_are_read_in_either_case()
 {}
 
 /// What is encoded is read back as the same tokens, these decode to the text or the bytes that were
-/// given, also behind others, and a text is encoded as its bytes are (RFC 3986, section 2.1).
+/// given, also after others, and a text is encoded as its bytes are (RFC 3986, section 2.1).
 ///
 /// # Examples
 ///
@@ -96,7 +96,7 @@ pub fn lossy_texts_are_those_of_std()
 {}
 
 /// Reading changes no bytes, what is read of a text that is valid for a set is valid for it, a
-/// character that stands for itself parts what is read before it from what is read behind it, and
+/// character that stands for itself parts what is read before it from what is read after it, and
 /// the octets of a readable character are read as it is, wherever they stand. Of formatting
 /// characters of bidirectional text, which mean what their octets mean, none is read as itself
 /// where a set holds `ucschar` and octets (RFC 3987, section 4.1).

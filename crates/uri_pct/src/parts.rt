@@ -49,7 +49,7 @@ fn take_text<T: TakeParts>(text: &str, taker: &mut T) -> Result<(), AllocError>
     taker.take_well_formed(text)
 }
 
-/// Hands over the pieces of a text, and of the ill-formed part behind it where there is one.
+/// Hands over the pieces of a text, and of the ill-formed part after it where there is one.
 fn take_chunk<T: TakeParts>(text: &str, fault: &[u8], taker: &mut T) -> Result<(), AllocError>
     ensures { OnOk result
         (T.took taker.old (map Read (utf8_pieces text.now ++ fault_pieces fault.now)) taker.new) }
@@ -84,7 +84,7 @@ fn take_run<T: TakeParts>(run: &[u8], taker: &mut T) -> Result<(), AllocError>
 /// Hands over what a full window holds, but for an unfinished character at its end: that it keeps,
 /// since what follows decides whether it is one.
 ///
-/// It stands apart, so that an octet which has room is put into the window without a call.
+/// A function of its own, so that an octet which has room is put into the window without a call.
 #[inline(never)]
 fn take_full<T: TakeParts>(window: &mut Window, taker: &mut T) -> Result<(), AllocError>
     requires { length (held window.old) ≡ 32 }

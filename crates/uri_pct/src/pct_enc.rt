@@ -51,13 +51,13 @@ impl<'a, E: Encoder> EStr<'a, E> {
     ///
     /// # Examples
     ///
-    /// `EStr::<Query>::EMPTY` is a query with nothing behind its `?`.
+    /// `EStr::<Query>::EMPTY` is a query with nothing after its `?`.
     pub const EMPTY: EStr<'static, E> = EStr {
         text: "",
         encoder: PhantomData,
     };
 
-    /// The text as it stands, or `None` exactly if the table of `E` does not allow it.
+    /// The text as it is, or `None` exactly if the table of `E` does not allow it.
     ///
     /// # Examples
     ///
@@ -73,7 +73,7 @@ impl<'a, E: Encoder> EStr<'a, E> {
         }
     }
 
-    /// The text as it stands, which the table of `E` allows: `new` tests it.
+    /// The text as it is, which the table of `E` allows: `new` tests it.
     ///
     /// # Examples
     ///
@@ -122,7 +122,7 @@ impl<'a, E: Encoder> EStr<'a, E> {
         self.text.is_empty()
     }
 
-    /// Whether no `%` stands in the text: it has no percent-encoded octet.
+    /// Whether no `%` is in the text: it has no percent-encoded octet.
     ///
     /// # Examples
     ///
@@ -215,7 +215,7 @@ impl<'a, E: Encoder> fmt::Display for EStr<'a, E> {
 
     ghost styled_output = { λ e spec. Some (styled_text spec (text_of e)) };
 
-    /// Prints the text as it stands, padded and cut as the format asks.
+    /// Prints the text as it is, padded and cut as the format asks.
     fn fmt<W: fmt::Write>(&self, f: &mut fmt::Formatter<W>) -> fmt::Result {
         f.pad(self.text)
     }

@@ -10,7 +10,7 @@ use crate::lanes::{LANES, has, holds, run_end, spelt_length, words};
 use crate::table::Table;
 use crate::utf8::char_at;
 
-/// Whether two hexadecimal digits stand behind the byte at `index`.
+/// Whether two hexadecimal digits are after the byte at `index`.
 #[tactic(auto, unfolding(crate::specs::Texts::has_digits))]
 fn begins_octet(bytes: &[u8], index: usize) -> bool
     requires { index < length bytes.now }
@@ -51,7 +51,7 @@ impl Table {
         i
     }
 
-    /// Where the characters of ASCII and the octets behind an octet end that are found in blocks of
+    /// Where the characters of ASCII and the octets after an octet end that are found in blocks of
     /// sixteen bytes, an octet whole in a block; a block that they do not fill is the last.
     #[inline(always)]
     fn pass_blocks(&self, text: &str, start: usize) -> usize

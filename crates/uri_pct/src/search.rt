@@ -18,7 +18,7 @@ pub fn places_of(byte: u8, bytes: &[u8], at: usize) -> u64
     lanes.simd_eq(u8x16::splat(byte)).to_bitmask()
 }
 
-/// Where the byte stands first, from `start` on, or the end where it does not.
+/// Where the byte is first, from `start` on, or the end where it does not.
 pub fn find_byte(byte: u8, bytes: &[u8], start: usize) -> usize
     requires { start ≤ length bytes.now }
     ensures { IsRun (λ b. not (b == byte)) bytes.now start result }
@@ -37,8 +37,8 @@ pub fn find_byte(byte: u8, bytes: &[u8], start: usize) -> usize
     i
 }
 
-/// How many of the sixteen bytes from `at` on stand before the first `/` that has a `.` or a `%`
-/// behind it.
+/// How many of the sixteen bytes from `at` on are before the first `/` that has a `.` or a `%`
+/// after it.
 #[inline(always)]
 pub fn length_before_dots(bytes: &[u8], at: usize) -> usize
     requires { at + LANES < length bytes.now }

@@ -12,7 +12,7 @@ use std::alloc::AllocError;
 use std::iter::FusedIterator;
 
 /// The pieces of a text between the places of a delimiter, from both ends: each comes once, from
-/// whichever end it is asked for, and after the last both ends answer `None`.
+/// whichever end it is asked for, and after the last both ends return `None`.
 ///
 /// # Examples
 ///
@@ -94,7 +94,7 @@ impl<'a, E: Encoder> EStr<'a, E> {
     ghost use Rattle.uri_pct.specs.EncodedTexts.{text_of};
     ghost use Rattle.uri_pct.specs.EncodedTexts.{pieces_left};
 
-    /// What stands before the first `delimiter` and what stands behind it, or `None` exactly if
+    /// What is before the first `delimiter` and what is after it, or `None` exactly if
     /// there is none. The delimiter is reserved (RFC 3986, section 2.2): `RESERVED.allows` tests
     /// it.
     ///
@@ -110,7 +110,7 @@ impl<'a, E: Encoder> EStr<'a, E> {
         Some((EStr::new_or_panic(before), EStr::new_or_panic(after)))
     }
 
-    /// What stands before the last `delimiter` and what stands behind it, or `None` exactly if
+    /// What is before the last `delimiter` and what is after it, or `None` exactly if
     /// there is none. The delimiter is reserved (RFC 3986, section 2.2): `RESERVED.allows` tests
     /// it.
     ///
@@ -155,7 +155,7 @@ impl<'a, E: PathEncoder> EStr<'a, E> {
     ghost use Rattle.uri_pct.specs.EncodedTexts.{text_of};
     ghost use Rattle.uri_pct.specs.EncodedTexts.{pieces_left};
 
-    /// The segments of the path (RFC 3986, section 3.3): what stands behind its first `/`, cut at
+    /// The segments of the path (RFC 3986, section 3.3): what is after its first `/`, cut at
     /// each further `/`; or `None` exactly if the path does not begin with `/`. Their number fits
     /// `usize`.
     ///

@@ -47,7 +47,7 @@ impl Window {
         self.len == WIDTH
     }
 
-    /// Puts a byte behind those that it holds.
+    /// Puts a byte after those that it holds.
     pub(crate) fn push(&mut self, byte: u8)
         requires { length (held self.old) < 32 }
         ensures { held self.new ≡ held self.old ++ byte ∷ [] }

@@ -119,7 +119,7 @@ impl<'a, K: Kind> Reference<K, &'a str> {
     ///
     /// # Errors
     ///
-    /// Only if memory is refused.
+    /// Only if allocation fails.
     ///
     /// # Examples
     ///

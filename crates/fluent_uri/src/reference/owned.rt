@@ -74,7 +74,7 @@ impl<K: Kind> Reference<K, String> {
     ///
     /// # Errors
     ///
-    /// Only if memory is refused, and never with `None`, which asks for none. The text, with its
+    /// Only if allocation fails, and never with `None`, which asks for none. The text, with its
     /// fragment, is then as it was.
     ///
     /// # Examples

@@ -53,7 +53,7 @@ impl<K: Kind, T: AsStr> Reference<K, T> {
     ///
     /// # Errors
     ///
-    /// Only if memory is refused.
+    /// Only if allocation fails.
     ///
     /// # Examples
     ///
@@ -77,7 +77,7 @@ impl<K: Kind, T: AsStr> Reference<K, T> {
     ///
     /// # Errors
     ///
-    /// Only if memory is refused.
+    /// Only if allocation fails.
     ///
     /// # Examples
     ///

@@ -1,4 +1,4 @@
--- Where the components of a text lie once its characters past ASCII are octets.
+-- Where the components of a text are once its characters past ASCII are octets.
 use Rattle.std.proofs.Common.{◌≡◌, ℕ, ◌+◌, ◌-◌, ◌<◌, ◌≤◌, true, List, [], ◌∷◌, ◌++◌, length, take}
 use Rattle.std.proofs.Common.{drop, refl, sym, ap, subst, ◌∙◌, arith, append_assoc, append-nil}
 use Rattle.std.proofs.Common.{length-append, option_map, lit<}
@@ -31,7 +31,7 @@ use Rattle.uri_ops.proofs.Normal.NormalTexts.{parts_of}
 use Rattle.uri_ops.proofs.Normal.WrittenPlaces.{cut_placed, from_zero, length-before, length-behind}
 use Rattle.uri_ops.proofs.Normal.WrittenPlaces.{parts_cut, parts_placed, written_placed}
 
--- what stands between two places is written behind what stands before the first
+-- what is between two places is written after what is before the first
 pub between : (old new bytes : List ℕ) (i j : ℕ) → i ≤ j → old ≡ encoded_text (take i bytes)
     → new ≡ old ++ encoded_text (take (j - i) (drop i bytes)) → new ≡ encoded_text (take j bytes)
 between old new bytes i j h o e =
@@ -53,7 +53,7 @@ seam : (text before behind : List ℕ) (n : ℕ) → text ≡ before ++ behind �
 seam text before behind n e k =
     ap length (ap encoded_text ((λ i. take (k i) (e i)) ∙ take-append_seam before behind))
 
--- an authority behind what stands before it
+-- an authority after what is before it
 authority_seams : (text front rest : List ℕ) (place : ℕ) (q : AuthorityParts)
     → text ≡ front ++ (recompose_authority q ++ rest) → place ≡ length front
     → authority_moved text (authority_parts_at place q)
@@ -95,7 +95,7 @@ authority_seams text front rest place q e k =
     ∙ ap (λ t. encoded_text ((front ++ U) ++ q.host) ++ t)
     (marked_encoded (codes ":") [] q.port refl refl))
 
--- each component behind what stands before it
+-- each component after what is before it
 module _ (kind : Kind) (sets : HasComponentSets kind) where
   abbrev parts_of_authority : List ℕ → AuthorityParts
   parts_of_authority a = encoded_parts (authority_parts a)
@@ -173,7 +173,7 @@ query_moves text front rest place (Some q) e k =
     (arith, ap length both, length-append (encoded_text front) (63 ∷ encoded_text q)) in
     ap Some (seam text (front ++ marks) rest (place + 1 + length q) whole n ∙ m)
 
--- the positions of a text whose components lie one behind the other
+-- the positions of a text whose components are one after the other
 module _ (kind : Kind) (sets : HasComponentSets kind) (text : List ℕ) (w : IsTextOf kind text) where
   abbrev c : Components
   c = components text

@@ -229,7 +229,7 @@ target_underflows_encoded b t target u v e =
     ∙ path_underflows (joined base r).path
     (utf8_joined base r (components_utf8 b u) (components_utf8 t v) merge)
 
--- what is answered for both
+-- what is returned for both
 pub target_of_encoded : (allowed : Bool) (b t target : List ℕ) → IsUtf8 b → IsUtf8 t
     → IsTarget allowed (components b) (components t) target → IsTargetOfEncoded allowed b t target
 target_of_encoded allowed b t target u v h = (

@@ -1,4 +1,4 @@
--- The tokens of a text without characters past ASCII: the octets of each stand in its place.
+-- The tokens of a text without characters past ASCII: the octets of each are in its place.
 use Rattle.std.proofs.Common.{◌≡◌, ℕ, ◌+◌, ◌*◌, ◌/◌, ◌%◌, ◌<◌, ◌≤◌, Bool, true, false, cond, eqb}
 use Rattle.std.proofs.Common.{ltb, List, [], ◌∷◌, ◌++◌, get_or, map, refl, sym, ap, subst, ◌∙◌}
 use Rattle.std.proofs.Common.{arith, ◌&&◌, ⊎_elim, append_assoc}

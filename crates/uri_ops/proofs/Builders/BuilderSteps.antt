@@ -58,7 +58,7 @@ module _ (lengths : Lengths) (text : List ℕ) (draft : IsDraft lengths text) wh
   unfolding old
   no_fragment e = ap (λ n. part_in 1 n from_fragment) e
 
-  -- what stood, and a new part behind it
+  -- what stood, and a new part after it
   longer : (more : List ℕ)
       → text ++ more
       ≡ whole old.scheme old.authority (unwrap_or old.path []) old.query old.fragment ++ more

@@ -70,7 +70,7 @@ record IsLetPass (scheme authority : Option (List ℕ)) (path : List ℕ) : Type
   no_authority : IfNone authority (has_authority path ≡ false)
   no_colon : (is_some scheme || (is_some authority || not (has_colon_first path))) ≡ true
 
--- which of the three is refused first
+-- which of the three is rejected first
 first_refusal : Option (List ℕ) → Option (List ℕ) → List ℕ → Option BuildError
 first_refusal scheme authority path =
     cond (is_some authority)
@@ -219,7 +219,7 @@ module _ (kind : Kind) (sets : HasComponentSets kind) (p : BuilderParts)
         no_authority = pass.no_authority;
       }
 
-  -- where nothing is refused
+  -- where nothing is rejected
   pub is_text_of_parts : (is_some p.scheme || not kind.needs_scheme) ≡ true → refusal p ≡ None
       → IsTextOfParts kind p
   unfolding path_of
@@ -236,7 +236,7 @@ weaker : (s n r : Bool) → (s || (not n && r)) ≡ true → (s || r) ≡ true
 weaker true n r h = refl
 weaker false n r h = (and_parts (not n) r h).1
 
--- and where it is so, nothing is refused
+-- and where it is so, nothing is rejected
 pub nothing_refused : (kind : Kind) (p : BuilderParts) → IsTextOfParts kind p → refusal p ≡ None
 nothing_refused kind p w =
     let split = subst (IsSplitOf (parts_text p)) w.components

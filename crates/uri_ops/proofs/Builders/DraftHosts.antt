@@ -1,4 +1,4 @@
--- Each step of a builder knows where the host lies in the authority.
+-- Each step of a builder knows where the host is in the authority.
 use Rattle.std.proofs.Common.{◌≡◌, ℕ, ◌+◌, Bool, true, false, List, [], ◌∷◌, ◌++◌, length, refl}
 use Rattle.std.proofs.Common.{sym, ap, subst, ◌∙◌, arith, length-append}
 use Rattle.std.specs.Prelude.{codes, Option, Some, None, IfSome, option_map, unwrap_or}

@@ -1,4 +1,4 @@
--- Where the parts of a builder lie in its text.
+-- Where the parts of a builder are in its text.
 use Rattle.std.proofs.Common.{◌≡◌, ℕ, ◌+◌, ◌≤◌, List, [], ◌++◌, length, refl, sym, ap, subst, ◌∙◌}
 use Rattle.std.proofs.Common.{arith, length-append, string_bytes, option_map, false}
 use Rattle.std.specs.Prelude.{codes, Option, Some, None, IfSome, unwrap_or}

@@ -1,4 +1,4 @@
--- What each step keeps of a builder's parts: each meets its rule, and they stand at the next place.
+-- What each step keeps of a builder's parts: each meets its rule, and they are at the next place.
 use Rattle.std.proofs.Common.{◌≡◌, ℕ, Bool, true, false, ◌&&◌, ◌||◌, List, [], ◌++◌, refl, sym, ap}
 use Rattle.std.proofs.Common.{◌∙◌}
 use Rattle.std.specs.Prelude.{Option, Some, None, is_some, is_none, option_map}

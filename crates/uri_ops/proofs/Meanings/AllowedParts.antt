@@ -118,7 +118,7 @@ tokens-cut x y u =
     ap tokens_of (chars-append x (47 ∷ y) u ∙ ap (λ cs. chars x ++ cs) (chars-slash y))
     ∙ tokens_of-cut (chars x) (chars y)
 
--- so it parts what is read before it from what is read behind it
+-- so it parts what is read before it from what is read after it
 pub read-cut : (set : TableSet) (x y : List ℕ) → IsUtf8 x
     → read set (x ++ 47 ∷ y) ≡ read set x ++ Char 47 ∷ read set y
 read-cut set x y u =
@@ -137,7 +137,7 @@ pub reprinted-cut : (set : TableSet) (x y : List ℕ) → IsUtf8 x
 unfolding reprinted
 reprinted-cut set x y u = ap print (read-cut set x y u) ∙ print-slash (read set x) (read set y)
 
--- and a set that has it allows a text where it allows what is before and behind
+-- and a set that has it allows a text where it allows what is before and after
 pub valid-cut : (set : TableSet) (x y : List ℕ) → IsUtf8 x
     → is_valid_for set (x ++ 47 ∷ y) ≡ (is_valid_for set x && (allows set 47 && is_valid_for set y))
 unfolding is_valid_for

@@ -30,7 +30,7 @@ unfolding host_kind
 name_written names host s = ap (λ k. host_text (host_meaning names host k)) (cond-false _ _ _ s)
     ∙ named_text names host (ipv4_value host)
 
--- what stands in brackets, and is no IPv6 address
+-- what is in brackets, and is no IPv6 address
 no_address : {N : Type 0} (h : HostOf N) (value : Option (List ℕ))
     → ((x : Ipv6Addr) → h ≡ Of.Ipv6 x → ⊥) → host_kind_of h ≡ literal_kind value
     → literal_kind value ≡ IpvFuture

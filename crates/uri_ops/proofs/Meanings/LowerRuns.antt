@@ -1,4 +1,4 @@
--- Texts that are lowered run by run: what stands before a letter in upper case stays.
+-- Texts that are lowered run by run: what is before a letter in upper case stays.
 use Rattle.std.proofs.Common.{◌≡◌, ℕ, ◌+◌, ◌-◌, ◌<◌, ◌≤◌, Bool, true, not, List, [], ◌∷◌, ◌++◌}
 use Rattle.std.proofs.Common.{length, take, drop, get_or, refl, sym, ap, ◌∙◌, append_assoc}
 use Rattle.std.proofs.Common.{take_all, arith, cond, subst, suc, ltb, ⊎_elim, Option, Some, None}
@@ -18,7 +18,7 @@ use Rattle.std.proofs.lemmas.Str.Ascii.{lowercase_ascii}
 abbrev is_kept : ℕ → Bool
 is_kept b = not (is_ascii_uppercase b)
 
--- what stands before the first letter in upper case
+-- what is before the first letter in upper case
 pub record LowerFront (text : List ℕ) (n : ℕ) : Type 0 where
   pub within : n ≤ length text
   pub boundary : IsCharBoundary text n
@@ -69,7 +69,7 @@ lower_front text n e =
       upper = upper;
     }
 
--- the letter behind them is one character
+-- the letter after them is one character
 pub letter_ascii : (text : List ℕ) (n : ℕ) → LowerFront text n → n < length text
     → get_or text n 0 < 128
 letter_ascii text n front below = upper_ascii _ (front.upper below)
@@ -78,7 +78,7 @@ pushed_run : (text out mid : List ℕ) (n : ℕ) → mid ≡ out ++ take (n - 0)
     → mid ≡ out ++ take n text
 pushed_run text out mid n = subst (λ k. mid ≡ out ++ take k text) (omega arith)
 
--- they are pushed, and the letter behind them
+-- they are pushed, and the letter after them
 pub letter_step : (text out mid new whole : List ℕ) (n : ℕ) → LowerFront text n → n < length text
     → mid ≡ out ++ take (n - 0) text
     → new ≡ mid ++ encode_utf8 (to_ascii_lowercase (get_or text n 0))

@@ -1,4 +1,4 @@
--- What stands at the front of a text is read by itself: characters, and octets of ASCII, or all
+-- What is at the start of a text is read by itself: characters, and octets of ASCII, or all
 -- where a set has no characters past it.
 use Rattle.std.proofs.Common.{◌≡◌, ℕ, take_all, ◌+◌, ◌*◌, ◌-◌, ◌<◌, Bool, true}
 use Rattle.std.proofs.Common.{false, eqb, ltb, not, List, [], ◌∷◌, ◌++◌, length, get_or, take}
@@ -31,7 +31,7 @@ use Rattle.uri_ops.proofs.Meanings.Cased.{print_cased}
 use Rattle.uri_ops.proofs.Meanings.ReadParts.{no_run}
 use Rattle.uri_ops.proofs.Meanings.ReadOctets.{read_chars, first_value, octet_read}
 
--- characters at the front of a text
+-- characters at the start of a text
 plain_read : (lowers : Bool) (set : TableSet) (front back : List ℕ) → IsUtf8 front
     → lacks 37 front ≡ true
     → text_read lowers set (front ++ back) ≡ cased_text lowers front ++ text_read lowers set back
@@ -75,7 +75,7 @@ plain_front text n u v e =
           ∙ plain_read lowers set (take n text) (drop n text) utf8 plain;
     }
 
--- a front of what stands behind a front
+-- a prefix of what is after a prefix
 cased_parts : (lowers : Bool) (xs ys : List ℕ)
     → cased_text lowers (xs ++ ys) ≡ cased_text lowers xs ++ cased_text lowers ys
 cased_parts true xs ys = map-append to_ascii_lowercase xs ys
@@ -132,7 +132,7 @@ behind_front text n m v = subst (IsValidFor widest_set) (drop-drop m n text) v
 octet_length : (text : List ℕ) (o : BeginsOctet text) → length text ≡ 3 + length o.behind
 octet_length text o = ap length o.spelt ∙ omega arith
 
--- where its digits stand, and what stands behind it
+-- where its digits stand, and what is after it
 digits_of : (text : List ℕ) (o : BeginsOctet text)
     → (get_or text 1 0 ≡ o.high) × ((get_or text 2 0 ≡ o.low) × (drop 3 text ≡ o.behind))
 digits_of text o =
@@ -228,7 +228,7 @@ unfolding tokens_of chars read_from
 nothing_read true set = ap (λ ts. print (map lower_token ts)) (no_run set)
 nothing_read false set = ap print (no_run set)
 
--- a front of the whole text
+-- a prefix of the whole text
 pub whole_front : (lowers : Bool) (set : TableSet) (text : List ℕ) (n : ℕ)
     → IsFront lowers set text n → IsFront lowers set (drop 0 text) (n - 0)
 whole_front lowers set text n = subst (IsFront lowers set text) (omega arith)

@@ -1,4 +1,4 @@
--- What is read of characters, and of an octet, at the front of a text.
+-- What is read of characters, and of an octet, at the start of a text.
 use Rattle.std.proofs.Common.{◌≡◌, ℕ, ◌+◌, ◌*◌, ◌/◌, ◌%◌, ◌<◌, Bool, true}
 use Rattle.std.proofs.Common.{false, cond, eqb, ltb, not, List, [], ◌∷◌, ◌++◌, take}
 use Rattle.std.proofs.Common.{drop, map, refl, sym, ap, subst, ◌∙◌, arith, ◌&&◌}
@@ -111,7 +111,7 @@ tokens_alone set text none =
     (ap (λ b. b && set.pct_encoded) none.0))
     ∙ read-alone set text none
 
--- the octet at the front of a text
+-- the octet at the start of a text
 abbrev pub first_value : {text : List ℕ} → BeginsOctet text → ℕ
 first_value o = 16 * digit_value o.high + digit_value o.low
 
@@ -138,7 +138,7 @@ octet_read lowers set text o alone none e =
     ∙ cased_append lowers (read_alone (Octet (first_value o)) ∷ [])
     (read_tokens set (tokens o.behind))
 
--- an octet in upper case is printed as it stands
+-- an octet in upper case is printed as it is
 is_glyph : ℕ → Bool
 is_glyph h = not (is_ascii_hexdigit h)
     || (eqb (digit_glyph true (digit_value h)) h && ltb (digit_value h) 16)

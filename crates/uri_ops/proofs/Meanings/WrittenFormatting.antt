@@ -115,7 +115,7 @@ written-print : (set : TableSet) (ts : List Token) → (set.ucschar && set.pct_e
 written-print set ts both e = ap (flat_map written_char) (chars-print ts e)
     ∙ tokens_written set ts both e
 
--- behind what was there
+-- after what was there
 pub written_behind : (old more new : List ℕ) (start : ℕ) → start ≡ length old → new ≡ old ++ more
     → take start new ++ written_text (drop start new) ≡ old ++ written_text more
 written_behind old more new start e f =

@@ -87,7 +87,7 @@ appended old s a p q f o1 o2 o3 o4 new e1 e2 e3 e4 e5 =
     ∙ ap (λ t. t ++ (p ++ (q ++ f))) e2 ∙ append_assoc o1 a (p ++ (q ++ f))
     ∙ ap (λ t. t ++ (a ++ (p ++ (q ++ f)))) e1 ∙ append_assoc old s (a ++ (p ++ (q ++ f)))
 
--- the path, by the scheme as it stands
+-- the path, by the scheme as it is
 pub path_written : (kind : Kind) (ports : PortFunction) (text : List ℕ)
     → (let p = components text in let m = meaning_of kind ports text in
     path_text kind.path p.scheme (option_map normal_authority m.authority) p.path

@@ -1,4 +1,4 @@
--- Where the components of a normal text lie.
+-- Where the components of a normal text are.
 use Rattle.std.proofs.Common.{◌≡◌, ℕ, ◌+◌, true, List, refl, sym, ap, ◌∙◌, option_map}
 use Rattle.std.specs.Option.{option_and_then}
 use Rattle.std.specs.Prelude.{Option, Some, None, IfSome}

@@ -34,7 +34,7 @@ none_in_block bs at percents leads room p l none k h =
     (sym (byte_lane 0xE2 bs at k room h) ∙ ap (λ m. bit m k) (sym l))
     ∙ sym (or_test percents leads k) ∙ clear)
 
--- and more of them behind
+-- and more of them after
 pub block_more : (bs : List ℕ) (i at : ℕ) → at ≤ i
     → ((k : ℕ) → k < i → is_plain_byte (get_or bs k 0) ≡ true)
     → ((k : ℕ) → k < 16 → is_plain_byte (get_or bs (at + k) 0) ≡ true)
@@ -61,7 +61,7 @@ plain_marked before behind None e = tt
 plain_marked before behind (Some part) e =
     (plain_apart before part (plain_apart (before ++ part) behind e).0).1
 
--- neither byte stands in it
+-- neither byte is in it
 pub plain_lacks : (text : List ℕ) → IsPlain text → lacks 37 text ≡ true
 plain_lacks [] e = refl
 plain_lacks (b ∷ text) e =

@@ -1,4 +1,4 @@
--- Parts of a text that are printed as they stand, and authorities made of such parts.
+-- Parts of a text that are printed as they are, and authorities made of such parts.
 use Rattle.std.proofs.Common.{◌≡◌, ℕ, true, false, List, [], ◌∷◌, ◌++◌, map, refl, sym, ap, subst}
 use Rattle.std.proofs.Common.{◌∙◌, ◌&&◌, append-nil, option_map}
 use Rattle.std.specs.Prelude.{codes, Option, Some, None, IfSome}

@@ -52,7 +52,7 @@ authority_stays kind sets default None h plain kept = refl
 authority_stays kind sets default (Some a) h plain kept =
     ap Some (authority_kept kind sets default a h.0 h.1 plain kept)
 
--- no `/.` stands before the path
+-- no `/.` is before the path
 unguarded_path : (scheme authority : Option (List ℕ)) (path : List ℕ)
     → IfNone authority (has_authority path ≡ false)
     → cond (is_some scheme) (guarded authority path) path ≡ path

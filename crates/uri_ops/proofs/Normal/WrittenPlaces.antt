@@ -82,7 +82,7 @@ pub from_zero : (part : Option (List ℕ))
 from_zero None = refl
 from_zero (Some s) = ap Some (omega arith)
 
--- what stands before a path, and how long it is
+-- what is before a path, and how long it is
 pub length-before_path : (p : Components) → length (before_path p) ≡ (positions_of p).path_start
 length-before_path p = omega (
   arith,
@@ -91,7 +91,7 @@ length-before_path p = omega (
   length-before (codes "//") p.authority,
 )
 
--- where a path, and the query behind it, are written
+-- where a path, and the query after it, are written
 record EndsAt (p : Components) (start stop : ℕ) (query : Option ℕ) : Type 0 where
   pub starts : start ≡ (positions_of p).path_start
   pub stops : stop ≡ (positions_of p).path_end
@@ -159,7 +159,7 @@ written_placed p parts o0 o1 o2 o3 start stop end query authority e0 e1 e2 e3 st
       query_end = w.queries i;
     }
 
--- and whose scheme and authority are written where they lie
+-- and whose scheme and authority are written where they are
 pub pieces_placed : (p : Components) (o0 o2 o3 : List ℕ) (start stop : ℕ) (end query : Option ℕ)
     (authority : Option AuthorityPositions)
     → o0 ≡ []

@@ -104,7 +104,7 @@ pub ends_rooted : (r : List ℕ) → ends_segment r ≡ true → IsRooted r
 ends_rooted [] e = inl refl
 ends_rooted (c ∷ r) e = inr (search (rules, e))
 
--- what stands in the bytes of a path from a place on
+-- what is in the bytes of a path from a place on
 module _ (path bytes : List ℕ) (n : ℕ) (value : bytes ≡ path) where
   rest_at : slice_range bytes n (length bytes) ≡ drop n path
   rest_at =
@@ -152,7 +152,7 @@ module _ (path : List ℕ) (first second : ℕ) (at : first ≡ dot_len path)
       (dots_double (take first path) (take second (drop first path)) (dot_at path first at before)
       (dot_at (drop first path) second next some))
 
-  -- a dot segment that stands first is told, with what ends it
+  -- a dot segment that is first is told, with what ends it
   Told : List ℕ → Type 0
   Told s = (first + second ≡ length s) × (0 < first + second)
 

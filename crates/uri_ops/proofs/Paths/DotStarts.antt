@@ -1,4 +1,4 @@
--- A path in which neither `.` nor `%` stands behind a `/` has no dot segment, but for its first.
+-- A path in which neither `.` nor `%` is after a `/` has no dot segment, but for its first.
 use Rattle.std.proofs.Common.{◌≤◌, ◌-◌, inl, inr, subst, drop, ⊎_elim, ◌≡◌, ℕ, zero, suc, ◌+◌, ◌<◌}
 use Rattle.std.proofs.Common.{append_assoc, rules}
 use Rattle.std.specs.Prelude.{codes}
@@ -25,7 +25,7 @@ use Rattle.uri_ops.proofs.Paths.SlashedSegments.{slashed, slashed_segments}
 abbrev pub is_dot_start : ℕ → Bool
 is_dot_start c = c == 46 || c == 37
 
--- such a byte stands behind a `/`, where one may stand before the text
+-- such a byte is after a `/`, where one may be before the text
 unfoldable pub dots_begin : Bool → List ℕ → Bool
 dots_begin behind [] = false
 dots_begin behind (c ∷ rest) = (behind && is_dot_start c) || dots_begin (c == 47) rest
@@ -59,7 +59,7 @@ plain_all b (s ∷ rest) e =
     let more = behind true s (slashed rest) first in
     and_from _ _ (plain_first s (slashed rest) first) (plain_all more.behind rest more.none)
 
--- the first segment of a path is that of its front, behind which another segment begins
+-- the first segment of a path is that of its front, after which another segment begins
 rooted_behind : (s : List ℕ) (rest : List (List ℕ)) (front back : List ℕ)
     → front ≡ s ++ slashed rest → has_slash s ≡ false → IsClosed front back
     → IsRooted (slashed rest ++ back)

@@ -17,13 +17,13 @@ path_begins old path new start at is before after =
     (omega (arith, at, ap length is, length-append old path))
     (subst IsUtf8 (sym (ap (take start) is ∙ take_at old path start (sym at))) before)
 
--- behind an authority no path is guarded
+-- after an authority no path is guarded
 pub guarded_behind : (authority : Option (List ℕ)) (path : List ℕ) → is_some authority ≡ true
     → path ≡ guarded authority path
 guarded_behind None path e = absurd (false≢true e)
 guarded_behind (Some a) path e = refl
 
--- and else it is where it stands, behind what was there
+-- and else it is where it stands, after what was there
 pub guarded_after : (authority : Option (List ℕ)) (old mid new path : List ℕ) (start : ℕ)
     → is_some authority ≡ false → start ≡ length old → mid ≡ old ++ path
     → new ≡ take start mid ++ guarded None (drop start mid) → new ≡ old ++ guarded authority path

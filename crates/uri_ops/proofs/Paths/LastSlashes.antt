@@ -1,4 +1,4 @@
--- The cut at the last `/` of what stands in a text from a place on.
+-- The cut at the last `/` of what is in a text from a place on.
 use Rattle.std.proofs.Common.{◌≡◌, ℕ, suc, ◌+◌, ◌-◌, ◌<◌, ◌≤◌, true, false, eqb, List, [], ◌∷◌}
 use Rattle.std.proofs.Common.{◌++◌, length, take, drop, get_or, refl, sym, ap, subst, ◌∙◌, arith}
 use Rattle.std.proofs.Common.{append_assoc, add-zero, drop-cons, cond, inl, inr, ⊎_elim}
@@ -269,7 +269,7 @@ module _ (text : List ℕ) (start : ℕ) (d : IsPlainDirectory (drop start text)
             ∙ ap (λ t. take start text ++ before_last_slash t)
             (drop_at (take start text) front start before_length)
 
--- the `/` behind a segment
+-- the `/` after a segment
 pub slash_behind : (path : List ℕ) (end : ℕ) → IsRooted (drop end path) → end < length path
     → get_or path end 0 ≡ 47
 slash_behind path end h within = ⊎_elim

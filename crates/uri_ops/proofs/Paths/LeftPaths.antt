@@ -1,4 +1,4 @@
--- What is left of a path while its segments are taken one after the other: what stands behind a
+-- What is left of a path while its segments are taken one after the other: what is after a
 -- directory without dot segments, which is all that was kept so far.
 use Rattle.std.proofs.Common.{◌≡◌, ℕ, ◌-◌, ◌<◌, ◌≤◌, Bool, true, false, List, [], ◌∷◌, ◌++◌, length}
 use Rattle.std.proofs.Common.{take, drop, refl, sym, ap, subst, ◌∙◌, ◌||◌, append_assoc, arith, inl}
@@ -89,7 +89,7 @@ plain_slashed : (xs : List (List ℕ)) → NoSlashes xs → Passes is_plain xs
     → lacks_dot_segments (slashed xs) ≡ true
 plain_slashed xs e f = ap (list_all is_plain) (segments_slashed xs e) ∙ and_from _ _ refl f
 
--- a path behind one
+-- a path after one
 pub plain_behind : (kept path : List ℕ) → IsPlainDirectory kept → lacks_dot_segments path ≡ true
     → lacks_dot_segments (kept ++ path) ≡ true
 plain_behind kept path d plain =
@@ -146,7 +146,7 @@ drops_single = by_directory (Drops is_single_dot (λ k. k) (λ k. false)) each
           directory = directory_slashed xs e f;
         }
 
--- a double dot leaves the directory that the kept one stands in, unless it is `/`
+-- a double dot leaves the directory that the kept one is in, unless it is `/`
 double_only : (s : List ℕ) → is_double_dot s ≡ true → is_single_dot s ≡ false
 double_only s e = ⊎_elim (λ f. absurd (false≢true (sym (single_only s f) ∙ e))) (λ f. f)
     (cases_Bool (is_single_dot s))
@@ -254,7 +254,7 @@ module _ (path kept rest : List ℕ) (underflowed : Bool) (h : IsLeft path kept 
             closed;
       }
 
--- what stands in a text from a place on
+-- what is in a text from a place on
 some_absolute : (path : List ℕ) → IsAbsolute path → 0 < length path
 some_absolute [] h = absurd (false≢true (true_of _ h))
 some_absolute (c ∷ path) h = omega arith

@@ -1,4 +1,4 @@
--- The path of a meaning: without its dot segments, behind a guard and read again it is itself.
+-- The path of a meaning: without its dot segments, after a guard and read again it is itself.
 use Rattle.std.proofs.Common.{◌≡◌, ℕ, true, eqb, List, [], ◌∷◌, ◌++◌, refl, sym, ap, subst, ◌∙◌}
 use Rattle.std.proofs.Common.{◌&&◌, ⊎_elim, arith, lit<}
 use Rattle.std.specs.Prelude.{codes, Option}

@@ -93,7 +93,7 @@ not_empty [] some = absurd (omega (arith, some))
 not_empty (c ∷ text) some = refl
 
 module _ (change : List ℕ → List ℕ) (among : List ℕ → Bool) (p : IsPiecewise change among) where
-  -- what stands behind a segment
+  -- what is after a segment
   record IsBehind (text s left : List ℕ) : Type 0 where
     tail : List ℕ
     whole : change text ≡ change s ++ tail
@@ -124,7 +124,7 @@ module _ (change : List ℕ → List ℕ) (among : List ℕ → Bool) (p : IsPie
         more = q.1;
       }
 
-  -- what stands behind a front without dot segments
+  -- what is after a prefix without dot segments
   record IsInTwo (front left : List ℕ) : Type 0 where
     whole : change (front ++ left) ≡ change front ++ change left
     closed : IsClosed (change front) (change left)

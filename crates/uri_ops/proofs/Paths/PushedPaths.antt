@@ -1,4 +1,4 @@
--- What is appended of a path without its dot segments, and of a reference's path behind the
+-- What is appended of a path without its dot segments, and of a reference's path after the
 -- directory of a base's path.
 use Rattle.std.proofs.Common.{◌≡◌, ◌<◌, ◌≤◌, ℕ, zero, suc, Bool, true, false, List, [], ◌∷◌, ◌++◌}
 use Rattle.std.proofs.Common.{length, take, drop, refl, sym, ap, subst, ◌∙◌, ◌||◌, inr, arith}
@@ -33,7 +33,7 @@ absolute_start [] h = absurd (false≢true (true_of _ h))
 absolute_start (c ∷ path) h =
     (ap (λ b. b == 46 || b == 37) (eqb-true c 47 (true_of _ h)), omega arith)
 
--- the root of an absolute path, and what stands behind it
+-- the root of an absolute path, and what is after it
 pub root_left : (path : List ℕ) → IsAbsolute path → IsLeft path (take 1 path) (drop 1 path) false
 root_left [] h = absurd (false≢true (true_of _ h))
 root_left (c ∷ path) h =
@@ -64,7 +64,7 @@ whole_plain path front n absolute end plain is =
           (underflows_of_plain path absolute free),
     )
 
--- behind what stood there
+-- after what stood there
 module _ (old : List ℕ) (start : ℕ) (at : start ≡ length old) (mid : List ℕ) where
   pub behind_old : (text : List ℕ) → mid ≡ old ++ text → drop start mid ≡ text
   behind_old text e = ap (drop start) e ∙ drop_at old text start (sym at)
@@ -76,7 +76,7 @@ module _ (old : List ℕ) (start : ℕ) (at : start ≡ length old) (mid : List 
       ∙ ap (λ t. t ++ drop start new) (before ∙ ap (take start) e ∙ take_at old text start (sym at))
       ∙ ap (λ t. old ++ t) is
 
-  -- one path, of which the front without dot segments is appended before the rest is read
+  -- one path, of which the prefix without dot segments is appended before the rest is read
   module _ (path : List ℕ) (absolute : IsAbsolute path) (n : ℕ) (front : List ℕ)
       (is : front ≡ take n path) (e : mid ≡ old ++ front) where
     front_is : drop start mid ≡ take n path

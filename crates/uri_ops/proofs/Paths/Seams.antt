@@ -1,4 +1,4 @@
--- A reference's path that is read behind a directory without dot segments.
+-- A reference's path that is read after a directory without dot segments.
 use Rattle.std.proofs.Common.{◌≡◌, ◌<◌, ◌-◌, ◌+◌, ℕ, Bool, eqb, List, [], ◌∷◌, ◌++◌, length, take}
 use Rattle.std.proofs.Common.{drop, get_or}
 use Rattle.std.proofs.Common.{refl, sym, ap, subst, ◌∙◌, ◌||◌, arith}
@@ -39,7 +39,7 @@ directory_told path n absolute last all plain =
       plain = sym (ap lacks_dot_segments (ap (λ m. take m path) all ∙ take-length path)) ∙ plain;
     }
 
--- a directory of one byte stands in none
+-- a directory of one byte is in none
 pub root_only : (path : List ℕ) → IsPlainDirectory path
     → eqb (length path) 1 ≡ is_empty (before_last_slash path)
 root_only path d =
@@ -56,7 +56,7 @@ parent_plain path kept rest underflowed h = record {
   plain = h.plain;
 }
 
--- what is kept of the directory is appended, and what is left of the path behind it
+-- what is kept of the directory is appended, and what is left of the path after it
 module _ (old : List ℕ) (start : ℕ) (at : start ≡ length old) (path kept rest : List ℕ)
     (underflowed : Bool) (h : IsLeft path kept rest underflowed) (mid : List ℕ)
     (e : mid ≡ old ++ kept) where
@@ -83,7 +83,7 @@ pub dots_some : (path : List ℕ) → begins_with_dot path ≡ true → 0 < leng
 dots_some [] e = absurd (false≢true e)
 dots_some (c ∷ path) e = omega arith
 
--- what is appended behind a directory, where the first segments are none of dots
+-- what is appended after a directory, where the first segments are none of dots
 module _ (text : List ℕ) (start : ℕ) (d : IsPlainDirectory (drop start text)) (path : List ℕ) where
   before_path : IsLeft (drop start text ++ path) (drop start text) path false
   before_path = left_first (drop start text) path d

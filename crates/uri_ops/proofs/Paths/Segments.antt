@@ -214,7 +214,7 @@ steps_are_plain segs = steps_pass is_plain (λ s. true) plain_kept [] segs refl 
 pub cleaned_is_plain : (segs : List (List ℕ)) → Passes is_plain (cleaned segs)
 cleaned_is_plain segs = cleaned_passes is_plain (λ s. true) plain_kept refl segs (all_true segs)
 
--- a front may be cleaned first
+-- a prefix may be cleaned first
 pub cleaned_front : (xs ys : List (List ℕ)) → is_none ys ≡ false
     → cleaned (xs ++ ys) ≡ cleaned (steps [] xs ++ ys)
 unfolding is_none
@@ -301,7 +301,7 @@ sinks_plain before output (s ∷ rest) e =
     ap (λ b. sinks b (step_of output s) rest) (sunk_plain before output s f.0)
     ∙ sinks_plain before (step_of output s) rest f.1
 
--- of a path in two pieces: the front underflows, or what is left of it with the back does
+-- of a path in two pieces: the prefix underflows, or what is left of it with the back does
 pub sinks_front : (xs ys : List (List ℕ))
     → sinks false [] (xs ++ ys) ≡ (sinks false [] xs || sinks false [] (steps [] xs ++ ys))
 sinks_front xs ys =

@@ -17,7 +17,7 @@ use Rattle.uri_ops.specs.Dots.{run, remove_dot_segments, underflows, directory}
 use Rattle.uri_ops.proofs.Paths.Segments.{pop, is_none, turn, step_of, steps, end_of, closing}
 use Rattle.uri_ops.proofs.Paths.Segments.{cleaned, sunk, sinks, parent, Passes, turn_passes}
 
--- each segment behind a `/`
+-- each segment after a `/`
 unfoldable pub slashed : List (List ℕ) → List ℕ
 slashed [] = []
 slashed (s ∷ rest) = 47 ∷ s ++ slashed rest

@@ -1,4 +1,4 @@
--- The segments of a path, taken one after the other behind a directory that has no dot segment.
+-- The segments of a path, taken one after the other after a directory that has no dot segment.
 use Rattle.std.proofs.Common.{◌≡◌, ℕ, Bool, true, false, List, [], ◌∷◌, ◌++◌, drop, refl, sym, ap}
 use Rattle.std.proofs.Common.{◌∙◌, ◌||◌}
 use Rattle.std.proofs.lemmas.List.{append-nil}
@@ -18,7 +18,7 @@ use Rattle.uri_ops.proofs.Paths.SlashedSegments.{segments_behind}
 use Rattle.uri_ops.proofs.Paths.DotLaws.{rooted, behind, behind_lacks, closed_lacks}
 use Rattle.uri_pct.proofs.Tests.{true_of}
 
--- of a segment behind plain ones, what it leaves of them and what follows it are the same path
+-- of a segment after plain ones, what it leaves of them and what follows it are the same path
 module _ (xs : List (List ℕ)) (plain : Passes is_plain xs) (s : List ℕ) where
   left_plain : Passes is_plain (step_of xs s)
   unfolding step_of
@@ -160,7 +160,7 @@ module _ (xs : List (List ℕ)) (plain : Passes is_plain xs) (lack : NoSlashes x
       underflows_last (λ rest h. ap (λ t. underflows (slashed (xs ++ [] ∷ []) ++ (s ++ t)))
       (absolute_is rest h) ∙ underflows_next (drop 1 rest))
 
--- a dot segment at the end leaves the `/` that may stand behind it
+-- a dot segment at the end leaves the `/` that may be after it
 closing_slashed : (xs : List (List ℕ)) (y : List ℕ) → is_dot_segment y ≡ true
     → cleaned (xs ++ y ∷ []) ≡ cleaned ((xs ++ y ∷ []) ++ [] ∷ [])
 unfolding cleaned steps closing

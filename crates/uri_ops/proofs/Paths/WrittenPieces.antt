@@ -1,4 +1,4 @@
--- The pieces of a path as they are appended: as they stand, or as what is read of them.
+-- The pieces of a path as they are appended: as they are, or as what is read of them.
 use Rattle.std.proofs.Common.{◌≡◌, ℕ, Bool, true, List, [], ◌∷◌, ◌++◌, length, drop, refl, sym, ap}
 use Rattle.std.proofs.Common.{◌∙◌, ◌&&◌, arith}
 use Rattle.std.specs.Prelude.{codes, slice_index, ◌==◌}
@@ -65,7 +65,7 @@ pub root_directory : IsPlainDirectory (codes "/")
 unfolding slashed
 root_directory = directory_slashed [] refl refl
 
--- what is read of a path that begins with `/`, piece by piece behind that
+-- what is read of a path that begins with `/`, piece by piece after that
 
 module _ (set : TableSet) (w : IsComponentSet (codes "?#[]") set) (slash : set.ascii 47 ≡ true)
     (path rest : List ℕ) (absolute : IsAbsolute path) (e : is_part set path ≡ true)

@@ -18,7 +18,7 @@ use Rattle.uri_ops.proofs.Targeting.Swaps.{not_opaque, rooted_base}
 use Rattle.uri_ops.proofs.Targeting.Targets.{absolute_append}
 use Rattle.uri_pct.proofs.Tests.{true_of, absent}
 
--- a reference with an authority stands behind the base's scheme
+-- a reference with an authority is after the base's scheme
 pub joined_beside : (b r : Components) → is_some r.scheme ≡ false → is_some r.authority ≡ true
     → joined b r ≡ record r { scheme = b.scheme }
 joined_beside b r s a = cond-false (is_some r.scheme) r _ s
@@ -35,7 +35,7 @@ authority_beside b r scheme places s a e h =
     (ap length e ∙ length-behind b.scheme 58)
     ∙ sym (ap (λ (t : Components). (positions_of t).authority) (joined_beside b r s a))
 
--- a reference's path behind the base's directory
+-- a reference's path after the base's directory
 module _ (b r : Components) (s : is_some r.scheme ≡ false) (a : is_some r.authority ≡ false)
     (e : is_empty r.path ≡ false) (n : starts 47 r.path ≡ false) where
   pub joined_behind : joined b r
@@ -114,7 +114,7 @@ written_pieces t o0 o1 o2 e1 e2 =
     ∙ ap (λ x. o0 ++ x) (append_assoc (before_path t) t.path behind
     ∙ append_assoc scheme authority (t.path ++ behind))
 
--- a query that is written behind its mark ends the text
+-- a query that is written after its mark ends the text
 pub query_ends : (query : Option (List ℕ)) (o3 o4 : List ℕ) (end : ℕ) → is_some query ≡ true
     → o4 ≡ o3 ++ marked (codes "?") query [] → end ≡ length o4
     → Some end ≡ option_map (λ q. length o3 + 1 + length q) query

@@ -33,7 +33,7 @@ host_within kind text w a e =
     (parts_of kind text w).authority in
     (host_place kind.userinfo kind.reg_name a h.1 h.0).ends.0
 
--- and so do its places, in what stands before the path
+-- and so do its places, in what is before the path
 pub record Within (text : List ℕ) (places : AuthorityPositions) : Type 0 where
   pub start : places.start ≤ places.end
   pub host_start : places.host_start ≤ places.end
@@ -69,7 +69,7 @@ within text p places at host e =
     within_at (components text).scheme (components text).authority places host
     (sym e ∙ ap (λ (q : Positions). q.authority) at)
 
--- the same places behind a scheme
+-- the same places after a scheme
 moved_at : (n : ℕ) (authority : Option (List ℕ)) (places moved : AuthorityPositions)
     → Some places ≡ option_map (authority_at 2) authority
     → moved.start ≡ n + places.start → moved.host_start ≡ n + places.host_start
@@ -98,7 +98,7 @@ moved_behind text p n places moved at none e start host_start host_end end =
     ∙ ap (λ s. option_map (authority_at (marked_length 1 s + 2)) (components text).authority)
     none) start host_start host_end end
 
--- a scheme and its mark, at the front of a text
+-- a scheme and its mark, at the start of a text
 pub record HasScheme (text : List ℕ) (scheme : Option (List ℕ)) (end : ℕ) : Type 0 where
   pub cut : IsCharBoundary text (end + 1)
   pub holds : take (end + 1) text ≡ marked [] scheme (codes ":")

@@ -1,4 +1,4 @@
--- A reference's path behind a directory, where neither has dot segments.
+-- A reference's path after a directory, where neither has dot segments.
 use Rattle.std.proofs.Common.{◌≡◌, ℕ, ◌+◌, true, false, List, [], ◌++◌, length, take, drop}
 use Rattle.std.proofs.Common.{ap, sym, refl, ◌∙◌, ◌&&◌, ◌||◌, append_assoc, length-append}
 use Rattle.std.proofs.Common.{option_map}
@@ -44,7 +44,7 @@ plain_front b slash front absolute place last dots plain some text =
       text = text ∙ ap (λ t. before_path b ++ t) taken;
     }
 
--- a path without dot segments behind an authority stays
+-- a path without dot segments after an authority stays
 kept_path : (authority : Option (List ℕ)) (path : List ℕ) → is_some authority ≡ true
     → IsAbsolute path → lacks_dot_segments path ≡ true → guarded authority (cleaned_path path) ≡
     path
@@ -52,7 +52,7 @@ kept_path authority path some absolute plain =
     sym (guarded_behind authority (cleaned_path path) some)
     ∙ cond-true (starts 47 path) _ _ (true_of _ absolute) ∙ removed_of_plain path absolute plain
 
--- the reference's text, of which nothing stands before the path
+-- the reference's text, of which nothing is before the path
 text_of_path : (r : Components) → r.scheme ≡ None → r.authority ≡ None
     → recompose r ≡ r.path ++ (marked (codes "?") r.query [] ++ marked (codes "#") r.fragment [])
 text_of_path r s a = λ i. marked [] (s i) (codes ":") ++
@@ -107,7 +107,7 @@ query_moved : (query : Option (List ℕ)) (n m k : ℕ) → n + m ≡ k
 query_moved None n m k e = refl
 query_moved (Some q) n m k e = ap Some (omega (arith, e))
 
--- the reference's path and query behind a front of the base
+-- the reference's path and query after a prefix of the base
 module _ (b r : Components) (front stem : List ℕ) (s : r.scheme ≡ None) (a : r.authority ≡ None)
     (f : front ≡ before_path b ++ stem)
     (t : finished (joined b r) ≡ record b
@@ -149,7 +149,7 @@ module _ (b r : Components) (front stem : List ℕ) (s : r.scheme ≡ None) (a :
       } in
       moved ∙ sym (ap positions_of t)
 
--- a reference's path behind the base's directory
+-- a reference's path after the base's directory
 pub plain_target : (b r : Components) (front : List ℕ) → is_some r.scheme ≡ false
     → is_some r.authority ≡ false → is_empty r.path ≡ false → starts 47 r.path ≡ false
     → lacks_dot_segments r.path ≡ true → IsUpToDirectory b front → IsPlainTarget b r front
@@ -194,7 +194,7 @@ module _ (b r : Components) (front : List ℕ) (s : is_some r.scheme ≡ false)
       ∙ ap (λ x. x && underflows b.path) (true_of _ absolute)
       ∙ underflows_of_plain b.path absolute plain
 
-  -- it stands behind the base's path where it has a query
+  -- it is after the base's path where it has a query
   pub query_target : is_some r.query ≡ true → front ≡ before_path b ++ b.path → IsPlainTarget b r
       front
   query_target q f =
@@ -220,7 +220,7 @@ module _ (b r : Components) (front : List ℕ) (s : is_some r.scheme ≡ false)
         behind = λ _. behind_places b r front b.path scheme authority f done;
       }
 
-  -- and else behind all that stands before the base's fragment
+  -- and else after all that is before the base's fragment
   pub fragment_target : is_some r.query ≡ false
       → front ≡ (before_path b ++ b.path) ++ marked (codes "?") b.query [] → IsPlainTarget b r front
   fragment_target q f =

@@ -15,7 +15,7 @@ outcome_map f true opaque x = refl
 outcome_map f false true x = refl
 outcome_map f false false x = refl
 
--- what is accepted makes no difference where it is refused
+-- what is accepted makes no difference where it is rejected
 pub same_outcome : {A : Type 0} (fragment opaque : Bool) (x y : A) → (opaque ≡ false → x ≡ y)
     → outcome fragment opaque x ≡ outcome fragment opaque y
 unfolding outcome

@@ -1,4 +1,4 @@
--- Directories, behind which the segments of a path are taken one after the other: RFC 3986, section
+-- Directories, after which the segments of a path are taken one after the other: RFC 3986, section
 -- 5.2.4.
 use Rattle.std.specs.Prelude.{◌≡◌, ◌⊎◌, ◌||◌, Bool, true, List, [], ◌++◌, ℕ, codes}
 use Rattle.uri_ops.specs.Dots.{IsAbsolute, EndsInSlash, before_last_slash, lacks_dot_segments}
@@ -10,11 +10,11 @@ pub record IsPlainDirectory (path : List ℕ) : Type 0 where
   pub closed : EndsInSlash path
   pub plain : lacks_dot_segments path ≡ true
 
--- the directory that a directory stands in, which is `/` for `/` too
+-- the directory that a directory is in, which is `/` for `/` too
 abbrev pub parent_directory : List ℕ → List ℕ
 parent_directory path = before_last_slash (before_last_slash path) ++ codes "/"
 
--- a segment begins behind the front, unless nothing does
+-- a segment begins after the front, unless nothing does
 abbrev pub IsClosed : List ℕ → List ℕ → Type 0
 IsClosed front rest = (rest ≡ []) ⊎ EndsInSlash front
 

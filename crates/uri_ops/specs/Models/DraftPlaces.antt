@@ -1,4 +1,4 @@
--- Where the parts of a builder lie in its text, by their lengths: RFC 3986, section 5.3.
+-- Where the parts of a builder are in its text, by their lengths: RFC 3986, section 5.3.
 use Rattle.std.specs.Prelude.{◌≡◌, ℕ, ◌+◌, ◌≤◌, List, length, Option, Some, None, option_map, false}
 use Rattle.uri_parts.specs.declared.positions.AuthorityPositions.{AuthorityPositions}
 use Rattle.uri_parts.specs.declared.positions.Positions.{Positions}
@@ -8,7 +8,7 @@ use Rattle.uri_ops.specs.declared.build.draft.Lengths.{Lengths}
 use Rattle.uri_ops.specs.declared.build.places.HostPlace.{HostPlace}
 use Rattle.uri_ops.specs.Builders.{draft_parts}
 
--- the host of an authority lies at this place of it
+-- the host of an authority is at this place of it
 pub record IsHostAt (place : HostPlace) (authority : List ℕ) : Type 0 where
   pub start : place.start ≡ host_start_of authority
   pub end : place.end ≡ host_end_of authority
@@ -17,7 +17,7 @@ pub record IsHostAt (place : HostPlace) (authority : List ℕ) : Type 0 where
 abbrev pub HasHost : HostPlace → Option (List ℕ) → Type 0
 HasHost place o = (authority : List ℕ) → o ≡ Some authority → IsHostAt place authority
 
--- the host of the authority that a draft holds lies where it says
+-- the host of the authority that a draft holds is where it says
 abbrev pub KnowsHost : Draft → Type 0
 KnowsHost d = d.failed ≡ false → HasHost d.host (draft_parts d).authority
 

@@ -1,4 +1,4 @@
--- Where components lie once characters past ASCII before them are octets: RFC 3987, section 3.1.
+-- Where components are once characters past ASCII before them are octets: RFC 3987, section 3.1.
 use Rattle.std.specs.Prelude.{◌≡◌, ℕ, ◌≤◌, List, length, take, IfSome, option_map}
 use Rattle.uri_parts.specs.declared.positions.AuthorityPositions.{AuthorityPositions}
 use Rattle.uri_parts.specs.declared.positions.Positions.{Positions}
@@ -17,7 +17,7 @@ authority_moved text p = record {
   end = moved text p.end;
 }
 
--- no such character stands before the end of a scheme
+-- no such character is before the end of a scheme
 abbrev pub positions_moved : List ℕ → Positions → Positions
 positions_moved text p = record {
   scheme_end = p.scheme_end;

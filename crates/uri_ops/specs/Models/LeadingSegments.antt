@@ -33,7 +33,7 @@ IsNoDots path =
     (end : ℕ) → has_slash (take end path) ≡ false → IsRooted (drop end path)
     → is_dot_segment (take end path) ≡ false
 
--- a `/` stands at the place, and a dot or the `%` of an octet behind it
+-- a `/` is at the place, and a dot or the `%` of an octet after it
 abbrev pub begins_at : List ℕ → ℕ → Bool
 begins_at bytes k =
     slice_index bytes k == slash
@@ -46,7 +46,7 @@ pub record IsBeforeDots (bytes : List ℕ) (n : ℕ) : Type 0 where
   pub none : (k : ℕ) → k + 1 < n → begins_at bytes k ≡ false
   pub ends : n < length bytes → slice_index bytes (n - 1) ≡ slash
 
--- the first segment passes a test, and n bytes are taken with the `/` behind it
+-- the first segment passes a test, and n bytes are taken with the `/` after it
 pub record IsFirst (test : List ℕ → Bool) (path : List ℕ) (n : ℕ) : Type 0 where
   pub end : ℕ
   pub segment : has_slash (take end path) ≡ false
@@ -54,7 +54,7 @@ pub record IsFirst (test : List ℕ → Bool) (path : List ℕ) (n : ℕ) : Type
   pub passes : test (take end path) ≡ true
   pub rest : drop n path ≡ drop 1 (drop end path)
 
--- the first n bytes have no dot segment, and another segment begins behind them
+-- the first n bytes have no dot segment, and another segment begins after them
 pub record IsPlainFront (path : List ℕ) (n : ℕ) : Type 0 where
   pub plain : lacks_dot_segments (take n path) ≡ true
   pub closed : IsClosed (take n path) (drop n path)

@@ -3,11 +3,11 @@ use Rattle.std.specs.Prelude.{◌≡◌, ℕ, ◌<◌, ◌≤◌, ◌⊎◌, Lis
 use Rattle.uri_pct.specs.Delimiters.{slash}
 use Rattle.uri_parts.specs.Components.{Components, marked}
 
--- what stands before the path, with the marks
+-- what is before the path, with the marks
 abbrev pub before_path : Components → List ℕ
 before_path p = marked [] p.scheme (codes ":") ++ marked (codes "//") p.authority []
 
--- a `/` stands at a place behind another one, or the two are the same
+-- a `/` is at a place after another one, or the two are the same
 abbrev pub IsSlashOrAt : List ℕ → ℕ → ℕ → Type 0
 IsSlashOrAt bytes start place =
     (start ≤ place)

@@ -1,4 +1,4 @@
--- What of a base stands before a reference's text in a target where no dot segment has to be
+-- What of a base is before a reference's text in a target where no dot segment has to be
 -- removed: RFC 3986, section 5.2.2.
 use Rattle.std.specs.Prelude.{◌≡◌, ℕ, ◌+◌, true, false, List, ◌++◌, is_some, length, option_map}
 use Rattle.uri_parts.specs.declared.positions.Positions.{Positions}
@@ -17,14 +17,14 @@ pub record IsUpToDirectory (base : Components) (front : List ℕ) : Type 0 where
   pub plain : IsPlainDirectory (directory base.path)
   pub text : front ≡ before_path base ++ directory base.path
 
--- the places of a base, behind whose first n bytes the path and the query of a reference stand
+-- the places of a base, after whose first n bytes the path and the query of a reference stand
 abbrev pub positions_behind : Positions → ℕ → Positions → Positions
 positions_behind base n reference = record base {
   path_end = n + reference.path_end;
   query_end = option_map (λ end. n + end) reference.query_end;
 }
 
--- the target is the reference's text behind this front of the base, and its components lie where
+-- the target is the reference's text after this prefix of the base, and its components are where
 -- the base's do, but for the path and the query that the reference has
 pub record IsPlainTarget (base r : Components) (front : List ℕ) : Type 0 where
   pub taken : is_refused_as_opaque base r ≡ false

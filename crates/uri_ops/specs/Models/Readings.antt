@@ -39,7 +39,7 @@ cased_code lowers ch = if lowers then to_ascii_lowercase ch else ch
 abbrev pub text_read : Bool → TableSet → List ℕ → List ℕ
 text_read lowers set text = print (cased lowers (read_tokens set (tokens text)))
 
--- so many bytes at the front are read as they stand, and what is behind them by itself
+-- so many bytes at the start are read as they are, and what is after them by itself
 abbrev pub IsFront : Bool → TableSet → List ℕ → ℕ → Type 0
 IsFront lowers set text n =
     text_read lowers set text

@@ -1,4 +1,4 @@
--- Where components lie in a text that is written of them: RFC 3986, section 5.3.
+-- Where components are in a text that is written of them: RFC 3986, section 5.3.
 use Rattle.std.specs.Prelude.{ℕ, ◌+◌, length, Option, option_map}
 use Rattle.uri_parts.specs.declared.positions.AuthorityPositions.{AuthorityPositions}
 use Rattle.uri_parts.specs.declared.positions.Positions.{Positions}

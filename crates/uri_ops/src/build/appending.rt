@@ -9,7 +9,7 @@ use crate::build::draft::Lengths;
 use crate::build::host_port::{AsPort, WithEncoder};
 use uri_pct::encoder::Encoder;
 
-/// Appends to a text, unless it has failed, and answers whether it has failed now.
+/// Appends to a text, unless it has failed, and returns whether it has failed now.
 pub(crate) fn append(text: &mut String, failed: bool, piece: &str) -> bool
     ensures kept { result ≡ false → failed ≡ false }
     ensures text { result ≡ false → Pushes text.old text.new piece.now }

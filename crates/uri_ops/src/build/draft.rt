@@ -68,7 +68,7 @@ impl Draft {
         }
     }
 
-    /// With these two pieces behind the text, parts of these lengths, and the host at this place.
+    /// With these two pieces after the text, parts of these lengths, and the host at this place.
     #[inline(always)]
     fn appended(self, first: &str, second: &str, lengths: Lengths, host: HostPlace) -> Draft
         requires { self.failed ≡ false → IsDraft lengths
@@ -109,7 +109,7 @@ impl Draft {
         self.appended(scheme, ":", lengths, host)
     }
 
-    /// With an authority behind its `//`, in which the host lies at this place.
+    /// With an authority after its `//`, in which the host is at this place.
     #[inline(always)]
     pub fn with_authority(self, authority: &str, host: HostPlace) -> Draft
         requires { self.failed ≡ false → lacks_authority (draft_parts self) ≡ true }
@@ -179,7 +179,7 @@ impl Draft {
         }
     }
 
-    /// With a port behind its `:`.
+    /// With a port after its `:`.
     #[inline(always)]
     pub fn with_port<P: AsPort>(self, port: P) -> Draft
         requires { self.failed ≡ false → ends_in_authority any_authority (draft_parts self) ≡ true }
@@ -222,7 +222,7 @@ impl Draft {
         self.appended("", path, lengths, host)
     }
 
-    /// With a query behind its `?`.
+    /// With a query after its `?`.
     #[inline(always)]
     pub fn with_query(self, query: &str) -> Draft
         requires { self.failed ≡ false → is_unended (draft_parts self) ≡ true }
@@ -237,7 +237,7 @@ impl Draft {
         self.appended("?", query, lengths, host)
     }
 
-    /// With a fragment behind its `#`.
+    /// With a fragment after its `#`.
     #[inline(always)]
     pub fn with_fragment(self, fragment: &str) -> Draft
         requires { self.failed ≡ false → is_none (draft_parts self).fragment ≡ true }
@@ -252,7 +252,7 @@ impl Draft {
         self.appended("#", fragment, lengths, host)
     }
 
-    /// Where the parts lie in the text.
+    /// Where the parts are in the text.
     #[inline(always)]
     pub fn positions(&self) -> Positions
         requires whole { self.now.failed ≡ false }
@@ -262,7 +262,7 @@ impl Draft {
         positions_by(&self.lengths, self.host, self.text.as_str())
     }
 
-    /// Why the parts are refused, if they are.
+    /// Why the parts are rejected, if they are.
     pub fn refusal(&self) -> Option<BuildError>
         requires whole { self.now.failed ≡ false }
         ensures { result ≡ refusal (draft_parts self.now) }
@@ -288,7 +288,7 @@ impl Draft {
     }
 }
 
-/// What stands behind a part and its marks.
+/// What is after a part and its marks.
 fn behind_part(text: &[u8], marks: usize, part: Option<usize>) -> &[u8]
     requires { IfSome part (λ len. marks + len ≤ length text.now) }
     ensures { result.now ≡ behind_part marks part text.now }
@@ -299,7 +299,7 @@ fn behind_part(text: &[u8], marks: usize, part: Option<usize>) -> &[u8]
     }
 }
 
-/// Whether a `:` stands in the first segment of a path.
+/// Whether a `:` is in the first segment of a path.
 fn has_colon_first(path: &[u8]) -> bool
     ensures { result ≡ has_colon_first path.now }
 {
@@ -308,7 +308,7 @@ fn has_colon_first(path: &[u8]) -> bool
         .any(|byte| *byte == b':')
 }
 
-/// Why a path is refused behind what stands before it.
+/// Why a path is rejected after what is before it.
 #[tactic(auto, unfolding(crate::specs::Built::refusal_of))]
 fn first_refusal(has_scheme: bool, has_authority: bool, path: &[u8]) -> Option<BuildError>
     ensures { result ≡ refusal_of has_scheme has_authority path.now }

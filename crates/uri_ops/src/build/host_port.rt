@@ -32,7 +32,7 @@ pub trait AsHost: Drop {
 pub trait WithEncoder<E: Encoder>: AsHost {
     ghost use Rattle.uri_ops.specs.HostParts.{IsHostText};
 
-    /// Appends the host, as it stands in an authority.
+    /// Appends the host, as it is in an authority.
     #[doc(hidden)]
     fn push_host(&self, out: &mut String) -> Result<(), AllocError>
         ensures text { OnOk result (Pushes out.old out.new (Self.host_text self.now)) }
@@ -86,7 +86,7 @@ impl<E: Encoder> WithEncoder<E> for IpAddr {
     }
 }
 
-/// Written as it stands.
+/// Written as it is.
 impl AsHost for EStr<'_, RegName> {
     ghost use Rattle.uri_pct.specs.EncodedTexts.{text_of};
 
@@ -99,7 +99,7 @@ impl WithEncoder<RegName> for EStr<'_, RegName> {
     }
 }
 
-/// Written as it stands.
+/// Written as it is.
 impl AsHost for EStr<'_, IRegName> {
     ghost use Rattle.uri_pct.specs.EncodedTexts.{text_of};
 
@@ -146,7 +146,7 @@ impl AsPort for u16 {
     }
 }
 
-/// Written as they stand.
+/// Written as they are.
 #[tactic(auto, using(crate::proofs::Builders::BuilderDrafts::text_from))]
 impl AsPort for EStr<'_, Port> {
     ghost use Rattle.uri_pct.specs.EncodedTexts.{text_of};

@@ -1,4 +1,4 @@
-//! Where the parts of a builder lie in its text.
+//! Where the parts of a builder are in its text.
 ghost use Rattle.std.specs.Prelude.{◌≡◌, ◌+◌, ◌≤◌, IfSome, length};
 ghost use Rattle.uri_parts.specs.AuthorityTexts.{authority_text};
 ghost use Rattle.uri_ops.specs.Models.DraftPlaces.{IsHostAt, authority_by, positions_by, span};
@@ -16,7 +16,7 @@ pub struct HostPlace {
     pub end: usize,
 }
 
-/// Where the host of an authority lies in it.
+/// Where the host of an authority is in it.
 pub(crate) fn host_place<U: Encoder, N: Encoder>(authority: Authority<'_, U, N>) -> HostPlace
     ensures { IsHostAt result (authority_text authority.entry) }
 {
@@ -31,7 +31,7 @@ pub(crate) fn host_place<U: Encoder, N: Encoder>(authority: Authority<'_, U, N>)
     }
 }
 
-/// The place behind a part and its marks, where it is there, in their text.
+/// The place after a part and its marks, where it is there, in their text.
 #[inline(always)]
 fn behind(place: usize, marks: usize, part: Option<usize>, text: &str) -> usize
     requires { place + span marks part ≤ length text.now }
@@ -43,7 +43,7 @@ fn behind(place: usize, marks: usize, part: Option<usize>, text: &str) -> usize
     }
 }
 
-/// Where an authority of a length lies in its text.
+/// Where an authority of a length is in its text.
 #[inline(always)]
 fn authority_by(start: usize, len: usize, host: HostPlace, text: &str) -> AuthorityPositions
     requires inside { start + len ≤ length text.now }
@@ -59,7 +59,7 @@ fn authority_by(start: usize, len: usize, host: HostPlace, text: &str) -> Author
     }
 }
 
-/// Where the parts of these lengths lie in their text.
+/// Where the parts of these lengths are in their text.
 #[inline(always)]
 pub(crate) fn positions_by(lengths: &Lengths, host: HostPlace, text: &str) -> Positions
     requires inside { span 1 lengths.now.scheme + span 2 lengths.now.authority

@@ -11,7 +11,7 @@ use crate::traits::RiMaybeRef;
 ///
 /// # Examples
 ///
-/// A builder behind `scheme` is a `Builder<R, SchemeEnd>`.
+/// A builder after `scheme` is a `Builder<R, SchemeEnd>`.
 pub trait State {
     ghost use Rattle.std.specs.Prelude.{Bool};
     ghost use Rattle.uri_ops.specs.BuilderParts.{BuilderParts};
@@ -37,7 +37,7 @@ pub trait StateOf<R: RiMaybeRef>: State {
 ///
 /// # Examples
 ///
-/// `SchemeEnd` is a `To<PathEnd>`: `path` may be called behind `scheme`.
+/// `SchemeEnd` is a `To<PathEnd>`: `path` may be called after `scheme`.
 pub trait To<T: State>: State {
     ghost use Rattle.uri_ops.specs.Builders.{Passes};
 
@@ -103,7 +103,7 @@ impl<R: RiMaybeRef> StateOf<R> for NonRefStart {
     type Held = At<R, NonRefStart>;
 }
 
-/// Behind the scheme.
+/// After the scheme.
 ///
 /// # Examples
 ///
@@ -137,7 +137,7 @@ impl<R: RiMaybeRef> StateOf<R> for AuthorityStart {
     type Held = At<R, AuthorityStart>;
 }
 
-/// Behind the userinfo.
+/// After the userinfo.
 ///
 /// # Examples
 ///
@@ -154,7 +154,7 @@ impl<R: RiMaybeRef> StateOf<R> for UserinfoEnd {
     type Held = At<R, UserinfoEnd>;
 }
 
-/// Behind the host.
+/// After the host.
 ///
 /// # Examples
 ///
@@ -171,7 +171,7 @@ impl<R: RiMaybeRef> StateOf<R> for HostEnd {
     type Held = At<R, HostEnd>;
 }
 
-/// Behind the port.
+/// After the port.
 ///
 /// # Examples
 ///
@@ -188,7 +188,7 @@ impl<R: RiMaybeRef> StateOf<R> for PortEnd {
     type Held = At<R, PortEnd>;
 }
 
-/// Behind the authority.
+/// After the authority.
 ///
 /// # Examples
 ///
@@ -205,7 +205,7 @@ impl<R: RiMaybeRef> StateOf<R> for AuthorityEnd {
     type Held = At<R, AuthorityEnd>;
 }
 
-/// Behind the path.
+/// After the path.
 ///
 /// # Examples
 ///
@@ -222,7 +222,7 @@ impl<R: RiMaybeRef> StateOf<R> for PathEnd {
     type Held = At<R, PathEnd>;
 }
 
-/// Behind the query.
+/// After the query.
 ///
 /// # Examples
 ///
@@ -239,7 +239,7 @@ impl<R: RiMaybeRef> StateOf<R> for QueryEnd {
     type Held = At<R, QueryEnd>;
 }
 
-/// Behind the fragment.
+/// After the fragment.
 ///
 /// # Examples
 ///

@@ -1,4 +1,4 @@
--- The parts of a text that is decoded: what stands before a `%`, and the octet that it begins.
+-- The parts of a text that is decoded: what is before a `%`, and the octet that it begins.
 use Rattle.std.proofs.Common.{◌≡◌, ℕ, suc, ◌+◌, ◌*◌, ◌<◌, ◌≤◌, ◌≢◌, Bool, true, false, eqb, not}
 use Rattle.std.proofs.Common.{List, [], ◌∷◌, ◌++◌, length, get_or, take, drop, map, refl, sym, ap}
 use Rattle.std.proofs.Common.{◌∙◌, subst, arith, ⊎_elim, append_assoc, lit<, add-zero}
@@ -68,7 +68,7 @@ chunks_of-chars c (d ∷ cs) ts = ap (onto_chunks (encode_utf8 c)) (chunks_of-ch
 abbrev pub BeginsApart : List Chunk → Type 0
 BeginsApart ps = (text : List ℕ) → onto_chunks text ps ≡ Text text ∷ ps
 
--- an octet at the front of a text
+-- an octet at the start of a text
 pub record BeginsOctet (text : List ℕ) : Type 0 where
   pub high : ℕ
   pub low : ℕ
@@ -199,7 +199,7 @@ chunks_text [] front ts e some = absurd (omega (arith, ap length e))
 chunks_text (c ∷ cs) front ts e some = chunks_of-chars c cs ts
     ∙ ap (λ x. onto_chunks x (chunks_of ts)) e
 
--- the tokens of a text whose front has no `%`
+-- the tokens of a text whose prefix has no `%`
 pub tokens_front : (front back : List ℕ) → IsUtf8 front → lacks 37 front ≡ true
     → tokens (front ++ back) ≡ map Char (chars front) ++ tokens back
 tokens_front front back u e =
@@ -207,7 +207,7 @@ tokens_front front back u e =
     ∙ tokens_of-lacks (chars front) (chars back)
     (chars_lack (chars front) (ap (lacks 37) (encodes-chars front u) ∙ e))
 
--- what stands behind the text before the first `%`
+-- what is after the text before the first `%`
 pub record BeginsText (text : List ℕ) (n : ℕ) : Type 0 where
   pub first : chunks text ≡ Text (take n text) ∷ chunks (drop n text)
   pub valid : IsValidFor widest_set (drop n text)

@@ -1,4 +1,4 @@
--- What is taken where text is put behind.
+-- What is taken where text is appended.
 use Rattle.std.proofs.Common.{◌≡◌, ℕ, true, List, [], ◌∷◌, ◌++◌, ◌&&◌, refl, sym, ap, ◌∙◌}
 use Rattle.std.proofs.Common.{string_bytes, Result, Ok, Err}
 use Rattle.std.specs.List.{list_all, flat_map}

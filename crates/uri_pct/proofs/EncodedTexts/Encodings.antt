@@ -25,7 +25,7 @@ use Rattle.uri_pct.proofs.Unicode.Pieces.{bytes_of_pieces-utf8_pieces, take_two}
 pub print-append : (ts us : List Token) → print (ts ++ us) ≡ print ts ++ print us
 print-append ts us = flat_map-append text_of_token ts us
 
--- the first character of a text, and what is behind it
+-- the first character of a text, and what is after it
 pub encode_text-first : (set : TableSet) (text rest : List ℕ) (c : ℕ) → IsUtf8 text
     → text ≡ encode_utf8 c ++ rest
     → encode_text set text ≡ encode_char set c ++ encode_text set rest
@@ -101,7 +101,7 @@ part_longer text start end c ordered e =
     ap (λ k. take k (drop start text)) size ∙ sym (take_two n (len_utf8 c) (drop start text))
     ∙ ap (λ x. take n (drop start text) ++ x) front
 
--- what begins with a text still does with more behind it
+-- what begins with a text still does with more after it
 pub kept_more : (old new more : List ℕ) → take (length old) new ≡ old
     → take (length old) (new ++ more) ≡ old
 kept_more old new more e =
@@ -146,7 +146,7 @@ fault_octets : (set : TableSet) (bytes : List ℕ)
 fault_octets set [] = refl
 fault_octets set (b ∷ bytes) = append-nil (map Octet (b ∷ bytes))
 
--- the pieces of a text with an ill-formed part behind it
+-- the pieces of a text with an ill-formed part after it
 pub bytes_step : (set : TableSet) (out mid new bytes text fault rest all : List ℕ) → IsUtf8 text
     → utf8_pieces bytes ≡ (utf8_pieces text ++ fault_pieces fault) ++ utf8_pieces rest
     → mid ≡ out ++ print (encode_text set text) → new ≡ mid ++ print (map Octet fault)

@@ -1,4 +1,4 @@
--- A run of ASCII characters that a set allows is scanned, and behind it the text has a character's
+-- A run of ASCII characters that a set allows is scanned, and after it the text has a character's
 -- boundary.
 use Rattle.std.proofs.Common.{◌≡◌, ℕ, zero, suc, ◌+◌, ◌-◌, ◌<◌, ◌≤◌, true, List, length, get_or}
 use Rattle.std.proofs.Common.{drop, arith, subst}

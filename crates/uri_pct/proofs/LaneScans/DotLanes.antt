@@ -1,4 +1,4 @@
--- The lanes at which a `/` stands that has a `.` or a `%` behind it.
+-- The lanes at which a `/` stands that has a `.` or a `%` after it.
 use Rattle.std.proofs.Common.{◌≡◌, ℕ, ◌+◌, ◌<◌, ◌≤◌, Bool, false, eqb, List, map, length, get_or}
 use Rattle.std.proofs.Common.{sym, ap, ◌∙◌, arith, w64, bit_and, bit_or, ◌&&◌, ◌||◌}
 use Rattle.std.specs.Int.{bit_at, trailing_zeros}
@@ -16,7 +16,7 @@ abbrev begins : List ℕ → ℕ → Bool
 begins bs k = eqb (get_or bs k 0) 47
     && (eqb (get_or bs (k + 1) 0) 46 || eqb (get_or bs (k + 1) 0) 37)
 
--- where no lane has a `/` none has one with a dot behind it
+-- where no lane has a `/` none has one with a dot after it
 pub no_slash : (bs : List ℕ) (i slashes : ℕ) → i + 16 < length bs → slashes ≡ lanes_of 47 bs i
     → slashes ≡ 0 → (k : ℕ) → k < 16 → begins bs (i + k) ≡ false
 no_slash bs i slashes room s none k h =

@@ -84,7 +84,7 @@ lane_is low high b fits = ⊎_elim
     ∙ ap not (sym (has_no_bit low high b past)))
     (cases_lt b 128)
 
--- positions computed lane by lane, and what stands there
+-- positions computed lane by lane, and what is there
 module _ (xs v : List ℕ) (f g : ℕ → ℕ) (long : length v ≡ 16) (fits : Each1 (Fits w8) v) where
   at : (i : ℕ) → i < 16 → get_or (map f v) i 0 ≡ f (get_or v i 0)
   at i h = sym (get_or_default_zero (map f v) i (f 0) (omega (arith, length-map v f)))

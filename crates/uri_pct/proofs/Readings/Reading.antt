@@ -1,4 +1,4 @@
--- What reading keeps: the bytes, what the set allows, and what stands on either side of a
+-- What reading keeps: the bytes, what the set allows, and what is on either side of a
 -- character.
 use Rattle.std.proofs.Common.{◌≡◌, ℕ, Bool, true, false, cond, List, [], ◌∷◌, ◌++◌, map, refl, sym}
 use Rattle.std.proofs.Common.{ap, ◌∙◌, ◌&&◌, ⊎_elim, append_assoc}
@@ -149,7 +149,7 @@ is_valid_for-read set text lacks wide valid =
     (printable-read set text (printable_valid set text lacks valid))
     ∙ allows-read set text wide valid
 
--- a character that stands for itself parts the reading before it from that behind it
+-- a character that stands for itself parts the reading before it from that after it
 from_parted : (set : TableSet) (run : List ℕ) (ts : List Token) (c : ℕ) (us : List Token)
     → read_from set run (ts ++ Char c ∷ us) ≡ read_from set run ts ++ Char c ∷ read_tokens set us
 unfolding read_from

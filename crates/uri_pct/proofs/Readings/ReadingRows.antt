@@ -54,7 +54,7 @@ unfolding reads iri chars encode_utf8 tokens_of is_pct_encoded pieces_from follo
     read_run is_readable is_bidi_formatting is_never_literal allows_past_ascii is_ucschar
 parted = (refl, refl)
 
--- a character behind 31 octets
+-- a character after 31 octets
 far_behind : reads (iri path_set) (repeat 31 (codes "%61") ++ codes "%C3%A9")
     ≡ repeat 31 (codes "a") ++ encode_utf8 0xE9
 unfolding reads iri chars encode_utf8 tokens_of is_pct_encoded pieces_from following read_from
@@ -90,7 +90,7 @@ unfolding reads iri chars encode_utf8 tokens_of is_pct_encoded pieces_from follo
     read_run is_readable is_bidi_formatting is_never_literal allows_past_ascii is_ucschar
 neighbours = (refl, refl)
 
--- U+200F behind 30 octets
+-- U+200F after 30 octets
 mark_far_behind : reads (iri path_set) (repeat 30 (codes "%61") ++ codes "%E2%80%8F")
     ≡ repeat 30 (codes "a") ++ codes "%E2%80%8F"
 unfolding reads iri chars encode_utf8 tokens_of is_pct_encoded pieces_from following read_from
@@ -121,7 +121,7 @@ ill_formed : (token_bytes (tokens (codes "%F0%90%8Cx%80")) ≡ 0xF0 ∷ 0x90 ∷
 unfolding chars encode_utf8 tokens_of is_pct_encoded pieces_from following
 ill_formed = (refl, refl, refl)
 
--- a surrogate, a front that `A` does not finish, a form too long, and one past the last plane
+-- a surrogate, a prefix that `A` does not finish, a form too long, and one past the last plane
 lossy : (lossy_text (0xED ∷ 0xA0 ∷ 0x80 ∷ []) ≡ replacement_bytes ++ replacement_bytes
     ++ replacement_bytes)
     × (lossy_text (0xE2 ∷ 0x82 ∷ 0x41 ∷ []) ≡ replacement_bytes ++ codes "A")

@@ -23,7 +23,7 @@ use Rattle.uri_pct.proofs.Readings.Reading.{printable-read, read_tokens-encode_f
 abbrev StaysOctets : TableSet → List ℕ → Type 0
 StaysOctets set run = read_run set run ≡ map Octet run
 
--- nor does one of the tokens, behind a run
+-- nor does one of the tokens, after a run
 abbrev IsRead : TableSet → List ℕ → List Token → Type 0
 IsRead set run [] = StaysOctets set run
 IsRead set run (Octet value ∷ ts) = IsRead set (run ++ value ∷ []) ts
@@ -88,7 +88,7 @@ read_first set done (WellFormed bytes) ps ts e stays behind =
     subst (λ x. IsRead set (bytes_of_pieces done) ((x ++ flat_map (read_piece set) ps) ++ ts))
     (sym (cond-true _ _ _ (not-false _ e))) (stays, behind)
 
--- what is read of the pieces of a run is read, where unread pieces stand before it and what follows
+-- what is read of the pieces of a run is read, where unread pieces are before it and what follows
 -- is read
 pieces_are_read : (set : TableSet) (done ps : List Piece) (ts : List Token) → AreCut (done ++ ps)
     → list_all (is_unread set) done ≡ true

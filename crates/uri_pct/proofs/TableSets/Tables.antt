@@ -25,7 +25,7 @@ pub same_set : (test test' : ℕ → Bool) (pct_encoded ucschar iprivate : Bool)
 same_set test test' pct_encoded ucschar iprivate same =
     λ i. record_set (λ c. same c i) pct_encoded ucschar iprivate
 
--- a set lies in another if nothing is left of it without that other
+-- a set is in another if nothing is left of it without that other
 kept : (a b : Bool) → (a && not b) ≡ false → a ≡ true → b ≡ true
 kept true true e h = refl
 kept true false e h = sym e

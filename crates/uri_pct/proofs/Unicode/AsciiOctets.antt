@@ -1,4 +1,4 @@
--- An octet of ASCII is a character by itself, whatever stands before and behind it.
+-- An octet of ASCII is a character by itself, whatever is before and after it.
 use Rattle.std.proofs.Common.{ℕ, ◌≡◌, ◌<◌, List, [], ◌∷◌, ◌++◌, map, ap, ◌∙◌, inl}
 use Rattle.std.specs.Str.{IsUtf8}
 use Rattle.std.proofs.lemmas.Str.{IsUtf8-from_ascii}

@@ -108,7 +108,7 @@ begins_within-encode c rest = ⊎_elim (λ h. rw (encode_ascii c h) (outside c (
     (λ l3. rw (encode_4 c l3) (outside (240 + c / 262144) (inr (omega arith))))
     (cases_lt c 0x10000)) (cases_lt c 0x800)) (cases_lt c 0x80)
 
--- a character parts the pieces before it from those behind it
+-- a character parts the pieces before it from those after it
 pub utf8_pieces-around_char : (xs : List ℕ) (c : ℕ) (ys : List ℕ) → IsScalar c
     → utf8_pieces (xs ++ (encode_utf8 c ++ ys))
     ≡ utf8_pieces xs ++ WellFormed (encode_utf8 c) ∷ utf8_pieces ys
@@ -213,7 +213,7 @@ char_2 b low high rest bytes e =
           ∙ sym whole,
     )
 
--- where the second byte lies, and that the number is then a character's
+-- where the second byte is, and that the number is then a character's
 char_3 : (b : ℕ) (second : ByteRange) → 0xE0 ≤ b → 0x80 ≤ second.0 → second.1 ≤ 0xBF
     → ((c t : ℕ) → second.0 ≤ t → t ≤ second.1 → (b * 64 + t) * 64 ≤ c + 925696
     → c + 925696 < (b * 64 + t) * 64 + 64 → (0x800 ≤ c) × (c < 0x10000) × IsScalar c)

@@ -93,7 +93,7 @@ lossy_text-append text rest u =
     ∙ flat_map-append lossy_piece (map of_char u.0) (utf8_pieces rest)
     ∙ ap (λ x. x ++ lossy_text rest) (chars_lossy u.0 ∙ u.1.1)
 
--- std's longest front that is UTF-8
+-- std's longest prefix that is UTF-8
 front_utf8 : (bs : List ℕ) (m : ℕ) → IsUtf8 (take (valid_len_up_to bs m) bs)
 front_utf8 bs zero = IsUtf8-nil
 front_utf8 bs (suc m) = ⊎_elim
@@ -180,7 +180,7 @@ ill_formed_short b ranges rest bytes e = ⊎_elim
     (λ other. omega (arith, other, fitting_most ranges rest))
     (cases_eq (fitting ranges rest) (length ranges))
 
--- an ill-formed part at the front is as long as std takes it
+-- an ill-formed part at the start is as long as std takes it
 abbrev pub IsAsLong : ℕ → Option (List ByteRange) → Type 0
 IsAsLong b row = (rest bytes : List ℕ) → first_piece row b rest ≡ IllFormed bytes
     → suc (taken row rest) ≡ utf8_invalid_len (b ∷ rest)
@@ -273,7 +273,7 @@ pub first_of : (text : List ℕ) → 0 < length text → (b : ℕ) × (rest : Li
 first_of [] h = absurd (omega arith)
 first_of (b ∷ rest) h = (b, rest, refl)
 
--- behind the longest front that is UTF-8 stands an ill-formed part
+-- after the longest prefix that is UTF-8 stands an ill-formed part
 pub fault_first : (bs : List ℕ) (b : ℕ) (rest : List ℕ) (p : Piece)
     → drop (utf8_valid_len bs) bs ≡ b ∷ rest → first_piece (following b) b rest ≡ p
     → (bytes : List ℕ) × (p ≡ IllFormed bytes)

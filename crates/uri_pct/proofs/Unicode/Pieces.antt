@@ -1,4 +1,4 @@
--- The pieces of bytes: they are together the bytes, those at the front stay what they are without
+-- The pieces of bytes: they are together the bytes, those at the start stay what they are without
 -- what follows, and a byte that continues no character always begins one.
 use Rattle.std.proofs.Common.{◌≡◌, ℕ, zero, suc, ◌+◌, ◌<◌, ◌≤◌, Bool, true, false, cond, eqb, leb}
 use Rattle.std.proofs.Common.{List, [], ◌∷◌, ◌++◌, length, take, drop, refl, sym, ap, ◌∙◌, arith}
@@ -30,7 +30,7 @@ first_bytes (Some ranges) b rest =
     ⊎_elim (λ e. rw e refl) (λ e. rw e refl)
     (cases_Bool (eqb (fitting ranges rest) (length ranges)))
 
--- to pass some bytes is to begin behind them
+-- to pass some bytes is to begin after them
 pub pieces_from-drop : (k : ℕ) (bytes : List ℕ) → pieces_from k bytes ≡ utf8_pieces (drop k bytes)
 unfolding pieces_from
 pieces_from-drop zero bytes = refl
@@ -145,7 +145,7 @@ pub utf8_pieces-append : (xs ys : List ℕ) → begins_within ys ≡ false
     → utf8_pieces (xs ++ ys) ≡ utf8_pieces xs ++ utf8_pieces ys
 utf8_pieces-append xs ys out = pieces_parted 0 xs ys (omega arith) out
 
--- a cut behind what fits changes nothing
+-- a cut after what fits changes nothing
 fitting_cut : (ranges : List ByteRange) (text : List ℕ) (m : ℕ) → fitting ranges text ≤ m
     → fitting ranges (take m text) ≡ fitting ranges text
 fitting_cut [] text m h = refl
@@ -186,7 +186,7 @@ take_two (suc n) m [] = take-nil m ∙ sym (take-nil (suc n + m))
 take_two (suc n) m (b ∷ rest) = let e : suc n + m ≡ suc (n + m) = omega arith in
     rw e (ap (λ t. b ∷ t) (take_two n m rest))
 
--- the bytes of the first pieces are a front of the bytes
+-- the bytes of the first pieces are a prefix of the bytes
 front_bytes : (k j : ℕ) (bytes : List ℕ)
     → (m : ℕ) × (bytes_of_pieces (take j (pieces_from k bytes)) ≡ take m (drop k bytes))
 unfolding pieces_from

@@ -39,7 +39,7 @@ faulty_first b rest bytes e =
     ap (λ p. p ∷ pieces_from (taken (following b) rest) rest) e
     ∙ ap (λ ps. IllFormed bytes ∷ ps) (pieces_from-drop (taken (following b) rest) rest)
 
--- behind the longest text stands what is no text, as long as std takes it
+-- after the longest text stands what is no text, as long as std takes it
 ill_formed_first : (bs invalid rest : List ℕ) → drop (utf8_valid_len bs) bs ≡ invalid ++ rest
     → 0 < length invalid → length invalid ≡ utf8_invalid_len (drop (utf8_valid_len bs) bs)
     → utf8_pieces (invalid ++ rest) ≡ IllFormed invalid ∷ utf8_pieces rest
@@ -83,7 +83,7 @@ last_chunk bs valid rest same last =
     ∙ rw no_rest (ap utf8_pieces (append-nil valid) ∙ sym (append-nil (utf8_pieces valid))
     ∙ ap (λ ps. utf8_pieces valid ++ ps) (sym nil_pieces))
 
--- the pieces of one of std's chunks, and those behind it
+-- the pieces of one of std's chunks, and those after it
 pub chunk_pieces : (bs valid invalid rest : List ℕ) → bs ≡ valid ++ (invalid ++ rest)
     → length valid ≡ utf8_valid_len bs
     → length invalid ≡ utf8_invalid_len (drop (utf8_valid_len bs) bs)

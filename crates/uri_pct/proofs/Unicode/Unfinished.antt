@@ -159,7 +159,7 @@ end_begins (x ∷ xs) ys some = ⊎_elim
     ap (λ n. begins_within (drop n (x ∷ xs) ++ ys)) front ∙ end_begins xs ys (omega arith))
     (cases_Bool (nat_lt (length xs) (called_for x)))
 
--- the cut before an unfinished end, or behind the bytes where there is none, parts no piece
+-- the cut before an unfinished end, or after the bytes where there is none, parts no piece
 pub unfinished_parts : (bytes : List ℕ)
     → PartNoPiece (take (length bytes - unfinished_len bytes) bytes)
     (drop (length bytes - unfinished_len bytes) bytes)

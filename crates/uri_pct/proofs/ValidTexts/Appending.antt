@@ -1,4 +1,4 @@
--- Texts that are valid for a set, one behind the other.
+-- Texts that are valid for a set, one after the other.
 use Rattle.std.proofs.Common.{◌≡◌, ℕ, true, false, eqb, List, [], ◌∷◌, ◌++◌, refl, sym, ap, ◌∙◌}
 use Rattle.std.proofs.Common.{◌+◌, ◌*◌, ◌&&◌, ⊎_elim}
 use Rattle.std.specs.List.{list_all}
@@ -44,7 +44,7 @@ module _ (set : TableSet) (lacks : LacksPercent set) where
       rw o (ap (λ ts. Char c ∷ ts) (tokens_of-append (high ∷ low ∷ cs) ds rest)))
       (cases_Bool (is_pct_encoded c high low))
 
-  -- the tokens of a valid text with another behind it
+  -- the tokens of a valid text with another after it
   pub tokens-append : (xs ys : List ℕ) → IsUtf8 xs → IsValidFor set xs
       → tokens (xs ++ ys) ≡ tokens xs ++ tokens ys
   unfolding is_valid_for
@@ -58,7 +58,7 @@ module _ (set : TableSet) (lacks : LacksPercent set) where
       ap (list_all (allows_token set)) (tokens-append xs ys u e)
       ∙ list_all-append (allows_token set) (tokens xs) (tokens ys) ∙ and_from _ _ e f
 
-  -- printed tokens behind a valid text
+  -- printed tokens after a valid text
   pub tokens-append_print : (xs : List ℕ) (ts : List Token) → IsUtf8 xs → IsValidFor set xs
       → list_all is_printable ts ≡ true → tokens (xs ++ print ts) ≡ tokens xs ++ ts
   tokens-append_print xs ts u e p = tokens-append xs (print ts) u e

@@ -23,7 +23,7 @@ use Rattle.uri_pct.proofs.Unicode.Characters.{bytes_of_char, is_high, hex_ascii}
 use Rattle.uri_pct.proofs.ValidTexts.Validity.{valid_from, valid_cons, is_valid_for-bytes}
 use Rattle.uri_pct.proofs.ValidTexts.Validity.{allows_first-ascii}
 
--- the length of the front before the first mark
+-- the length of the prefix before the first mark
 abbrev pub to_mark : List ℕ → List ℕ → ℕ
 to_mark marks text = prefix_len (λ c. not (is_one_of marks c)) text
 
@@ -193,7 +193,7 @@ mark_boundary marks ascii bs = ⊎_elim
     subst (λ n. IsCharBoundary bs n) e (IsCharBoundary-end bs))
     (cases_lt (to_mark marks bs) (length bs))
 
--- what is left behind a cut begins with a mark, or is nothing
+-- what is left after a cut begins with a mark, or is nothing
 pub from_mark : (marks : List ℕ) (P : List ℕ → Type 0) → P []
     → ((b : ℕ) (rest : List ℕ) → is_one_of marks b ≡ true → P (b ∷ rest)) → (bs : List ℕ)
     → P (drop (to_mark marks bs) bs)
@@ -341,7 +341,7 @@ module _ (marks : List ℕ) (set : TableSet) (lacks : LacksPercent set)
       (front_le (continuation_len b) bs s)))
       (cases_Bool (is_one_of marks b))
 
-  -- a scan ends at the mark exactly where what lies before it is valid
+  -- a scan ends at the mark exactly where what is before it is valid
   pub cut : (text : List ℕ) → IsUtf8 text
       → is_valid_for set (take (to_mark marks text) text)
       ≡ eqb (front set text) (to_mark marks text)

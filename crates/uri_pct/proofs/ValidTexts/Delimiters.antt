@@ -59,7 +59,7 @@ onto_append : (x : ℕ) (piece : List ℕ) (pieces more all : List (List ℕ)) �
     → onto_first x (all ++ more) ≡ onto_first x all ++ more
 onto_append x piece pieces more all e = rw e refl
 
--- the pieces before a delimiter and those behind it
+-- the pieces before a delimiter and those after it
 pub slice_split-cut : (d : ℕ) (before after : List ℕ)
     → slice_split (λ b. eqb b d) (before ++ d ∷ after)
     ≡ slice_split (λ b. eqb b d) before ++ slice_split (λ b. eqb b d) after
@@ -81,7 +81,7 @@ slice_split_lacks d (x ∷ xs) e =
     let p = and_parts (not (eqb x d)) _ e in
     cond-false _ _ _ (not-true _ p.0) ∙ ap (onto_first x) (slice_split_lacks d xs p.1)
 
--- the piece before the first delimiter, and the one behind the last
+-- the piece before the first delimiter, and the one after the last
 pub pieces_first : (d : ℕ) (text piece rest : List ℕ) → IsFirstCut d text piece rest
     → slice_split (λ b. eqb b d) text ≡ piece ∷ slice_split (λ b. eqb b d) rest
 pieces_first d text piece rest cut =

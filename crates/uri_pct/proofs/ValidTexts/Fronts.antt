@@ -1,4 +1,4 @@
--- The longest front that a set allows, step by step.
+-- The longest prefix that a set allows, step by step.
 use Rattle.std.proofs.Common.{◌≡◌, ℕ, zero, suc, ◌+◌, ◌<◌, ◌≤◌, true, false, not, cond, eqb, List}
 use Rattle.std.proofs.Common.{[], ◌∷◌, ◌++◌, length, get_or, drop, refl, sym, subst, ap, ◌∙◌, arith}
 use Rattle.std.proofs.Common.{◌&&◌, ◌||◌, ⊎_elim, add-one, zero-add}

@@ -18,7 +18,7 @@ use Rattle.uri_pct.proofs.EncodedTexts.EncodedTokens.{is_small, printable-encode
 use Rattle.uri_pct.proofs.EncodedTexts.EncodedTokens.{allowed-encode_text, printable-encode_bytes}
 use Rattle.uri_pct.proofs.EncodedTexts.EncodedTokens.{allowed-encode_bytes}
 
--- the new text is valid, and the tokens stand behind those of the old
+-- the new text is valid, and the tokens are after those of the old
 pub record Grows (set : TableSet) (old : List ℕ) (ts : List Token) (new : List ℕ) : Type 0 where
   pub valid : IsValidFor set new
   pub tokens : tokens new ≡ tokens old ++ ts

@@ -1,4 +1,4 @@
--- The front of a text that a set without octets allows is encoded as it stands.
+-- The prefix of a text that a set without octets allows is encoded as it is.
 use Rattle.std.proofs.Common.{◌≡◌, ℕ, ◌+◌, ◌-◌, ◌<◌, ◌≤◌, true, false, cond, List, [], ◌∷◌, ◌++◌}
 use Rattle.std.proofs.Common.{length, get_or, take, drop, map, refl, sym, ap, subst, ◌∙◌, arith}
 use Rattle.std.proofs.Common.{⊎_elim, append_assoc}
@@ -42,7 +42,7 @@ same_past : (set : TableSet) (c : ℕ) → allows_past_ascii (plain_set set) c �
 unfolding allows_past_ascii
 same_past set c = refl
 
--- the front of a text by its first character
+-- the prefix of a text by its first character
 pub front_first : (set : TableSet) (text rest : List ℕ) (c : ℕ) → IsUtf8 text
     → text ≡ encode_utf8 c ++ rest
     → front (plain_set set) text ≡ cond (allows set c) (front (plain_set set) rest + len_utf8 c) 0
@@ -55,7 +55,7 @@ front_first set text rest c u e = ⊎_elim
     (same_past set c ∙ sym (allows-past set c h)))
     (cases_lt c 128)
 
--- so many bytes are encoded as they stand
+-- so many bytes are encoded as they are
 abbrev IsKept : TableSet → List ℕ → ℕ → Type 0
 IsKept set text n = print (encode_text set text)
     ≡ take n text ++ print (encode_text set (drop n text))
@@ -119,7 +119,7 @@ len_some c =
 none_more : (n k : ℕ) → 0 < k → n + k ≡ 0 → ⊥
 none_more n k h e = omega arith
 
--- what stands behind it is not allowed
+-- what is after it is not allowed
 pub refused_behind : (set : TableSet) (text rest : List ℕ) (start end c : ℕ) → IsUtf8 text
     → IsCharBoundary text end → end ≡ start + front (plain_set set) (drop start text)
     → drop end text ≡ encode_utf8 c ++ rest → allows set c ≡ false
@@ -143,12 +143,12 @@ octets_more : (xs ys : List ℕ) → octets (xs ++ ys) ≡ octets xs ++ octets y
 unfolding octets
 octets_more xs ys = ap print (map-append Octet xs ys) ∙ print-append (map Octet xs) (map Octet ys)
 
--- no character is refused yet
+-- no character is rejected yet
 pub none_refused : (set : TableSet) (text : List ℕ) (start : ℕ)
     → IsEncodedBy (λ bytes. print (map Octet bytes)) set text start start
 none_refused set text start = let none : start - start ≡ 0 = omega arith in rw none refl
 
--- one more that is refused
+-- one more that is rejected
 pub refused_more : (set : TableSet) (text : List ℕ) (start end next c : ℕ) → IsUtf8 (drop end text)
     → start ≤ end → drop end text ≡ encode_utf8 c ++ drop (end + len_utf8 c) text
     → next ≡ end + len_utf8 c → allows set c ≡ false
@@ -169,7 +169,7 @@ refused_more set text start end next c u ordered spelt place refused before =
     ∙ ap (λ k. octets (take (k - start) (drop start text)) ++ print (encode_text set (drop k text)))
     (sym place)
 
--- the first character is refused, so that some is
+-- the first character is rejected, so that some is
 pub some_refused : (set : TableSet) (text : List ℕ) (start end c : ℕ) → start ≤ end
     → drop end text ≡ encode_utf8 c ++ drop (end + len_utf8 c) text → allows set c ≡ true
     → ((d : ℕ) (rest : List ℕ) → drop start text ≡ encode_utf8 d ++ rest → allows set d ≡ false)
@@ -183,7 +183,7 @@ some_refused set text start end c ordered spelt allowed first = ⊎_elim
     (ap (λ k. drop k text) (sym same) ∙ spelt)) allowed))
     (cases_lt start end)
 
--- what is written behind a run that is kept and one that is refused
+-- what is written after a run that is kept and one that is rejected
 pub run_step : (set : TableSet) (out mid new text all : List ℕ) (start end next : ℕ)
     → IsEncodedBy (λ bytes. bytes) set text start end
     → IsEncodedBy (λ bytes. print (map Octet bytes)) set text end next

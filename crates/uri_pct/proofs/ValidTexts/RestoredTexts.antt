@@ -1,11 +1,11 @@
--- What was there, where the text behind it is cut off again.
+-- What was there, where the text after it is cut off again.
 use Rattle.std.proofs.Common.{◌≡◌, ◌≤◌, length, take, sym, ap, arith, subst, string_bytes, String}
 use Rattle.std.specs.Str.{IsUtf8}
 use Rattle.std.specs.String.Boundary.{IsSplitPoint}
 use Rattle.std.proofs.lemmas.List.{length-take}
 use Rattle.std.proofs.lemmas.Str.{IsCharBoundary-from_take, IsUtf8-string_bytes}
 
--- a text may be cut behind the text that it begins with
+-- a text may be cut after the text that it begins with
 pub split_kept : {Z : Type 0} (old new : String Z)
     → take (length (string_bytes old)) (string_bytes new) ≡ string_bytes old
     → IsSplitPoint (string_bytes new) (length (string_bytes old))

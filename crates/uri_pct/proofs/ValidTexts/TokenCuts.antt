@@ -49,7 +49,7 @@ one_before c mark [] m = refl
 one_before c mark (d ∷ ds) m = cond-false _ _ _ (no_octet_2 c mark d m.no_digit)
     ∙ ap (λ ts. Char c ∷ ts) (char_first mark (d ∷ ds) m.no_percent)
 
--- the tokens before the mark and those behind it
+-- the tokens before the mark and those after it
 pub tokens_of-cut : (cs ds : List ℕ) (mark : ℕ) → IsMark mark
     → tokens_of (cs ++ mark ∷ ds) ≡ tokens_of cs ++ Char mark ∷ tokens_of ds
 unfolding tokens_of
@@ -92,7 +92,7 @@ valid_parts set before after mark m u e =
     ∙ sym (ap (list_all (allows_token set)) (tokens-cut before after mark m u)) ∙ e) in
     (both.0, (and_parts _ _ both.1).1)
 
--- what stands before an ASCII byte is text
+-- what is before an ASCII byte is text
 pub IsUtf8-before : (text before after : List ℕ) (mark : ℕ) → mark < 128 → IsUtf8 text
     → text ≡ before ++ mark ∷ after → IsUtf8 before
 IsUtf8-before text before after mark small u same =
@@ -105,7 +105,7 @@ IsUtf8-before text before after mark small u same =
     subst IsUtf8 front (IsUtf8-take text (length before) u
     (IsCharBoundary-before_ascii text (length before) (omega arith) (omega arith)))
 
--- what stands before a mark of a valid text is valid, whether or not the set holds the mark
+-- what is before a mark of a valid text is valid, whether or not the set holds the mark
 pub valid_before : (set : TableSet) (text before after : List ℕ) (mark : ℕ)
     → is_valid_for set text ≡ true → text ≡ before ++ mark ∷ after → IsMark mark → IsUtf8 text
     → is_valid_for set before ≡ true
@@ -113,7 +113,7 @@ valid_before set text before after mark e same m u =
     (valid_parts set before after mark m (IsUtf8-before text before after mark m.ascii u same)
     (sym (ap (is_valid_for set) same) ∙ e)).0
 
--- and so is what stands behind it
+-- and so is what is after it
 pub valid_after : (set : TableSet) (text before after : List ℕ) (mark : ℕ)
     → is_valid_for set text ≡ true → text ≡ before ++ mark ∷ after → IsMark mark → IsUtf8 text
     → is_valid_for set after ≡ true

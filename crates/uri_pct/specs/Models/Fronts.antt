@@ -19,7 +19,7 @@ unfoldable pub allows_first : TableSet → ℕ → List ℕ → Bool
 allows_first set b rest =
     if nat_lt b 128 then set.ascii b else allows_past_ascii set (first_char (b ∷ rest))
 
--- the length of the longest front that the set allows, where so many bytes of a character or an
+-- the length of the longest prefix that the set allows, where so many bytes of a character or an
 -- octet are still to pass
 unfoldable pub front_from : TableSet → ℕ → List ℕ → ℕ
 front_from set skip [] = 0
@@ -29,11 +29,11 @@ front_from set zero (b ∷ rest) =
     else (if allows_first set b rest then front_from set (continuation_len b) rest + 1 else 0)
 front_from set (suc k) (b ∷ rest) = front_from set k rest + 1
 
--- the length of the longest front that the set allows
+-- the length of the longest prefix that the set allows
 abbrev pub front : TableSet → List ℕ → ℕ
 front set text = front_from set 0 text
 
--- what is left behind it
+-- what is left after it
 abbrev pub after : TableSet → List ℕ → List ℕ
 after set text = drop (front set text) text
 

@@ -11,19 +11,19 @@ use Rattle.uri_pct.specs.Pieces.{Piece, is_well_formed, bytes_of_pieces, piece_b
 use Rattle.uri_pct.specs.declared.decode_text.Bytes.{Bytes}
 use Rattle.uri_pct.specs.declared.decode_text.LossyText.{LossyText}
 
--- their bytes are put behind, and it is known whether one was ill-formed
+-- their bytes are appended, and it is known whether one was ill-formed
 pub record TookBytes (s : Bytes) (ps : List Part) (t : Bytes) : Type 0 where
   pub bytes : t.bytes.items ≡ s.bytes.items ++ bytes_of_pieces (pieces_of ps)
   pub is_text : t.is_text ≡ (s.is_text && list_all is_well_formed (pieces_of ps))
 
--- their lossy text is put behind
+-- their lossy text is appended
 pub record TookText (s : LossyText) (ps : List Part) (t : LossyText) : Type 0 where
   pub text : string_bytes t.text ≡ string_bytes s.text ++ flat_map lossy_piece (pieces_of ps)
 
 pieces_of-append : (ps qs : List Part) → pieces_of (ps ++ qs) ≡ pieces_of ps ++ pieces_of qs
 pieces_of-append ps qs = flat_map-append part_pieces ps qs
 
--- what is put behind for some parts and then for others
+-- what is appended for some parts and then for others
 put_behind : (of_piece : Piece → List ℕ) (s t u : List ℕ) (ps qs : List Part)
     → t ≡ s ++ flat_map of_piece (pieces_of ps) → u ≡ t ++ flat_map of_piece (pieces_of qs)
     → u ≡ s ++ flat_map of_piece (pieces_of (ps ++ qs))

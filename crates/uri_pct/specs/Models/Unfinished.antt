@@ -1,4 +1,4 @@
--- Which bytes at the end may be of a character that goes on behind them: Unicode, section 3.9,
+-- Which bytes at the end may be of a character that goes on after them: Unicode, section 3.9,
 -- 3-7.
 use Rattle.std.specs.Prelude.{◌≡◌, ℕ, suc, nat_lt, List, [], ◌∷◌, ◌++◌, length}
 use Rattle.std.specs.Prelude.{Option, Some, None, if◌then◌else◌}
@@ -18,7 +18,7 @@ unfinished_len [] = 0
 unfinished_len (b ∷ rest) =
     if nat_lt (length rest) (called_for b) then suc (length rest) else unfinished_len rest
 
--- no piece lies on both sides, whatever follows
+-- no piece is on both sides, whatever follows
 abbrev pub PartNoPiece : List ℕ → List ℕ → Type 0
 PartNoPiece front end = (behind : List ℕ)
     → utf8_pieces (front ++ (end ++ behind)) ≡ utf8_pieces front ++ utf8_pieces (end ++ behind)

@@ -69,7 +69,7 @@ pub const USERINFO: Table = Table {
     iprivate: false,
 };
 
-/// The characters behind the dot of `IPvFuture = "v" 1*HEXDIG "." 1*( unreserved / sub-delims / ":"
+/// The characters after the dot of `IPvFuture = "v" 1*HEXDIG "." 1*( unreserved / sub-delims / ":"
 /// )` (RFC 3986, section 3.2.2).
 ///
 /// # Examples

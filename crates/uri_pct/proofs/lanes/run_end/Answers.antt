@@ -6,7 +6,7 @@ use Rattle.uri_pct.proofs.LaneScans.LaneRuns.{ends_there}
 use Rattle.uri_pct.specs.Masks.{has_bit}
 use Rattle.uri_pct.proofs.lanes.run_end.Goals as goal
 
--- what a block's mask says, and that of the last sixteen bytes behind those that are passed
+-- what a block's mask says, and that of the last sixteen bytes after those that are passed
 block : (low high : ℕ) (bs : List ℕ) (i mask : ℕ) → i + 16 ≤ length bs
     → mask ≡ mask_l (map (λ b. not (has_bit low high b)) (chunk i 16 bs))
     → LaneMarks (has_bit low high) bs i 16 mask

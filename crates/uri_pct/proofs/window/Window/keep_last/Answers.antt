@@ -4,7 +4,7 @@ use Rattle.std.proofs.lemmas.List.{take_at, length-take, length-drop}
 use Rattle.std.proofs.lemmas.Slice.{between_is}
 use Rattle.uri_pct.proofs.window.Window.keep_last.Goals as goal
 
--- the end stands in front
+-- the end comes first
 moved : (bytes : List ℕ) (len kept : ℕ) → kept ≤ len → len ≤ length bytes
     → take kept (copy_within bytes (len - kept) len 0) ≡ drop (len - kept) (take len bytes)
 moved bytes len kept fits within =
