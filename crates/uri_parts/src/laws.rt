@@ -189,7 +189,10 @@ pub fn some_texts_have_errors()
 {}
 
 /// `refusal` gives no error exactly for the texts of the kind.
-#[doc(hidden)]
+///
+/// # Examples
+///
+/// `a:b` has none as a URI, and `a` has one at its end.
 pub fn accepted_exactly_if_no_error<K: Kind>(text: &str)
     ensures { refusal K.kind text.now ≡ None ↔ IsOfKind K.kind text.now }
 {
