@@ -4,4 +4,5 @@ pub mod Formatting
 pub mod Reading
 pub mod Rereading
 pub mod Octets
+pub mod Spellings
 mod ReadingRows

@@ -12,6 +12,7 @@ use Rattle.uri_pct.proofs.Readings.Reading.{formatting-read}
 use Rattle.uri_pct.proofs.Readings.Octets.{read-alone}
 use Rattle.uri_pct.proofs.Readings.Rereading.{read_tokens-read_tokens, read-print_read}
 use Rattle.uri_pct.proofs.Readings.Rereading.{read_tokens-lower, read-print_lower}
+use Rattle.uri_pct.proofs.Readings.Spellings.{tokens-spelt, spells-tokens, valid_spelt}
 use Rattle.uri_pct.proofs.EncodedTexts.EncodingLaws.{token_bytes-append, tokens-encode_text}
 use Rattle.uri_pct.proofs.EncodedTexts.Encodings.{token_bytes-encode_text, text_as_pieces}
 
@@ -53,4 +54,12 @@ pub ruleset encoding_laws = (
   token_bytes-append,
   tokens-encode_text,
   text_as_pieces,
+)
+
+-- A text spells one list of characters and octets, and is valid exactly if these are allowed: RFC
+-- 3986, section 2.1.
+pub ruleset spelling_laws = (
+  tokens-spelt,
+  spells-tokens,
+  valid_spelt,
 )

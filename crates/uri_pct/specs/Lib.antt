@@ -14,3 +14,4 @@ pub mod EncodedTexts
 pub mod Decodes
 pub mod Texts
 pub mod Reading
+pub mod Spelling

@@ -11,6 +11,7 @@ ghost use Rattle.std.specs.Str.Lossy.{utf8_lossy};
 ghost use Rattle.uri_pct.specs.Delimiters.{percent_sign};
 ghost use Rattle.uri_pct.specs.Encoding.{encode_text, encode_bytes};
 ghost use Rattle.uri_pct.specs.Sets.{TableSet, LacksPercent, IsSubset, unreserved_set};
+ghost use Rattle.uri_pct.specs.Spelling.{Spells, IsSpeltWithin};
 ghost use Rattle.uri_pct.specs.Tokens.{Token, Char, Octet, tokens, token_bytes, print};
 ghost use Rattle.uri_pct.specs.Tokens.{allows_token, IsValidFor};
 ghost use Rattle.uri_pct.specs.Pieces.{WellFormed, IsOfCharacter, is_well_formed, begins_within};
@@ -44,6 +45,22 @@ pub fn octets_are_read_in_either_case()
     ensures { (upper : Bool) (value : ℕ) (rest : List ℕ) → value < 256
         → tokens (percent_sign ∷ digit_glyph upper (value / 16)
         ∷ digit_glyph upper (value % 16) ∷ rest) ≡ Octet value ∷ tokens rest }
+{}
+
+/// A text spells one list of characters and percent-encoded octets, whatever the case of the digits,
+/// and it is the list that is read of it. So a text is valid for a set exactly if it spells what the
+/// set allows (RFC 3986, section 2.1).
+///
+/// # Examples
+///
+/// `a%3a` and `a%3A` both spell the character `a` and the octet 3A.
+#[tactic(auto, using(crate::proofs::Theorems::spelling_laws))]
+pub fn spelt_texts_are_read_back()
+    ensures one { (text : List ℕ) (ts : List Token) → Spells text ts → tokens text ≡ ts }
+    ensures own { (text : List ℕ) → IsUtf8 text → list_all is_printable (tokens text) ≡ true
+        → Spells text (tokens text) }
+    ensures valid { (set : TableSet) (text : List ℕ) → LacksPercent set → IsUtf8 text
+        → IsValidFor set text ↔ IsSpeltWithin set text }
 {}
 
 /// What is encoded is read back as the same tokens, these decode to the text or the bytes that were
@@ -130,7 +147,10 @@ pub fn reading_changes_no_bytes()
 
 /// In a URI each octet is read by itself (RFC 3986, section 6.2.2.2), which is the reading of an
 /// IRI (RFC 3987, section 5.3.2.3) at a set with no character past ASCII.
-#[doc(hidden)]
+///
+/// # Examples
+///
+/// In a URI `%41%C3%A9` is read as `A` and the octets C3 and A9, and in an IRI as `A` and `é`.
 pub fn uris_are_read_octet_by_octet()
     ensures { (set : TableSet) (text : List ℕ) → LacksPastAscii set → read set text
         ≡ map read_alone (tokens text) }

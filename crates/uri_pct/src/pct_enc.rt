@@ -47,7 +47,7 @@ impl<'a, E: Encoder> Copy for EStr<'a, E> {}
 impl<'a, E: Encoder> EStr<'a, E> {
     ghost use Rattle.uri_pct.specs.EncodedTexts.{text_of};
 
-    /// The empty text.
+    /// The empty text. A constant has no contract; that of `default` says that the text is empty.
     ///
     /// # Examples
     ///

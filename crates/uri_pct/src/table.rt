@@ -1,5 +1,6 @@
 //! Sets of characters (RFC 3986, appendix A; RFC 3987, section 2.2).
-ghost use Rattle.std.specs.Prelude.{◌≡◌, ◌<◌, ◌↔◌, ◌==◌, ◌&&◌, ◌||◌, ℕ, IsTrue, true, false};
+ghost use Rattle.std.specs.Prelude.{◌≡◌, ◌<◌, ◌↔◌, ◌==◌, ◌&&◌, ◌||◌, ℕ, IfSome, IsSome, IsTrue};
+ghost use Rattle.std.specs.Prelude.{true, false};
 ghost use Rattle.std.specs.Int.{bit_at, is_in_range};
 ghost use Rattle.std.specs.List.{list_all};
 ghost use Rattle.uri_pct.specs.Masks.{has_bit, is_plain_ascii};
@@ -35,11 +36,25 @@ pub struct Table {
 impl Table {
     ghost use Rattle.uri_pct.specs.Tables.{set_of, empty_set};
 
+    /// The characters of these codes, and no flag: `None` exactly if a byte is past ASCII or `%`.
+    ///
+    /// # Examples
+    ///
+    /// `Table::try_new(b"ab")` is the table of `a` and `b`, and `Table::try_new(b"100%")` is `None`.
+    pub fn try_new(bytes: &[u8]) -> Option<Table>
+        ensures some { IsSome result ↔ IsTrue (list_all is_plain_ascii bytes.now) }
+        ensures table { IfSome result (λ table. set_of table ≡ plain (is_one_of bytes.now)) }
+    {
+        if are_plain(bytes) {
+            Some(Table::new(bytes))
+        } else {
+            None
+        }
+    }
+
     /// The characters of these codes, and no flag.
     ///
-    /// Each byte is ASCII and not `%`; the list may be empty. A function of the caller's with the
-    /// clause `result ≡ list_all is_plain_ascii bytes.now` tests it, whose body is
-    /// `bytes.iter().all(|&byte| byte < 128 && byte != b'%')`.
+    /// Each byte is ASCII and not `%`, which `try_new` tests; the list may be empty.
     ///
     /// # Examples
     ///
@@ -251,6 +266,13 @@ impl Table {
             iprivate: self.iprivate,
         }
     }
+}
+
+/// Whether each byte is ASCII and not `%`.
+fn are_plain(bytes: &[u8]) -> bool
+    ensures { result ≡ list_all is_plain_ascii bytes.now }
+{
+    bytes.iter().all(|&byte| byte < 128 && byte != b'%')
 }
 
 /// A character of the rule `ucschar` (RFC 3987, section 2.2).
