@@ -1,4 +1,4 @@
--- What is read as an IPv6 address with a `]` behind it is one.
+-- What is read as an IPv6 address with something behind it, as `]`, is one.
 use Rattle.std.proofs.Common.{◌≡◌, ◌≢◌, ℕ, zero, suc, ◌+◌, ◌-◌, ◌<◌, ◌≤◌, Bool, true, false, not}
 use Rattle.std.proofs.Common.{cond, eqb, List, [], ◌∷◌, ◌++◌, length, get_or, drop, decimal, Option, Some}
 use Rattle.std.proofs.Common.{None, refl, sym, ap, subst, ◌∙◌, arith, ◌&&◌, ◌||◌, ⊎_elim, inl, inr}
@@ -151,7 +151,7 @@ module _ (text : List ℕ) where
 
   abbrev pub Sound : ℕ → Bool → ℕ → Groups → Type 0
   Sound room is_first i (Groups_end m end) =
-      starts 93 (drop end text) ≡ true → Reads true room is_first i m (drop end text)
+      is_end (drop end text) ≡ false → Reads true room is_first i m (drop end text)
   Sound room is_first i (Elision m end) =
       Reads false room is_first i m (58 ∷ 58 ∷ drop end text)
   Sound room is_first i Malformed = Unit {0}
@@ -208,10 +208,10 @@ module _ (text : List ℕ) where
       (mark_at 58 i c ∙ ap (λ t. 58 ∷ t) (ap (λ n. drop n text) (sym g) ∙ mark_at 58 group d))
       (nothing false (suc r) is_first i)
 
-  over_closed : (xs : List ℕ) → is_end xs ≡ true → starts 93 xs ≡ true → ⊥
+  closed_some : (xs : List ℕ) → starts 93 xs ≡ true → is_end xs ≡ false
   unfolding is_end
-  over_closed [] e z = false≢true z
-  over_closed (x ∷ xs) e z = false≢true e
+  closed_some [] z = absurd (false≢true z)
+  closed_some (x ∷ xs) z = refl
 
   -- a group has its `:`, but the first
   separated : (is_first : Bool) (i : ℕ)
@@ -270,7 +270,7 @@ module _ (text : List ℕ) where
       let some : end ≢ group = λ s. both_ways _ q (eq-eqb end group s) in
       ⊎_elim
       (λ o. subst S (sym (over text (suc r) r is_first i group end n refl refl some o))
-      (λ z. absurd (over_closed (drop end text) (and_parts _ _ o).1 z)))
+      (λ z. absurd (both_ways _ z (and_parts _ _ o).1)))
       (λ o. ⊎_elim
       (λ m. subst S (sym (amiss text (suc r) r is_first i group end n refl refl some o m)) tt)
       (λ m.
@@ -301,12 +301,12 @@ module _ (text : List ℕ) where
 
   behind_elided : (i m e end : ℕ) → Reads false 8 true i m (58 ∷ 58 ∷ drop e text)
       → (g : Groups) → Sound m true e g → behind_elision text g ≡ Some end
-      → starts 93 (drop end text) ≡ true → Holds i end
+      → is_end (drop end text) ≡ false → Holds i end
   behind_elided i m e end head (Groups_end room last) s b c =
       let q = cond_none (eqb room 0) (Some last) end b in
       let left : room ≢ 0 = λ z. both_ways _ q.0 (eq-eqb room 0 z) in
       let same : last ≡ end = same_Some _ _ q.1 in
-      let tail = s (ap (λ n. starts 93 (drop n text)) same ∙ c) in
+      let tail = s (ap (λ n. is_end (drop n text)) same ∙ c) in
       record {
         address = head.groups ++ codes "::" ++ tail.groups;
         segments = head.segments
@@ -332,11 +332,11 @@ module _ (text : List ℕ) where
   behind_elided i m e end head Malformed s b c = absurd (none-some end b)
 
   behind_sound : (i end : ℕ) (g : Groups) → Sound 8 true i g → behind_groups text g ≡ Some end
-      → starts 93 (drop end text) ≡ true → Holds i end
+      → is_end (drop end text) ≡ false → Holds i end
   behind_sound i end (Groups_end room last) s b c =
       let q = cond_some (eqb room 0) last end b in
       let none : room ≡ 0 = eqb-true room 0 q.0 in
-      let w = s (ap (λ n. starts 93 (drop n text)) q.1 ∙ c) in
+      let w = s (ap (λ n. is_end (drop n text)) q.1 ∙ c) in
       record {
         address = w.groups;
         segments = w.segments;
@@ -347,7 +347,11 @@ module _ (text : List ℕ) where
       behind_elided i room last end s (groups_from text room true last) (sound room true last) b c
   behind_sound i end Malformed s b c = absurd (none-some end b)
 
-  pub ipv6_sound : (i end : ℕ) → ipv6_end text i ≡ Some end → starts 93 (drop end text) ≡ true
+  pub ipv6_followed : (i end : ℕ) → ipv6_end text i ≡ Some end → is_end (drop end text) ≡ false
       → Holds i end
   unfolding ipv6_end
-  ipv6_sound i end e c = behind_sound i end (groups_from text 8 true i) (sound 8 true i) e c
+  ipv6_followed i end e c = behind_sound i end (groups_from text 8 true i) (sound 8 true i) e c
+
+  pub ipv6_sound : (i end : ℕ) → ipv6_end text i ≡ Some end → starts 93 (drop end text) ≡ true
+      → Holds i end
+  ipv6_sound i end e c = ipv6_followed i end e (closed_some (drop end text) c)
