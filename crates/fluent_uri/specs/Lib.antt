@@ -6,6 +6,7 @@ pub use Rattle.uri_pct.specs.EStrings
 pub use Rattle.uri_pct.specs.EncodedTexts
 pub use Rattle.uri_pct.specs.Masks
 pub use Rattle.uri_pct.specs.Pieces
+pub use Rattle.uri_pct.specs.Prefixes
 pub use Rattle.uri_pct.specs.Reading
 pub use Rattle.uri_pct.specs.Sets
 pub use Rattle.uri_pct.specs.Tables
@@ -21,8 +22,10 @@ pub use Rattle.uri_parts.specs.Fragments
 pub use Rattle.uri_parts.specs.Grammar
 pub use Rattle.uri_parts.specs.GrammarInWords
 pub use Rattle.uri_parts.specs.Hosts
+pub use Rattle.uri_parts.specs.LiteralErrors
 pub use Rattle.uri_parts.specs.Ports
 pub use Rattle.uri_parts.specs.Refusals
+pub use Rattle.uri_parts.specs.Scanning
 pub use Rattle.uri_parts.specs.SchemePorts
 pub use Rattle.uri_parts.specs.Schemes
 pub use Rattle.uri_ops.specs.Conversions

@@ -104,8 +104,8 @@ pub mod laws {
     };
     pub use uri_pct::laws::{
         lossy_texts_are_those_of_std, octets_are_read_in_either_case,
-        pieces_are_together_the_bytes, what_is_encoded_decodes_to_what_was_given,
-        what_is_printed_is_read_back,
+        pieces_are_together_the_bytes, valid_prefixes_are_longest,
+        what_is_encoded_decodes_to_what_was_given, what_is_printed_is_read_back,
     };
 }
 

@@ -1,5 +1,6 @@
 -- The five components of any text: RFC 3986, appendix B; and their text: section 5.3.
-use Rattle.std.specs.Prelude.{◌≡◌, ℕ, ◌<◌, Bool, false, not, ◌&&◌, ◌⊎◌, ◌==◌, List, [], ◌∷◌, ◌++◌}
+use Rattle.std.specs.Prelude.{◌≡◌, ℕ, ◌<◌, Bool, true, false, not, ◌&&◌, ◌⊎◌, ◌==◌, List, [], ◌∷◌}
+use Rattle.std.specs.Prelude.{◌++◌}
 use Rattle.std.specs.Prelude.{length, take, drop, slice_index, codes, All, IsTrue, Option, Some}
 use Rattle.std.specs.Prelude.{None, IfSome, IfNone, if◌then◌else◌}
 use Rattle.std.specs.List.{prefix_len}
@@ -28,6 +29,11 @@ recompose p =
 abbrev pub starts : ℕ → List ℕ → Bool
 starts mark [] = false
 starts mark (c ∷ rest) = c == mark
+
+-- nothing is left
+unfoldable pub is_end : List ℕ → Bool
+is_end [] = true
+is_end (c ∷ rest) = false
 
 -- the text before the first of these characters, and from it on
 abbrev pub before_any : List ℕ → List ℕ → List ℕ

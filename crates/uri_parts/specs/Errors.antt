@@ -26,3 +26,13 @@ IsFault text InvalidIpv6Addr index = (0 < index) × (slice_index text (index - 1
 pub record IsErrorIn (text : List ℕ) (e : ParseError) : Type 0 where
   pub boundary : IsCharBoundary text e.index
   pub fault : IsFault text e.kind e.index
+
+-- the three errors, at an index
+abbrev pub unexpected : ℕ → ParseError
+unexpected i = record { index = i; kind = UnexpectedChar }
+
+abbrev pub stray_percent : ℕ → ParseError
+stray_percent i = record { index = i; kind = InvalidPctEncodedOctet }
+
+abbrev pub malformed_ipv6 : ℕ → ParseError
+malformed_ipv6 i = record { index = i; kind = InvalidIpv6Addr }

@@ -8,10 +8,12 @@ pub mod Fragments
 pub mod GrammarInWords
 pub mod Hosts
 pub mod KindTables
+pub mod LiteralErrors
 pub mod Models
 pub mod Positions
 pub mod RefusalRows
 pub mod Refusals
+pub mod Scanning
 pub mod SchemePorts
 pub mod Schemes
 pub mod AuthorityTexts

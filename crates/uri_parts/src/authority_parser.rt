@@ -1,12 +1,12 @@
 //! An authority, parsed from left to right (RFC 3986, section 3.2).
 //!
-//! What passes as a name and a port is the front of userinfo, so nothing is scanned again to tell
+//! What passes as a name and a port is a prefix of userinfo, so nothing is scanned again to tell
 //! the two apart, nor to tell where and why an authority is refused.
 ghost use Rattle.std.specs.Prelude.{◌≡◌, ◌≤◌, ◌+◌, drop, length, true, IfErr, IfOk, IfSome, OnOk};
 ghost use Rattle.std.specs.Prelude.{is_ok, is_some, Some, Ok, IfNone, ◌<◌, false};
 ghost use Rattle.std.specs.Str.{IsCharBoundary};
 ghost use Rattle.uri_pct.specs.Delimiters.{at_sign, left_bracket};
-ghost use Rattle.uri_pct.specs.Models.Fronts.{front};
+ghost use Rattle.uri_pct.specs.Prefixes.{valid_prefix};
 ghost use Rattle.uri_pct.specs.Tables.{set_of};
 ghost use Rattle.uri_parts.specs.Models.AuthorityParsing.{port_length, name_length, finds_name};
 ghost use Rattle.uri_parts.specs.Models.AuthorityParsing.{host_end, host_length, finds_host};
@@ -18,8 +18,8 @@ ghost use Rattle.uri_parts.specs.Models.AuthorityParsing.{found_authority};
 ghost use Rattle.std.specs.Option.{option_or};
 ghost use Rattle.std.specs.Result.{result_err};
 ghost use Rattle.uri_parts.specs.Components.{starts};
-ghost use Rattle.uri_parts.specs.Refusals.{literal, from_path};
-ghost use Rattle.uri_parts.specs.Refusals.{last_colon as last_colon_before};
+ghost use Rattle.uri_parts.specs.LiteralErrors.{literal};
+ghost use Rattle.uri_parts.specs.Refusals.{from_path, last_colon as last_colon_before};
 ghost use Rattle.uri_parts.specs.Models.ParseErrors.{left_over_error, name_error, host_error, userinfo_error};
 ghost use Rattle.uri_parts.specs.Models.ParseErrors.{other_error, authority_error};
 ghost use Rattle.uri_parts.specs.Errors.{IsErrorIn};
@@ -56,7 +56,7 @@ fn pass_port(cursor: &mut Cursor<'_>)
 fn find_name(cursor: &mut Cursor<'_>, tables: &KindTables) -> Option<usize>
     ensures finds { is_some result ≡ finds_name (kind_of tables.now) (rest_of cursor.old) }
     ensures end { IfSome result (λ n.
-        n ≡ place_of cursor.old + front (set_of tables.now.reg_name) (rest_of cursor.old)) }
+        n ≡ place_of cursor.old + valid_prefix (set_of tables.now.reg_name) (rest_of cursor.old)) }
     ensures text { cursor_text cursor.new ≡ cursor_text cursor.old }
     ensures place { place_of cursor.new
         ≡ place_of cursor.old + name_length (kind_of tables.now) (rest_of cursor.old) }

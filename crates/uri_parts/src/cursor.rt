@@ -32,12 +32,13 @@ impl<'a> Copy for Cursor<'a> {}
 
 impl<'a> Cursor<'a> {
     ghost use Rattle.uri_pct.specs.Tables.{set_of};
-    ghost use Rattle.uri_pct.specs.Models.Fronts.{front, after};
+    ghost use Rattle.uri_pct.specs.Prefixes.{valid_prefix, after};
     ghost use Rattle.uri_parts.specs.Models.AuthorityParsing.{begins_any};
-    ghost use Rattle.uri_parts.specs.Components.{starts, has_authority};
+    ghost use Rattle.uri_parts.specs.Components.{starts, has_authority, is_end};
+    ghost use Rattle.uri_parts.specs.Errors.{unexpected};
+    ghost use Rattle.uri_parts.specs.Models.Parsing.{is_stray};
+    ghost use Rattle.uri_parts.specs.Scanning.{scan};
     ghost use Rattle.uri_parts.specs.Errors.{IsErrorIn};
-    ghost use Rattle.uri_parts.specs.Refusals.{read, unexpected};
-    ghost use Rattle.uri_parts.specs.Models.Parsing.{is_end, is_stray};
     ghost use Rattle.uri_parts.specs.Models.Cursors.{rest_of, cursor_text, place_of};
 
     /// The text from its beginning.
@@ -78,12 +79,12 @@ impl<'a> Cursor<'a> {
         self.position
     }
 
-    /// Passes the longest front of the rest that the table allows.
+    /// Passes the longest prefix of the rest that the table allows.
     #[inline(always)]
     pub fn scan(&mut self, table: &Table)
         ensures text { cursor_text self.new ≡ cursor_text self.old }
         ensures place { place_of self.new
-            ≡ place_of self.old + front (set_of table.now) (rest_of self.old) }
+            ≡ place_of self.old + valid_prefix (set_of table.now) (rest_of self.old) }
         ensures rest { rest_of self.new ≡ after (set_of table.now) (rest_of self.old) }
     {
         self.position = table.scan(self.text, self.position);
@@ -101,20 +102,20 @@ impl<'a> Cursor<'a> {
         }
     }
 
-    /// Passes the longest front of the rest that the table allows; a `%` behind it that begins no
+    /// Passes the longest prefix of the rest that the table allows; a `%` behind it that begins no
     /// octet is refused, where the table allows octets.
     #[tactic(auto, using(crate::proofs::Parsing::NextBytes::stray_fault, crate::proofs::Parsing::NextBytes::starts_at))]
     #[inline(always)]
     pub fn pass(&mut self, table: &Table) -> Result<(), ParseError>
         ensures text { cursor_text self.new ≡ cursor_text self.old }
         ensures place { OnOk result
-            (place_of self.new ≡ place_of self.old + front (set_of table.now) (rest_of self.old)) }
+            (place_of self.new ≡ place_of self.old + valid_prefix (set_of table.now) (rest_of self.old)) }
         ensures rest { OnOk result
             (rest_of self.new ≡ after (set_of table.now) (rest_of self.old)) }
         ensures stray { is_ok result
             ≡ not (is_stray (set_of table.now) (after (set_of table.now) (rest_of self.old))) }
         ensures refused { result_err result
-            ≡ result_err (read (cursor_text self.old) (set_of table.now) (place_of self.old)) }
+            ≡ result_err (scan (cursor_text self.old) (set_of table.now) (place_of self.old)) }
         ensures err { IfErr result (IsErrorIn (cursor_text self.old)) }
     {
         let end = table.scan(self.text, self.position);

@@ -1,19 +1,20 @@
 //! Addresses in brackets (RFC 3986, section 3.2.2).
 ghost use Rattle.std.specs.Prelude.{◌≡◌, ◌≤◌, ◌<◌, ◌+◌, length, IsTrue, IfSome, IfOk, IfErr, is_ok};
 ghost use Rattle.std.specs.Prelude.{drop, ◌||◌, ◌&&◌, not, nat_lt, Ok, Err, true, false};
-ghost use Rattle.uri_parts.specs.Models.Parsing.{is_end};
+ghost use Rattle.uri_parts.specs.Components.{is_end, starts};
+ghost use Rattle.uri_parts.specs.LiteralErrors.{digits_end as digits_end_at};
+ghost use Rattle.uri_parts.specs.LiteralErrors.{octet_end as octet_end_at, ipv4_end as ipv4_end_at};
+ghost use Rattle.uri_parts.specs.LiteralErrors.{literal, groups_from, after_elision};
+ghost use Rattle.uri_parts.specs.LiteralErrors.{ipv6_end as ipv6_end_at};
+ghost use Rattle.uri_parts.specs.LiteralErrors.{is_no_ipv6 as is_no_ipv6_at};
+ghost use Rattle.uri_parts.specs.Scanning.{scan_to_mark};
 ghost use Rattle.std.specs.Str.{IsCharBoundary};
 ghost use Rattle.uri_pct.specs.Tables.{set_of};
-ghost use Rattle.uri_parts.specs.Components.{starts};
 ghost use Rattle.uri_parts.specs.Models.Literals.{IsLiteralRefusal, parses_literal, literal_length};
 ghost use Rattle.uri_parts.specs.Models.Literals.{IsMissing, parses_marked, length_to_mark};
 ghost use Rattle.uri_parts.specs.Models.Literals.{parses_future, future_length};
 ghost use Rattle.uri_pct.specs.Delimiters.{full_stop, right_bracket};
 ghost use Rattle.uri_pct.specs.Sets.{hexdig_set, ipv_future_set};
-ghost use Rattle.uri_parts.specs.Refusals.{digits_end as digits_end_at, octet_end as octet_end_at};
-ghost use Rattle.uri_parts.specs.Refusals.{ipv4_end as ipv4_end_at, literal, read_to};
-ghost use Rattle.uri_parts.specs.Refusals.{groups_from, behind_elision};
-ghost use Rattle.uri_parts.specs.Refusals.{ipv6_end as ipv6_end_at, is_no_ipv6 as is_no_ipv6_at};
 ghost use Rattle.uri_parts.specs.Models.LiteralGroups.{groups_of, IsAtBoundary};
 ghost use Rattle.std.specs.Prelude.{if◌then◌else◌};
 
@@ -60,7 +61,7 @@ fn digits_end(text: &str, start: usize, radix: u32, most: usize) -> usize
 
 /// Where the decimal number of at most 255 ends that stands at `start`, or `None` if there is none.
 /// A `0` is a number by itself.
-#[tactic(auto, unfolding(crate::specs::Refusals::octet_end))]
+#[tactic(auto, unfolding(crate::specs::LiteralErrors::octet_end))]
 fn octet_end(text: &str, start: usize) -> Option<usize>
     requires { IsCharBoundary text.now start }
     ensures boundary { IfSome result (IsCharBoundary text.now) }
@@ -187,7 +188,7 @@ fn groups_end(text: &str, start: usize, room: usize) -> GroupsEnd
 fn elided_end(text: &str, start: usize, room: usize) -> Option<usize>
     requires { IsCharBoundary text.now start }
     ensures boundary { IfSome result (IsCharBoundary text.now) }
-    ensures exact { result ≡ behind_elision text.now (groups_from text.now room true start) }
+    ensures exact { result ≡ after_elision text.now (groups_from text.now room true start) }
 {
     match groups_end(text, start, room) {
         GroupsEnd::End(room, end) if room > 0 => Some(end),
@@ -197,7 +198,7 @@ fn elided_end(text: &str, start: usize, room: usize) -> Option<usize>
 
 /// Where the IPv6 address ends that stands at `start`, so far as it can be read, or `None` if that
 /// is none.
-#[tactic(auto, unfolding(crate::specs::Refusals::ipv6_end))]
+#[tactic(auto, unfolding(crate::specs::LiteralErrors::ipv6_end))]
 fn ipv6_end(text: &str, start: usize) -> Option<usize>
     requires { IsCharBoundary text.now start }
     ensures boundary { IfSome result (IsCharBoundary text.now) }
@@ -211,7 +212,7 @@ fn ipv6_end(text: &str, start: usize) -> Option<usize>
 }
 
 /// Neither `:` nor a group is next.
-#[tactic(auto, unfolding(crate::specs::Refusals::is_no_ipv6))]
+#[tactic(auto, unfolding(crate::specs::LiteralErrors::is_no_ipv6))]
 fn is_no_ipv6(text: &str, start: usize) -> bool
     requires { IsCharBoundary text.now start }
     ensures { result ≡ is_no_ipv6_at text.now start }
@@ -252,7 +253,7 @@ fn marked_end(text: &str, start: usize, table: &Table, mark: u8) -> Result<usize
         end ≡ start + length_to_mark (set_of table.now) (drop start text.now)) }
     ensures boundary { IfOk result (λ end. IsCharBoundary text.now end) }
     ensures err { IfErr result (IsMissing text.now) }
-    ensures exact { result ≡ read_to text.now (set_of table.now) mark (λ end. Ok end) start }
+    ensures exact { result ≡ scan_to_mark text.now (set_of table.now) mark (λ end. Ok end) start }
 {
     let end = table.scan(text, start);
     if start < end && sees(text, end, mark) {
@@ -273,8 +274,8 @@ fn future_end(text: &str, start: usize) -> Result<usize, ParseError>
     ensures end { IfOk result (λ end. end ≡ start + future_length (drop start text.now)) }
     ensures boundary { IfOk result (λ end. IsCharBoundary text.now end) }
     ensures err { IfErr result (IsMissing text.now) }
-    ensures exact { result ≡ read_to text.now hexdig_set full_stop
-        (read_to text.now ipv_future_set right_bracket (λ end. Ok end)) start }
+    ensures exact { result ≡ scan_to_mark text.now hexdig_set full_stop
+        (scan_to_mark text.now ipv_future_set right_bracket (λ end. Ok end)) start }
 {
     let address = marked_end(text, start, &HEXDIG, b'.')?;
     marked_end(text, address, &IPV_FUTURE, b']')

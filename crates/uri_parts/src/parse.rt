@@ -2,8 +2,14 @@
 ghost use Rattle.std.specs.Prelude.{◌≡◌, ◌↔◌, ◌&&◌, ◌<◌, IfErr, IfOk, IsOk, is_ok, Some, None};
 ghost use Rattle.std.specs.Option.{option_or};
 ghost use Rattle.std.specs.Result.{result_err};
-ghost use Rattle.uri_parts.specs.Refusals.{from_fragment, from_query, from_path, from_relative};
-ghost use Rattle.uri_parts.specs.Refusals.{refusal};
+ghost use Rattle.uri_parts.specs.Models.Parsing.{parses_fragment, parses_end, parses_path};
+ghost use Rattle.uri_parts.specs.Models.Parsing.{parses_authority, parses_relative, parses_hier};
+ghost use Rattle.uri_parts.specs.Models.Parsing.{parses_schemeless, parses, query_end_at};
+ghost use Rattle.uri_parts.specs.Models.Parsing.{authority_positions, relative_positions};
+ghost use Rattle.uri_parts.specs.Models.Parsing.{hier_positions, schemeless_positions};
+ghost use Rattle.uri_parts.specs.Models.Parsing.{parsed_positions};
+ghost use Rattle.uri_parts.specs.Refusals.{from_fragment, from_query, from_path};
+ghost use Rattle.uri_parts.specs.Refusals.{from_relative_path, refusal};
 ghost use Rattle.uri_parts.specs.Models.ParseErrors.{authority_error, hier_error, schemeless_error};
 ghost use Rattle.uri_parts.specs.Models.ParseErrors.{parsed_error};
 ghost use Rattle.uri_parts.specs.Errors.{IsErrorIn};
@@ -11,12 +17,6 @@ ghost use Rattle.uri_parts.specs.Grammar.{IsOfKind};
 ghost use Rattle.uri_parts.specs.KindTables.{kind_of, segment_nz_nc_of};
 ghost use Rattle.uri_parts.specs.Positions.{AreAt};
 ghost use Rattle.uri_parts.specs.Models.Cursors.{rest_of, cursor_text, place_of, positions_from};
-ghost use Rattle.uri_parts.specs.Models.Parsing.{parses_fragment, parses_end, parses_path};
-ghost use Rattle.uri_parts.specs.Models.Parsing.{parses_authority, parses_relative, parses_hier};
-ghost use Rattle.uri_parts.specs.Models.Parsing.{parses_schemeless, parses, query_end_at};
-ghost use Rattle.uri_parts.specs.Models.Parsing.{authority_positions, relative_positions};
-ghost use Rattle.uri_parts.specs.Models.Parsing.{hier_positions};
-ghost use Rattle.uri_parts.specs.Models.Parsing.{schemeless_positions, parsed_positions};
 
 use crate::authority_parser::find_authority;
 use crate::cursor::Cursor;
@@ -159,7 +159,7 @@ fn pass_hier<K: Kind>(
 }
 
 /// A path that begins the text, so far as its first segment is scanned with no colon.
-#[tactic(auto, unfolding(crate::specs::Models::Parsing::parses_relative, crate::specs::Models::Parsing::relative_positions, crate::specs::Refusals::from_relative))]
+#[tactic(auto, unfolding(crate::specs::Models::Parsing::parses_relative, crate::specs::Models::Parsing::relative_positions, crate::specs::Refusals::from_relative_path))]
 #[inline(always)]
 fn pass_relative(cursor: &mut Cursor<'_>, tables: &KindTables) -> Result<BeforePath, ParseError>
     ensures accepts { let segment = segment_nz_nc_of tables.now in
@@ -170,7 +170,7 @@ fn pass_relative(cursor: &mut Cursor<'_>, tables: &KindTables) -> Result<BeforeP
         ≡ positions_from (kind_of tables.now) b cursor.new) }
     ensures text { cursor_text cursor.new ≡ cursor_text cursor.old }
     ensures refused { let kind = kind_of tables.now in let text = cursor_text cursor.old in
-        from_relative kind text (segment_nz_nc_of tables.now) (place_of cursor.old)
+        from_relative_path kind text (segment_nz_nc_of tables.now) (place_of cursor.old)
         ≡ option_or (result_err result) (from_path kind text (place_of cursor.new)) }
     ensures err { IfErr result (IsErrorIn (cursor_text cursor.old)) }
 {

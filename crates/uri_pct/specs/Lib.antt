@@ -2,6 +2,7 @@ pub mod Delimiters
 pub mod Models
 pub mod Sets
 pub mod Tokens
+pub mod Prefixes
 pub mod Masks
 pub mod Tables
 pub mod Pieces

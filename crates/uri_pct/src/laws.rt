@@ -2,11 +2,11 @@
 #![tactic(auto, using(crate::proofs::Theorems::reading_laws))]
 
 ghost use Rattle.std.specs.Prelude.{◌≡◌, ◌↔◌, ◌<◌, ◌/◌, ◌%◌, ◌&&◌, ℕ, Bool, true, false, List, ◌∷◌};
-ghost use Rattle.std.specs.Prelude.{◌++◌, map, All};
+ghost use Rattle.std.specs.Prelude.{◌++◌, ◌≤◌, map, take, All};
 ghost use Rattle.std.specs.Char.{IsScalar, encode_utf8};
 ghost use Rattle.std.specs.Fmt.{digit_glyph};
 ghost use Rattle.std.specs.List.{list_all, list_any};
-ghost use Rattle.std.specs.Str.{IsUtf8};
+ghost use Rattle.std.specs.Str.{IsUtf8, IsCharBoundary};
 ghost use Rattle.std.specs.Str.Lossy.{utf8_lossy};
 ghost use Rattle.uri_pct.specs.Delimiters.{percent_sign};
 ghost use Rattle.uri_pct.specs.Encoding.{encode_text, encode_bytes};
@@ -16,6 +16,7 @@ ghost use Rattle.uri_pct.specs.Tokens.{Token, Char, Octet, tokens, token_bytes, 
 ghost use Rattle.uri_pct.specs.Tokens.{allows_token, IsValidFor};
 ghost use Rattle.uri_pct.specs.Pieces.{WellFormed, IsOfCharacter, is_well_formed, begins_within};
 ghost use Rattle.uri_pct.specs.Pieces.{bytes_of_pieces, utf8_pieces, lossy_text};
+ghost use Rattle.uri_pct.specs.Prefixes.{valid_prefix};
 ghost use Rattle.uri_pct.specs.Reading.{LacksPastAscii, is_literal_formatting, is_printable};
 ghost use Rattle.uri_pct.specs.Reading.{is_readable, lower_token};
 ghost use Rattle.uri_pct.specs.Reading.{read_alone, read_tokens, read};
@@ -61,6 +62,22 @@ pub fn spelt_texts_are_read_back()
         → Spells text (tokens text) }
     ensures valid { (set : TableSet) (text : List ℕ) → LacksPercent set → IsUtf8 text
         → IsValidFor set text ↔ IsSpeltWithin set text }
+{}
+
+/// `valid_prefix` is the longest prefix of a text that is valid for a set: it is valid, it ends at a
+/// character boundary, and no longer one is both (RFC 3986, section 2.1).
+///
+/// # Examples
+///
+/// For the set of a path, it is 5 of `a%20b%2` and 2 of `é` in an IRI.
+#[tactic(auto, using(crate::proofs::ValidTexts::LongestPrefixes::prefix_boundary, crate::proofs::ValidTexts::LongestPrefixes::prefix_valid, crate::proofs::ValidTexts::LongestPrefixes::prefix_longest))]
+pub fn valid_prefixes_are_longest()
+    ensures boundary { (set : TableSet) (text : List ℕ) → LacksPercent set → IsUtf8 text
+        → IsCharBoundary text (valid_prefix set text) }
+    ensures valid { (set : TableSet) (text : List ℕ) → LacksPercent set → IsUtf8 text
+        → IsValidFor set (take (valid_prefix set text) text) }
+    ensures longest { (set : TableSet) (text : List ℕ) (n : ℕ) → LacksPercent set → IsUtf8 text
+        → IsCharBoundary text n → IsValidFor set (take n text) → n ≤ valid_prefix set text }
 {}
 
 /// What is encoded is read back as the same tokens, these decode to the text or the bytes that were

@@ -2,7 +2,8 @@
 ghost use Rattle.std.specs.Prelude.{◌≡◌, ◌<◌, ◌≤◌, ◌+◌, IsTrue, false, true, length, drop};
 ghost use Rattle.std.specs.Prelude.{slice_index};
 ghost use Rattle.std.specs.Str.{IsCharBoundary};
-ghost use Rattle.uri_pct.specs.Models.Fronts.{front, may_go_on};
+ghost use Rattle.uri_pct.specs.Models.Scans.{may_go_on};
+ghost use Rattle.uri_pct.specs.Prefixes.{valid_prefix};
 ghost use Rattle.uri_pct.specs.Texts.{has_digits};
 ghost use Rattle.uri_pct.specs.Tokens.{is_valid_for};
 
@@ -31,8 +32,8 @@ impl Table {
     #[doc(hidden)]
     pub fn pass_ascii(&self, text: &str, start: usize) -> usize
         requires { IsCharBoundary text.now start }
-        ensures total { result + front (set_of self.now) (drop result text.now)
-            ≡ start + front (set_of self.now) (drop start text.now) }
+        ensures total { result + valid_prefix (set_of self.now) (drop result text.now)
+            ≡ start + valid_prefix (set_of self.now) (drop start text.now) }
         ensures from { start ≤ result }
         ensures boundary { IsCharBoundary text.now result }
         ensures stop { result < length text.now → (set_of self.now).ascii
@@ -57,8 +58,8 @@ impl Table {
     fn pass_blocks(&self, text: &str, start: usize) -> usize
         requires octets { (set_of self.now).pct_encoded ≡ true }
         requires here { IsCharBoundary text.now start }
-        ensures total { result + front (set_of self.now) (drop result text.now)
-            ≡ start + front (set_of self.now) (drop start text.now) }
+        ensures total { result + valid_prefix (set_of self.now) (drop result text.now)
+            ≡ start + valid_prefix (set_of self.now) (drop start text.now) }
         ensures from { start ≤ result }
         ensures boundary { IsCharBoundary text.now result }
     {
@@ -80,8 +81,8 @@ impl Table {
     #[inline(always)]
     fn pass_plain(&self, text: &str, start: usize) -> usize
         requires { IsCharBoundary text.now start }
-        ensures total { result + front (set_of self.now) (drop result text.now)
-            ≡ start + front (set_of self.now) (drop start text.now) }
+        ensures total { result + valid_prefix (set_of self.now) (drop result text.now)
+            ≡ start + valid_prefix (set_of self.now) (drop start text.now) }
         ensures from { start ≤ result }
         ensures boundary { IsCharBoundary text.now result }
     {
@@ -93,7 +94,7 @@ impl Table {
     }
 
     /// Whether the table allows octets, or characters past ASCII, and the byte begins one.
-    #[tactic(auto, using(std::proofs::lemmas::Bool::Decides::nat_tests), unfolding(crate::specs::Models::Fronts::may_go_on))]
+    #[tactic(auto, using(std::proofs::lemmas::Bool::Decides::nat_tests), unfolding(crate::specs::Models::Scans::may_go_on))]
     #[inline(always)]
     fn may_go_on(&self, byte: u8) -> bool
         ensures { result ≡ may_go_on (set_of self.now) byte }
@@ -114,9 +115,9 @@ impl Table {
         requires inside { index < length text.now }
         requires past { 128 ≤ slice_index text.now index }
         ensures boundary { IsCharBoundary text.now (index + result) }
-        ensures allowed { 0 < result → front (set_of self.now) (drop index text.now)
-            ≡ front (set_of self.now) (drop (index + result) text.now) + result }
-        ensures refused { result ≡ 0 → front (set_of self.now) (drop index text.now) ≡ 0 }
+        ensures allowed { 0 < result → valid_prefix (set_of self.now) (drop index text.now)
+            ≡ valid_prefix (set_of self.now) (drop (index + result) text.now) + result }
+        ensures refused { result ≡ 0 → valid_prefix (set_of self.now) (drop index text.now) ≡ 0 }
     {
         let byte = text.as_bytes()[index];
         if self.allows_lead(byte) {
@@ -140,7 +141,7 @@ impl Table {
     #[doc(hidden)]
     pub fn scan(&self, text: &str, start: usize) -> usize
         requires { IsCharBoundary text.now start }
-        ensures end { result ≡ start + front (set_of self.now) (drop start text.now) }
+        ensures end { result ≡ start + valid_prefix (set_of self.now) (drop start text.now) }
         ensures boundary { IsCharBoundary text.now result }
     {
         let bytes = text.as_bytes();
@@ -158,7 +159,7 @@ impl Table {
     #[inline(never)]
     fn scan_on(self, text: &str, start: usize) -> usize
         requires { IsCharBoundary text.now start }
-        ensures end { result ≡ start + front (set_of self) (drop start text.now) }
+        ensures end { result ≡ start + valid_prefix (set_of self) (drop start text.now) }
         ensures boundary { IsCharBoundary text.now result }
     {
         let (low, high) = self.masks();

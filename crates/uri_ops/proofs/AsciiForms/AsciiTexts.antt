@@ -11,7 +11,7 @@ use Rattle.std.proofs.lemmas.Bool.{lt-ltb, both_ways, eqb-true}
 use Rattle.uri_pct.specs.Sets.{TableSet, LacksPercent, allows_past_ascii, digit_set}
 use Rattle.uri_pct.specs.Sets.{is_userinfo_char}
 use Rattle.uri_pct.specs.Tokens.{IsValidFor}
-use Rattle.uri_pct.specs.Models.Fronts.{allows_first, begins_hex, first_char}
+use Rattle.uri_pct.specs.Prefixes.{allows_first, begins_hex, first_char}
 use Rattle.uri_pct.proofs.ValidTexts.Validity.{valid_from, is_valid_for-bytes, allows_first-past}
 use Rattle.uri_pct.proofs.Unicode.Characters.{hex_ascii}
 use Rattle.uri_parts.specs.Components.{Components, components, marked, recompose}

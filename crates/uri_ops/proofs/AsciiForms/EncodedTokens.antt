@@ -16,7 +16,7 @@ use Rattle.std.proofs.lemmas.Bool.{lt-ltb, le-ltb}
 use Rattle.std.proofs.lemmas.Bool.Decides.{nat_tests}
 use Rattle.uri_pct.specs.Tokens.{Token, Char, Octet, tokens, tokens_of, token_bytes, bytes_of_token}
 use Rattle.uri_pct.specs.Tokens.{is_pct_encoded, text_of_token}
-use Rattle.uri_pct.specs.Models.Fronts.{begins_hex}
+use Rattle.uri_pct.specs.Prefixes.{begins_hex}
 use Rattle.uri_pct.proofs.Unicode.Characters.{bytes_of_char, is_high, lead, hex_ascii}
 use Rattle.uri_ops.specs.Encoded.{encoded_byte, encoded_text}
 use Rattle.uri_ops.proofs.Meanings.PlainTexts.{ascii_from, utf8_ascii}

@@ -13,7 +13,7 @@ use Rattle.uri_pct.specs.Tokens.{Token, Char, Octet, tokens, print}
 use Rattle.uri_pct.specs.Pieces.{Piece, WellFormed, IllFormed, utf8_pieces}
 use Rattle.uri_pct.specs.Reading.{is_readable, read_piece, read_run, read_from, is_never_literal}
 use Rattle.uri_pct.specs.Reading.{formatting_as_octets, encode_formatting}
-use Rattle.uri_pct.specs.Models.Fronts.{begins_hex, allows_first}
+use Rattle.uri_pct.specs.Prefixes.{begins_hex, allows_first}
 use Rattle.uri_pct.proofs.ValidTexts.Cuts.{excludes}
 use Rattle.uri_pct.proofs.ValidTexts.Validity.{valid_from, is_valid_for-bytes}
 use Rattle.uri_parts.proofs.TextKinds.SpeltTexts.{valid_lacks}

@@ -10,9 +10,9 @@ use Rattle.std.proofs.lemmas.Bool.{ne_eqb, eqb-true, both_ways, false_from_ne_tr
 use Rattle.std.proofs.lemmas.Bool.Decides.{nat_tests}
 use Rattle.uri_pct.specs.Sets.{TableSet, digit_set}
 use Rattle.uri_pct.specs.Tokens.{is_valid_for}
-use Rattle.uri_pct.specs.Models.Fronts.{front, after}
-use Rattle.uri_pct.proofs.ValidTexts.Cuts.{to_mark, ascii_marks, cut, front_zero_mark}
-use Rattle.uri_pct.proofs.ValidTexts.Fronts.{front-char, front-within}
+use Rattle.uri_pct.specs.Prefixes.{valid_prefix, after}
+use Rattle.uri_pct.proofs.ValidTexts.Cuts.{to_mark, ascii_marks, cut, prefix_zero_mark}
+use Rattle.uri_pct.proofs.ValidTexts.Prefixes.{valid_prefix-char, valid_prefix-within}
 use Rattle.uri_parts.specs.Components.{before_any, from_any, starts, Lacks}
 use Rattle.uri_parts.specs.Positions.{authority_at}
 use Rattle.uri_parts.specs.Models.AuthorityParsing.{port_length, name_length, finds_name, host_end}
@@ -26,7 +26,7 @@ use Rattle.uri_parts.proofs.Authorities.AuthorityCuts.{length-before, behind, be
 use Rattle.uri_parts.proofs.Splitting.Cuts.{IsCut-any, cut-append, before_past_other, Lacks-cons}
 use Rattle.uri_parts.proofs.HostForms.Futures.{lacks_append}
 use Rattle.uri_parts.proofs.HostForms.Hosts.{lacks_starts}
-use Rattle.uri_parts.proofs.Authorities.NamesAndPorts.{front_nil, cut_again, starts_before}
+use Rattle.uri_parts.proofs.Authorities.NamesAndPorts.{prefix_nil, cut_again, starts_before}
 use Rattle.uri_parts.proofs.Authorities.NamesAndPorts.{utf8_before}
 use Rattle.uri_parts.proofs.Authorities.HostParsing.{bare_end, bare_length, bare_host, name_bare}
 use Rattle.uri_parts.proofs.Authorities.HostParsing.{host_parses, found_host}
@@ -47,53 +47,53 @@ pub record IsFound (kind : Kind) (rest : List ℕ) : Type 0 where
       → found_authority kind place rest ≡ authority_at place (before_any (codes "/?#") rest)
 
 module _ (segment : TableSet) (kind : Kind) (w : Separates segment kind) where
-  -- a name and a port are the front of userinfo
-  port_front : (bs : List ℕ)
-      → front kind.userinfo bs ≡ port_length bs + front kind.userinfo (drop (port_length bs) bs)
+  -- a name and a port are the prefix of userinfo
+  port_prefix : (bs : List ℕ)
+      → valid_prefix kind.userinfo bs ≡ port_length bs + valid_prefix kind.userinfo (drop (port_length bs) bs)
   unfolding port_length
-  port_front [] =
-      let a : front kind.userinfo (drop (port_length []) []) ≡ 0 = front_nil kind.userinfo in
+  port_prefix [] =
+      let a : valid_prefix kind.userinfo (drop (port_length []) []) ≡ 0 = prefix_nil kind.userinfo in
       let b : port_length [] ≡ 0 = refl in
-      omega (arith, front_nil kind.userinfo, a, b)
-  port_front (b ∷ bs) = ⊎_elim
+      omega (arith, prefix_nil kind.userinfo, a, b)
+  port_prefix (b ∷ bs) = ⊎_elim
       (λ e.
       let c = eqb-true b 58 e in
-      let l : port_length (b ∷ bs) ≡ 1 + front digit_set bs = cond-true _ _ _ e in
-      let one : front kind.userinfo (b ∷ bs) ≡ front kind.userinfo bs + 1 =
-      front-char kind.userinfo w.userinfo_lacks (b ∷ bs) 0 (omega arith) (omega arith)
+      let l : port_length (b ∷ bs) ≡ 1 + valid_prefix digit_set bs = cond-true _ _ _ e in
+      let one : valid_prefix kind.userinfo (b ∷ bs) ≡ valid_prefix kind.userinfo bs + 1 =
+      valid_prefix-char kind.userinfo w.userinfo_lacks (b ∷ bs) 0 (omega arith) (omega arith)
       (ap kind.userinfo.ascii c ∙ w.colon_within) in
-      let digits = front-within digit_set kind.userinfo w.digits_within refl bs in
-      let d = ap (front kind.userinfo) (behind_mark (front digit_set bs) (b ∷ bs)) in
-      let sum : front kind.userinfo (b ∷ bs)
-      ≡ 1 + front digit_set bs + front kind.userinfo (drop (1 + front digit_set bs) (b ∷ bs)) =
+      let digits = valid_prefix-within digit_set kind.userinfo w.digits_within refl bs in
+      let d = ap (valid_prefix kind.userinfo) (behind_mark (valid_prefix digit_set bs) (b ∷ bs)) in
+      let sum : valid_prefix kind.userinfo (b ∷ bs)
+      ≡ 1 + valid_prefix digit_set bs + valid_prefix kind.userinfo (drop (1 + valid_prefix digit_set bs) (b ∷ bs)) =
       omega (arith, one, digits, d) in
-      sum ∙ sym (ap (λ n. n + front kind.userinfo (drop n (b ∷ bs))) l))
+      sum ∙ sym (ap (λ n. n + valid_prefix kind.userinfo (drop n (b ∷ bs))) l))
       (λ e.
       let none : port_length (b ∷ bs) ≡ 0 = cond-false _ _ _ e in
-      sym (ap (λ n. n + front kind.userinfo (drop n (b ∷ bs))) none ∙ zero-add _))
+      sym (ap (λ n. n + valid_prefix kind.userinfo (drop n (b ∷ bs))) none ∙ zero-add _))
       (cases_Bool (eqb b 58))
 
-  pub more_is : (bs : List ℕ) → more_user kind bs ≡ front kind.userinfo bs
+  pub more_is : (bs : List ℕ) → more_user kind bs ≡ valid_prefix kind.userinfo bs
   unfolding more_user
   more_is bs = ⊎_elim
-      (λ e. cond-true _ _ _ e ∙ sym (ap (front kind.userinfo) (starts-cons 64 bs e)
-      ∙ front_zero_mark (codes "@/?#") kind.userinfo w.userinfo_lacks w.userinfo_marks 64
+      (λ e. cond-true _ _ _ e ∙ sym (ap (valid_prefix kind.userinfo) (starts-cons 64 bs e)
+      ∙ prefix_zero_mark (codes "@/?#") kind.userinfo w.userinfo_lacks w.userinfo_marks 64
       (drop 1 bs) refl))
       (λ e. cond-false _ _ _ e)
       (cases_Bool (starts 64 bs))
 
-  pub user_is : (rest : List ℕ) → user_length kind rest ≡ front kind.userinfo rest
+  pub user_is : (rest : List ℕ) → user_length kind rest ≡ valid_prefix kind.userinfo rest
   unfolding user_length name_length
   user_is rest =
       let behind_name : List ℕ = after kind.reg_name rest in
-      let a = front-within kind.reg_name kind.userinfo w.name_within w.reg_name_lacks rest in
-      let b = port_front behind_name in
-      let c = more_is (drop (front kind.reg_name rest + port_length behind_name) rest)
-      ∙ ap (front kind.userinfo)
-      (sym (behind (front kind.reg_name rest) (port_length behind_name) rest)) in
-      let sum : front kind.reg_name rest + port_length behind_name
-      + more_user kind (drop (front kind.reg_name rest + port_length behind_name) rest)
-      ≡ front kind.userinfo rest = omega (arith, a, b, c) in
+      let a = valid_prefix-within kind.reg_name kind.userinfo w.name_within w.reg_name_lacks rest in
+      let b = port_prefix behind_name in
+      let c = more_is (drop (valid_prefix kind.reg_name rest + port_length behind_name) rest)
+      ∙ ap (valid_prefix kind.userinfo)
+      (sym (behind (valid_prefix kind.reg_name rest) (port_length behind_name) rest)) in
+      let sum : valid_prefix kind.reg_name rest + port_length behind_name
+      + more_user kind (drop (valid_prefix kind.reg_name rest + port_length behind_name) rest)
+      ≡ valid_prefix kind.userinfo rest = omega (arith, a, b, c) in
       sum
 
   -- what begins with `[` is no userinfo
@@ -119,14 +119,14 @@ module _ (segment : TableSet) (kind : Kind) (w : Separates segment kind) where
       || ((t || passes_user kind rest) && finds_host kind (from_host kind rest))) e
 
   user_place : (rest : List ℕ) → starts 91 rest ≡ false
-      → host_place kind rest ≡ front kind.userinfo rest + 1
+      → host_place kind rest ≡ valid_prefix kind.userinfo rest + 1
   unfolding host_place
   user_place rest e = cond-false _ _ _ e ∙ ap (λ n. n + 1) (user_is rest)
 
   user_behind : (rest : List ℕ) → starts 91 rest ≡ false
       → from_host kind rest ≡ drop 1 (after kind.userinfo rest)
   user_behind rest e = ap (λ n. drop n rest) (user_place rest e)
-      ∙ sym (behind (front kind.userinfo rest) 1 rest)
+      ∙ sym (behind (valid_prefix kind.userinfo rest) 1 rest)
 
   user_passed : (rest : List ℕ) → passes_user kind rest ≡ starts 64 (after kind.userinfo rest)
   unfolding passes_user
@@ -163,7 +163,7 @@ module _ (segment : TableSet) (kind : Kind) (w : Separates segment kind) where
         (utf8_from (codes "@/?#") rest (ascii_marks (codes "@/?#") refl) u)
 
     valid_user : is_valid_for kind.userinfo (before_any (codes "@/?#") rest)
-        ≡ eqb (front kind.userinfo rest) (to_mark (codes "@/?#") rest)
+        ≡ eqb (valid_prefix kind.userinfo rest) (to_mark (codes "@/?#") rest)
     valid_user = cut (codes "@/?#") kind.userinfo w.userinfo_lacks w.userinfo_marks rest u
 
     -- with an `@` it is userinfo, and then a host
@@ -194,7 +194,7 @@ module _ (segment : TableSet) (kind : Kind) (w : Separates segment kind) where
     no_host e = false_from_ne_true _ (λ h. both_ways _ (host_free rest u h) (mark_is ∙ e))
 
     user_to_mark : starts 64 (after kind.userinfo rest) ≡ true
-        → front kind.userinfo rest ≡ to_mark (codes "@/?#") rest
+        → valid_prefix kind.userinfo rest ≡ to_mark (codes "@/?#") rest
     user_to_mark e = stops_at (codes "@/?#") 64 refl kind.userinfo w.userinfo_lacks w.userinfo_marks
         rest u e
 
@@ -264,7 +264,7 @@ module _ (segment : TableSet) (kind : Kind) (w : Separates segment kind) where
     name_case h =
         let p = name_is_host rest h in
         let f = found_host segment kind w rest u p.1 in
-        let n : front kind.reg_name rest ≡ length f.host = sym (bare_end segment kind w rest p.0)
+        let n : valid_prefix kind.reg_name rest ≡ length f.host = sym (bare_end segment kind w rest p.0)
         ∙ f.end in
         let l : name_length kind rest ≡ length (f.host ++ f.behind) =
         sym (bare_length segment kind w rest p.0)
@@ -276,7 +276,7 @@ module _ (segment : TableSet) (kind : Kind) (w : Separates segment kind) where
                 start = place;
                 host_start = place;
                 host_end =
-                    place + front kind.reg_name rest;
+                    place + valid_prefix kind.reg_name rest;
                 end = place + name_length kind rest;
               }
               ≡ places place place f.host f.behind =

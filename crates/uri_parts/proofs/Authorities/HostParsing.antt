@@ -11,8 +11,8 @@ use Rattle.std.proofs.lemmas.Bool.{eqb-true, both_ways, false_from_ne_true}
 use Rattle.std.proofs.lemmas.Bool.Decides.{nat_tests}
 use Rattle.uri_pct.specs.Sets.{TableSet, ipv_future_set}
 use Rattle.uri_pct.specs.Tokens.{is_valid_for}
-use Rattle.uri_pct.specs.Models.Fronts.{front, after}
-use Rattle.uri_pct.proofs.ValidTexts.Cuts.{to_mark, excludes, ascii_marks, cut, front_zero_mark}
+use Rattle.uri_pct.specs.Prefixes.{valid_prefix, after}
+use Rattle.uri_pct.proofs.ValidTexts.Cuts.{to_mark, excludes, ascii_marks, cut, prefix_zero_mark}
 use Rattle.uri_parts.specs.Components.{before_any, from_any, starts, Lacks}
 use Rattle.uri_parts.specs.Hosts.{ipv6_value, is_ipv_future, bracketed}
 use Rattle.uri_parts.specs.Models.Literals.{is_literal, parses_literal, literal_length}
@@ -134,7 +134,7 @@ pub record FoundHost (kind : Kind) (rest : List ℕ) : Type 0 where
 
 module _ (segment : TableSet) (kind : Kind) (w : Separates segment kind) where
   pub bare_end : (rest : List ℕ) → starts 91 rest ≡ false
-      → host_end kind rest ≡ front kind.reg_name rest
+      → host_end kind rest ≡ valid_prefix kind.reg_name rest
   unfolding host_end
   bare_end rest e = cond-false _ _ _ e
 
@@ -156,7 +156,7 @@ module _ (segment : TableSet) (kind : Kind) (w : Separates segment kind) where
   unfolding finds_name name_length begins_any port_length
   name_bare rest e =
       let r : List ℕ = drop 1 rest in
-      let none = front_zero_mark
+      let none = prefix_zero_mark
       (codes "@:[") kind.reg_name w.reg_name_lacks w.reg_name_starts 91 r refl in
       ap (finds_name kind) (starts-cons 91 rest e)
       ∙ ap (λ n. begins_any (codes "/?#") (drop (n + port_length (drop n (91 ∷ r))) (91 ∷ r))) none
@@ -167,7 +167,7 @@ module _ (segment : TableSet) (kind : Kind) (w : Separates segment kind) where
       (drop (port_length (after kind.reg_name rest)) (after kind.reg_name rest))
   unfolding finds_name name_length
   left_of_name rest = ap (begins_any (codes "/?#"))
-      (sym (behind (front kind.reg_name rest) (port_length (after kind.reg_name rest)) rest))
+      (sym (behind (valid_prefix kind.reg_name rest) (port_length (after kind.reg_name rest)) rest))
 
   name_cut : (rest : List ℕ) → IsUtf8 rest → starts 91 rest ≡ false →
       parses_host_and_port kind.reg_name (before_any (codes "/?#") rest)
@@ -272,7 +272,7 @@ module _ (segment : TableSet) (kind : Kind) (w : Separates segment kind) where
       (λ e. bare_host rest e ∙ name_parses rest u e)
       (cases_Bool (starts 91 rest))
 
-  name_whole : (rest : List ℕ) (i j : ℕ) → front kind.reg_name rest ≡ i
+  name_whole : (rest : List ℕ) (i j : ℕ) → valid_prefix kind.reg_name rest ≡ i
       → port_length (after kind.reg_name rest) ≡ j → name_length kind rest ≡ i + j
   unfolding name_length
   name_whole rest i j n k = omega (arith, n, k)
@@ -285,7 +285,7 @@ module _ (segment : TableSet) (kind : Kind) (w : Separates segment kind) where
       let name : List ℕ = before_any (codes ":/?#") rest in
       let from : List ℕ = from_any (codes ":/?#") rest in
       let port : List ℕ = before_any (codes "/?#") from in
-      let m : front kind.reg_name rest ≡ to_mark (codes ":/?#") rest =
+      let m : valid_prefix kind.reg_name rest ≡ to_mark (codes ":/?#") rest =
       eqb-true _ _
       (sym (cut (codes ":/?#") kind.reg_name w.reg_name_lacks w.reg_name_colon rest u)
       ∙ p.0) in
@@ -296,7 +296,7 @@ module _ (segment : TableSet) (kind : Kind) (w : Separates segment kind) where
       (codes "@:[") w.reg_name_lacks w.reg_name_starts name un p.0 in
       let ends : begins_any (codes "/?#") (drop (port_length from) from) ≡ true =
       port_parses from uf ∙ p.1 in
-      let n : front kind.reg_name rest ≡ length name = m
+      let n : valid_prefix kind.reg_name rest ≡ length name = m
       ∙ sym (length-before (codes ":/?#") rest) in
       let k : port_length (after kind.reg_name rest) ≡ length port =
       ap (λ n. port_length (drop n rest)) m

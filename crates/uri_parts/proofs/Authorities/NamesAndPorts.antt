@@ -11,10 +11,10 @@ use Rattle.std.proofs.lemmas.Bool.{false_from_ne_true}
 use Rattle.std.proofs.lemmas.Bool.Decides.{nat_tests}
 use Rattle.uri_pct.specs.Sets.{TableSet, LacksPercent, IsSubset, digit_set, reg_name_set, is_one_of}
 use Rattle.uri_pct.specs.Tokens.{is_valid_for}
-use Rattle.uri_pct.specs.Models.Fronts.{front_from, front, after}
+use Rattle.uri_pct.specs.Prefixes.{valid_prefix_from, valid_prefix, after}
 use Rattle.uri_pct.proofs.ValidTexts.Cuts.{to_mark, excludes, AreAscii, mark_boundary, cut}
 use Rattle.uri_pct.proofs.ValidTexts.Cuts.{valid_where_scanned}
-use Rattle.uri_pct.proofs.ValidTexts.Fronts.{front-char}
+use Rattle.uri_pct.proofs.ValidTexts.Prefixes.{valid_prefix-char}
 use Rattle.uri_parts.specs.Components.{before_any, from_any, starts, Lacks}
 use Rattle.uri_parts.specs.Hosts.{ipv4_value}
 use Rattle.uri_parts.specs.Models.AuthorityParsing.{begins_any, port_length}
@@ -119,7 +119,7 @@ port_parses [] u = refl
 port_parses (b ∷ bs) u = ⊎_elim
     (λ e.
     ap (λ n. begins_any (codes "/?#") (drop n (b ∷ bs))) (cond-true _ _ _ e)
-    ∙ ap (begins_any (codes "/?#")) (sym (behind_mark (front digit_set bs) (b ∷ bs)))
+    ∙ ap (begins_any (codes "/?#")) (sym (behind_mark (valid_prefix digit_set bs) (b ∷ bs)))
     ∙ parses_to (codes "/?#") digit_set refl refl bs (utf8_tail b bs (colon_ascii b e) u)
     ∙ sym (ap ends_in_port (before_past_other (codes "/?#") b bs (colon_plain b e))
     ∙ ap (λ t. t && is_valid_for digit_set (before_any (codes "/?#") bs)) e))
@@ -138,14 +138,14 @@ unfolding begins_any port_length
 port_whole [] u h = refl
 port_whole (b ∷ bs) u h = ⊎_elim
     (λ e.
-    let past = cond-true (eqb b 58) (1 + front digit_set bs) 0 e in
+    let past = cond-true (eqb b 58) (1 + valid_prefix digit_set bs) 0 e in
     let left : begins_any (codes "/?#") (after digit_set bs) ≡ true =
-    ap (begins_any (codes "/?#")) (behind_mark (front digit_set bs) (b ∷ bs))
+    ap (begins_any (codes "/?#")) (behind_mark (valid_prefix digit_set bs) (b ∷ bs))
     ∙ sym (ap (λ n. begins_any (codes "/?#") (drop n (b ∷ bs))) past) ∙ h in
     let valid =
     sym (parses_to (codes "/?#") digit_set refl refl bs (utf8_tail b bs (colon_ascii b e) u))
     ∙ left in
-    let m : front digit_set bs ≡ to_mark (codes "/?#") bs =
+    let m : valid_prefix digit_set bs ≡ to_mark (codes "/?#") bs =
     eqb-true _ _
     (sym (cut (codes "/?#") digit_set refl refl bs (utf8_tail b bs (colon_ascii b e) u))
     ∙ valid) in
@@ -153,7 +153,7 @@ port_whole (b ∷ bs) u h = ⊎_elim
     let n = ap length (before_past_other (codes "/?#") b bs (colon_plain b e)) in
     past ∙ omega (arith, m, l, n))
     (λ e.
-    let none = cond-false (eqb b 58) (1 + front digit_set bs) 0 e in
+    let none = cond-false (eqb b 58) (1 + valid_prefix digit_set bs) 0 e in
     let o : is_one_of (codes "/?#") b ≡ true =
     sym (ap (λ n. begins_any (codes "/?#") (drop n (b ∷ bs))) none)
     ∙ h in
@@ -181,9 +181,9 @@ port_lacks (b ∷ bs) u h =
     Lacks-cons (codes "@") b bs (ap (is_one_of (codes "@")) (eqb-true b 58 p.0))
     (valid_lacks digit_set (codes "@") refl refl bs (utf8_tail b bs (colon_ascii b p.0) u) p.1)
 
-pub front_nil : (set : TableSet) → front set [] ≡ 0
-unfolding front_from
-front_nil set = refl
+pub prefix_nil : (set : TableSet) → valid_prefix set [] ≡ 0
+unfolding valid_prefix_from
+prefix_nil set = refl
 
 -- an IPv4 address is a name
 digit_ascii : (c : ℕ) → IsDigitOrDot c → c < 128
@@ -191,12 +191,12 @@ digit_ascii c (inl range) = grind (arith, nat_tests)
 digit_ascii c (inr dot) = grind (arith, nat_tests)
 
 module _ (names : TableSet) (lacks : LacksPercent names) (wide : IsSubset reg_name_set names) where
-  digits_scanned : (text : List ℕ) → All IsDigitOrDot text → front names text ≡ length text
-  digits_scanned [] h = front_nil names
+  digits_scanned : (text : List ℕ) → All IsDigitOrDot text → valid_prefix names text ≡ length text
+  digits_scanned [] h = prefix_nil names
   digits_scanned (c ∷ text) h =
       let d = h 0 0 (omega arith) in
-      let one : front names (c ∷ text) ≡ front names text + 1 =
-      front-char names lacks (c ∷ text) 0 (omega arith) (digit_ascii c d)
+      let one : valid_prefix names (c ∷ text) ≡ valid_prefix names text + 1 =
+      valid_prefix-char names lacks (c ∷ text) 0 (omega arith) (digit_ascii c d)
       (wide.ascii c (digit_reg_name c d)) in
       one ∙ omega (arith, digits_scanned text (λ k d l. h (suc k) d (omega arith)))
 

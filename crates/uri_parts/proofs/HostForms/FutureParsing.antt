@@ -10,7 +10,7 @@ use Rattle.std.proofs.lemmas.Bool.{eqb-true, both_ways, false≢true, false_from
 use Rattle.std.proofs.lemmas.Bool.Decides.{nat_tests}
 use Rattle.uri_pct.specs.Sets.{TableSet, LacksPercent, is_one_of, hexdig_set, ipv_future_set}
 use Rattle.uri_pct.specs.Tokens.{is_valid_for}
-use Rattle.uri_pct.specs.Models.Fronts.{front}
+use Rattle.uri_pct.specs.Prefixes.{valid_prefix}
 use Rattle.uri_pct.proofs.ValidTexts.Cuts.{to_mark, excludes, cut}
 use Rattle.uri_parts.specs.Components.{starts, before_any, from_any, Lacks}
 use Rattle.uri_parts.specs.Hosts.{IsIpvFuture, ipv6_value, is_ipv_future}
@@ -56,14 +56,14 @@ module _ (set : TableSet) (lacks : LacksPercent set) (mark : ℕ) (ascii : mark 
       ∙ drop-append_seam (spelt ++ (mark ∷ [])) behind
 
   -- the scan ends at the mark
-  front_marked : (spelt behind : List ℕ) → IsUtf8 (spelt ++ (mark ∷ behind))
-      → is_valid_for set spelt ≡ true → front set (spelt ++ (mark ∷ behind)) ≡ length spelt
-  front_marked spelt behind u valid =
+  prefix_marked : (spelt behind : List ℕ) → IsUtf8 (spelt ++ (mark ∷ behind))
+      → is_valid_for set spelt ≡ true → valid_prefix set (spelt ++ (mark ∷ behind)) ≡ length spelt
+  prefix_marked spelt behind u valid =
       let rest : List ℕ = spelt ++ (mark ∷ behind) in
       let spelt_lacks = valid_lacks set (mark ∷ []) lacks outside spelt
       (utf8_apart spelt mark behind ascii u).0 valid in
       let c = cut-append (mark ∷ []) spelt (mark ∷ behind) spelt_lacks itself in
-      let m : front set rest ≡ to_mark (mark ∷ []) rest =
+      let m : valid_prefix set rest ≡ to_mark (mark ∷ []) rest =
       eqb-true _ _ (sym (cut (mark ∷ []) set lacks outside rest u) ∙ ap (is_valid_for set) c.0
       ∙ valid) in
       m ∙ sym (length-before (mark ∷ []) rest) ∙ ap length c.0
@@ -75,7 +75,7 @@ module _ (set : TableSet) (lacks : LacksPercent set) (mark : ℕ) (ascii : mark 
       ≡ behind)
   unfolding parses_marked length_to_mark
   marked spelt behind u some valid =
-      let n = front_marked spelt behind u valid in
+      let n = prefix_marked spelt behind u valid in
       rw n (
         and_from _ _ (lt-ltb 0 _ some)
             (ap (starts mark) (drop-append_seam spelt (mark ∷ behind)) ∙ eq-eqb mark mark refl),
@@ -91,7 +91,7 @@ module _ (set : TableSet) (lacks : LacksPercent set) (mark : ℕ) (ascii : mark 
       (λ m.
       let spelt : List ℕ = before_any (mark ∷ []) rest in
       let from : List ℕ = from_any (mark ∷ []) rest in
-      let n : front set rest ≡ length spelt = m ∙ sym (length-before (mark ∷ []) rest) in
+      let n : valid_prefix set rest ≡ length spelt = m ∙ sym (length-before (mark ∷ []) rest) in
       let seen : starts mark from ≡ true = sym (ap (λ n. starts mark (drop n rest)) m) ∙ p.1 in
       let whole : rest ≡ spelt ++ (mark ∷ drop 1 from) = sym (IsCut-any (mark ∷ []) rest).whole
       ∙ ap (λ t. spelt ++ t) (starts-cons mark from seen) in

@@ -6,12 +6,11 @@ use Rattle.std.proofs.lemmas.List.{drop_more, drop_all, drop-drop}
 use Rattle.std.specs.Prelude.{codes}
 use Rattle.std.proofs.lemmas.Bool.Decides.{nat_tests}
 use Rattle.uri_pct.specs.Sets.{TableSet, is_one_of}
-use Rattle.uri_pct.specs.Models.Fronts.{front, after}
+use Rattle.uri_pct.specs.Prefixes.{valid_prefix, after}
 use Rattle.uri_pct.specs.Texts.{IsStrayPercent}
-use Rattle.uri_pct.proofs.ValidTexts.Fronts.{front-after, stray-digits}
-use Rattle.uri_parts.specs.Components.{starts}
+use Rattle.uri_pct.proofs.ValidTexts.Prefixes.{valid_prefix-after, stray-digits}
+use Rattle.uri_parts.specs.Components.{starts, is_end}
 use Rattle.uri_parts.specs.Models.AuthorityParsing.{begins_any}
-use Rattle.uri_parts.specs.Models.Parsing.{is_end}
 
 pub starts_at : (mark i : ℕ) (text : List ℕ)
     → starts mark (drop i text) ≡ (ltb i (length text) && eqb (get_or text i 0) mark)
@@ -22,16 +21,16 @@ starts_at mark i text = ⊎_elim
     (cases_lt i (length text))
 
 pub stray_fault : (set : TableSet) (text : List ℕ) (i n : ℕ) → set.pct_encoded ≡ true
-    → n ≡ i + front set (drop i text) → n < length text → get_or text n 0 ≡ 37
+    → n ≡ i + valid_prefix set (drop i text) → n < length text → get_or text n 0 ≡ 37
     → IsStrayPercent text n
 stray_fault set text i n o e h p =
     let d : drop n text ≡ after set (drop i text) = ap (λ k. drop k text) e
-    ∙ sym (drop-drop (front set (drop i text)) i text) in
+    ∙ sym (drop-drop (valid_prefix set (drop i text)) i text) in
     record {
       inside = h;
       percent = p;
       stray =
-          stray-digits set text n h o p (ap (front set) d ∙ front-after set (drop i text));
+          stray-digits set text n h o p (ap (valid_prefix set) d ∙ valid_prefix-after set (drop i text));
     }
 
 -- nothing is left where the place is the length

@@ -7,9 +7,9 @@ use Rattle.std.specs.Str.{IsUtf8}
 use Rattle.std.proofs.lemmas.Bool.{cases_Bool, cond-true, cond-false, and_left, and_from, and_parts}
 use Rattle.std.proofs.lemmas.Bool.{ne_eqb, both_ways, not_from_false, false_from_ne_true}
 use Rattle.uri_pct.specs.Sets.{TableSet, LacksPercent, is_one_of, scheme_set}
-use Rattle.uri_pct.specs.Models.Fronts.{front, after}
+use Rattle.uri_pct.specs.Prefixes.{valid_prefix, after}
 use Rattle.uri_pct.proofs.ValidTexts.Cuts.{to_mark, excludes, ascii_marks}
-use Rattle.uri_pct.proofs.ValidTexts.Fronts.{front-within}
+use Rattle.uri_pct.proofs.ValidTexts.Prefixes.{valid_prefix-within}
 use Rattle.uri_parts.specs.declared.positions.Positions.{Positions}
 use Rattle.uri_parts.specs.declared.positions.AuthorityPositions.{AuthorityPositions}
 use Rattle.uri_parts.specs.Components.{before_any, from_any, starts, has_authority, has_scheme}
@@ -32,18 +32,18 @@ use Rattle.uri_parts.proofs.Splitting.Relative.{scheme_lacks, scheme_marks, stop
 use Rattle.uri_parts.proofs.Splitting.Relative.{path_after, after_within, relative_false}
 use Rattle.uri_parts.proofs.Splitting.Relative.{segment_within, relative_within}
 use Rattle.uri_parts.proofs.Parsing.WholeTexts.{alpha_colon, slashes_first, slashes_colon}
-use Rattle.uri_parts.proofs.Parsing.WholeTexts.{slashes_front}
+use Rattle.uri_parts.proofs.Parsing.WholeTexts.{slashes_prefix}
 use Rattle.uri_parts.proofs.Parsing.WholeTexts.{slashes_scanned}
 
 no_hash : (b : ℕ) → is_one_of (codes "#") b ≡ false → eqb b 35 ≡ false
 no_hash b o = ne_eqb b 35 (λ e. both_ways _ o (ap (is_one_of (codes "#")) e))
 
--- what is scanned on from a longest front was cut at a mark
-front_true : (marks : List ℕ) (set : TableSet) → LacksPercent set → excludes set marks ≡ true
+-- what is scanned on from a longest prefix was cut at a mark
+prefix_true : (marks : List ℕ) (set : TableSet) → LacksPercent set → excludes set marks ≡ true
     → (test : List ℕ → Bool)
     → ((b : ℕ) (rest : List ℕ) → is_one_of marks b ≡ false → test (b ∷ rest) ≡ false)
-    → (bs : List ℕ) → IsUtf8 bs → test (after set bs) ≡ true → front set bs ≡ to_mark marks bs
-front_true marks set lacks outside test stuck bs u e = ⊎_elim (λ h. h)
+    → (bs : List ℕ) → IsUtf8 bs → test (after set bs) ≡ true → valid_prefix set bs ≡ to_mark marks bs
+prefix_true marks set lacks outside test stuck bs u e = ⊎_elim (λ h. h)
     (λ s. absurd (both_ways _ (ap test s.left ∙ stuck s.byte s.rest s.other) e))
     (stop_cases marks set lacks outside bs u)
 
@@ -82,8 +82,8 @@ module _ (segment : TableSet) (kind : Kind) (w : Separates segment kind) where
       ∙ h in
       let stuck = λ (b : ℕ) (rest : List ℕ) (o : is_one_of (codes "#") b ≡ false).
       fragment_stuck segment kind w b rest (no_hash b o) in
-      let m : front kind.query r1 ≡ length (before_any (codes "#") r1) =
-      front_true (codes "#") kind.query w.query_lacks w.query_marks (parses_fragment kind) stuck r1
+      let m : valid_prefix kind.query r1 ≡ length (before_any (codes "#") r1) =
+      prefix_true (codes "#") kind.query w.query_lacks w.query_marks (parses_fragment kind) stuck r1
       (utf8_past 63 (lit< tt) r q u) (and_parts _ _ h1).1
       ∙ sym (length-before (codes "#") r1) in
       cond-true _ _ _ q ∙ ap (λ n. Some (end + 1 + n)) m
@@ -93,11 +93,11 @@ module _ (segment : TableSet) (kind : Kind) (w : Separates segment kind) where
       (when t (before_any (codes "#") (drop 1 r)))) q))
       (cases_Bool (starts 63 r))
 
-  path_front : (tail : List ℕ) → IsUtf8 tail → parses_path kind tail ≡ true
-      → front kind.path tail ≡ to_mark (codes "?#") tail
+  path_prefix : (tail : List ℕ) → IsUtf8 tail → parses_path kind tail ≡ true
+      → valid_prefix kind.path tail ≡ to_mark (codes "?#") tail
   unfolding parses_path
-  path_front tail u h =
-      front_true (codes "?#") kind.path w.path_lacks w.path_marks (parses_end kind)
+  path_prefix tail u h =
+      prefix_true (codes "?#") kind.path w.path_lacks w.path_marks (parses_end kind)
       (end_stuck segment kind w) tail u (and_parts _ _ h).1
 
   path_end : (tail : List ℕ) → parses_path kind tail ≡ true
@@ -112,14 +112,14 @@ module _ (segment : TableSet) (kind : Kind) (w : Separates segment kind) where
       ≡ tail_positions scheme_end authority start tail
   unfolding path_positions
   path_case scheme_end authority start tail u h =
-      let m = path_front tail u h in
+      let m = path_prefix tail u h in
       let rest : List ℕ = from_any (codes "?#") tail in
-      let n : front kind.path tail ≡ length (before_any (codes "?#") tail) = m
+      let n : valid_prefix kind.path tail ≡ length (before_any (codes "?#") tail) = m
       ∙ sym (length-before (codes "?#") tail) in
       let r : after kind.path tail ≡ rest = ap (λ k. drop k tail) m in
-      let end : start + front kind.path tail ≡ start + length (before_any (codes "?#") tail) =
+      let end : start + valid_prefix kind.path tail ≡ start + length (before_any (codes "?#") tail) =
       ap (λ k. start + k) n in
-      let q : query_end_at kind (start + front kind.path tail) (after kind.path tail)
+      let q : query_end_at kind (start + valid_prefix kind.path tail) (after kind.path tail)
       ≡ option_map (λ q. start + length (before_any (codes "?#") tail) + 1 + length q)
       (when (starts 63 rest) (before_any (codes "#") (drop 1 rest))) =
       ap (λ e. query_end_at kind e (after kind.path tail)) end
@@ -198,7 +198,7 @@ module _ (segment : TableSet) (kind : Kind) (w : Separates segment kind) where
 
   -- the path runs from the beginning of the text, in how many pieces it is scanned
   relative_same : (text : List ℕ)
-      → relative_positions segment kind (front scheme_set text) (after scheme_set text)
+      → relative_positions segment kind (valid_prefix scheme_set text) (after scheme_set text)
       ≡ path_positions kind None None 0 0 text
   unfolding relative_positions path_positions
   relative_same text =
@@ -206,14 +206,14 @@ module _ (segment : TableSet) (kind : Kind) (w : Separates segment kind) where
       let a : after kind.path inner ≡ after kind.path text =
       ap (after kind.path) (segment_within segment kind w text)
       ∙ after_within segment kind w text in
-      let n : front scheme_set text + front segment (after scheme_set text) ≡ front segment text =
-      sym (front-within scheme_set segment w.scheme_within scheme_lacks text) in
-      let k : front kind.path inner ≡ front kind.path (after segment text) =
-      ap (front kind.path) (segment_within segment kind w text) in
-      let f : front kind.path text ≡ front segment text + front kind.path (after segment text) =
-      front-within segment kind.path w.within w.segment_lacks text in
-      let e : front scheme_set text + front segment (after scheme_set text) + front kind.path inner
-      ≡ 0 + front kind.path text = omega arith in
+      let n : valid_prefix scheme_set text + valid_prefix segment (after scheme_set text) ≡ valid_prefix segment text =
+      sym (valid_prefix-within scheme_set segment w.scheme_within scheme_lacks text) in
+      let k : valid_prefix kind.path inner ≡ valid_prefix kind.path (after segment text) =
+      ap (valid_prefix kind.path) (segment_within segment kind w text) in
+      let f : valid_prefix kind.path text ≡ valid_prefix segment text + valid_prefix kind.path (after segment text) =
+      valid_prefix-within segment kind.path w.within w.segment_lacks text in
+      let e : valid_prefix scheme_set text + valid_prefix segment (after scheme_set text) + valid_prefix kind.path inner
+      ≡ 0 + valid_prefix kind.path text = omega arith in
       λ i. record {
         scheme_end = None;
         authority = None;
@@ -230,15 +230,15 @@ module _ (segment : TableSet) (kind : Kind) (w : Separates segment kind) where
       ∙ (and_parts _ _ (and_parts (not (is_stray segment (after segment text))) _ h).1).1
 
   schemeless_case : (text : List ℕ) → IsUtf8 text
-      → parses_schemeless segment kind (front scheme_set text) (after scheme_set text) ≡ true →
-      schemeless_positions segment kind (front scheme_set text) (after scheme_set text)
+      → parses_schemeless segment kind (valid_prefix scheme_set text) (after scheme_set text) ≡ true →
+      schemeless_positions segment kind (valid_prefix scheme_set text) (after scheme_set text)
       ≡ hier_layout None 0 text
   unfolding parses_schemeless schemeless_positions
   schemeless_case text u h = ⊎_elim
       (λ a.
       let e = slashes_scanned text ∙ a in
       let d : drop 2 (after scheme_set text) ≡ drop 2 text =
-      ap (λ n. drop 2 (drop n text)) (slashes_front text a) in
+      ap (λ n. drop 2 (drop n text)) (slashes_prefix text a) in
       cond-true _ _ _ e ∙ ap (authority_positions kind None 2) d
       ∙ slashes_case None 0 text u a
       (sym (ap (parses_authority kind) d) ∙ sym (cond-true _ _ _ e) ∙ h))
@@ -251,7 +251,7 @@ module _ (segment : TableSet) (kind : Kind) (w : Separates segment kind) where
 
   -- where there is no colon behind the characters of a scheme, there is no scheme
   no_scheme : (text : List ℕ) → IsUtf8 text → starts 58 (after scheme_set text) ≡ false
-      → parses_schemeless segment kind (front scheme_set text) (after scheme_set text) ≡ true
+      → parses_schemeless segment kind (valid_prefix scheme_set text) (after scheme_set text) ≡ true
       → has_scheme text ≡ false
   unfolding parses_schemeless
   no_scheme text u s h = ⊎_elim
@@ -281,13 +281,13 @@ module _ (segment : TableSet) (kind : Kind) (w : Separates segment kind) where
   scheme_case : (text : List ℕ) → IsUtf8 text → starts 58 (after scheme_set text) ≡ true
       → (is_ascii_alphabetic (get_or text 0 0) && parses_hier kind (drop 1 (after scheme_set text)))
       ≡ true
-      → hier_positions kind (Some (front scheme_set text)) (front scheme_set text + 1)
+      → hier_positions kind (Some (valid_prefix scheme_set text)) (valid_prefix scheme_set text + 1)
       (drop 1 (after scheme_set text))
       ≡ positions_of (components text)
   scheme_case text u s h =
       let p = and_parts _ _ h in
       let m = stops_at_colon scheme_set scheme_lacks scheme_marks text u s in
-      let n : front scheme_set text ≡ length (before_any (codes ":/?#") text) = m
+      let n : valid_prefix scheme_set text ≡ length (before_any (codes ":/?#") text) = m
       ∙ sym (length-before (codes ":/?#") text) in
       let back : after scheme_set text ≡ from_any (codes ":/?#") text = ap (λ k. drop k text) m in
       let first : starts 58 text ≡ false =
@@ -297,10 +297,10 @@ module _ (segment : TableSet) (kind : Kind) (w : Separates segment kind) where
       let rest : List ℕ = drop 1 (after scheme_set text) in
       let u1 = utf8_past 58 (lit< tt) (after scheme_set text) s
       (rw back (utf8_from (codes ":/?#") text (ascii_marks (codes ":/?#") refl) u)) in
-      let e : front scheme_set text + 1 ≡ 1 + length (before_any (codes ":/?#") text) =
+      let e : valid_prefix scheme_set text + 1 ≡ 1 + length (before_any (codes ":/?#") text) =
       omega arith in
-      hier_case (Some (front scheme_set text)) (front scheme_set text + 1) rest u1 p.1
-      ∙ ap (λ k. hier_layout (Some k) (front scheme_set text + 1) rest) n
+      hier_case (Some (valid_prefix scheme_set text)) (valid_prefix scheme_set text + 1) rest u1 p.1
+      ∙ ap (λ k. hier_layout (Some k) (valid_prefix scheme_set text + 1) rest) n
       ∙ ap (λ k. hier_layout (Some (length (before_any (codes ":/?#") text))) k rest) e
       ∙ ap (λ r. hier_layout (Some (length (before_any (codes ":/?#") text)))
       (1 + length (before_any (codes ":/?#") text)) (drop 1 r)) back

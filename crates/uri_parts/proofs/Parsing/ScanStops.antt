@@ -9,10 +9,10 @@ use Rattle.std.proofs.lemmas.Bool.{and_left, and_right, and_parts, eq-eqb, eqb-t
 use Rattle.std.proofs.lemmas.Bool.{not-true, cases_eq, false≢true}
 use Rattle.uri_pct.specs.Sets.{TableSet, LacksPercent, is_one_of}
 use Rattle.uri_pct.specs.Tokens.{is_valid_for}
-use Rattle.uri_pct.specs.Models.Fronts.{front, after}
+use Rattle.uri_pct.specs.Prefixes.{valid_prefix, after}
 use Rattle.uri_pct.proofs.ValidTexts.Cuts.{AreAscii, to_mark, excludes, mark_percent, mark_boundary}
-use Rattle.uri_pct.proofs.ValidTexts.Cuts.{from_mark, cut, front_le_mark}
-use Rattle.uri_pct.proofs.ValidTexts.Fronts.{front-after}
+use Rattle.uri_pct.proofs.ValidTexts.Cuts.{from_mark, cut, prefix_le_mark}
+use Rattle.uri_pct.proofs.ValidTexts.Prefixes.{valid_prefix-after}
 use Rattle.uri_parts.specs.Components.{before_any, from_any, starts, has_authority}
 use Rattle.uri_parts.specs.Models.Parsing.{is_stray, parses_after}
 
@@ -43,17 +43,17 @@ pub record StopsWithin (marks : List ℕ) (set : TableSet) (bs : List ℕ) : Typ
   pub rest : List ℕ
   pub other : is_one_of marks byte ≡ false
   pub left : after set bs ≡ byte ∷ rest
-  pub stuck : front set (byte ∷ rest) ≡ 0
-  pub apart : front set bs ≡ to_mark marks bs → ⊥
+  pub stuck : valid_prefix set (byte ∷ rest) ≡ 0
+  pub apart : valid_prefix set bs ≡ to_mark marks bs → ⊥
 
 module _ (marks : List ℕ) (set : TableSet) (lacks : LacksPercent set)
     (outside : excludes set marks ≡ true) where
   pub stop_cases : (bs : List ℕ) → IsUtf8 bs
-      → (front set bs ≡ to_mark marks bs) ⊎ StopsWithin marks set bs
+      → (valid_prefix set bs ≡ to_mark marks bs) ⊎ StopsWithin marks set bs
   stop_cases bs u =
       let m = to_mark marks bs in
-      let n = front set bs in
-      let le = front_le_mark marks set lacks outside bs u in
+      let n = valid_prefix set bs in
+      let le = prefix_le_mark marks set lacks outside bs u in
       ⊎_elim (λ e. inl e)
       (λ d.
       let lt : n < length bs =
@@ -65,7 +65,7 @@ module _ (marks : List ℕ) (set : TableSet) (lacks : LacksPercent set)
         other = not-true _
             (prefix_len_passes (λ c. not (is_one_of marks c)) bs n 0 (omega (arith, le)));
         left = more;
-        stuck = ap (front set) (sym more) ∙ front-after set bs;
+        stuck = ap (valid_prefix set) (sym more) ∙ valid_prefix-after set bs;
         apart = d;
       }))
       (cases_eq n m)
@@ -74,9 +74,9 @@ module _ (marks : List ℕ) (set : TableSet) (lacks : LacksPercent set)
   no_stray bs = from_mark marks (λ r. is_stray set r ≡ false) (and_right _ _ refl)
       (λ b rest m. and_right _ _ (mark_percent set marks outside b m)) bs
 
-  -- what a test takes behind the longest front, where it takes nothing but the end and marks
+  -- what a test takes behind the longest prefix, where it takes nothing but the end and marks
   pub piece : (test : List ℕ → Bool)
-      → ((b : ℕ) (rest : List ℕ) → is_one_of marks b ≡ false → front set (b ∷ rest) ≡ 0
+      → ((b : ℕ) (rest : List ℕ) → is_one_of marks b ≡ false → valid_prefix set (b ∷ rest) ≡ 0
       → test (b ∷ rest) ≡ false)
       → (bs : List ℕ) → IsUtf8 bs
       → parses_after set test bs

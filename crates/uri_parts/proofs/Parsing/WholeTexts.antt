@@ -10,8 +10,8 @@ use Rattle.std.proofs.lemmas.Bool.{not_from_false, not-true, both_ways, false≢
 use Rattle.std.proofs.lemmas.Bool.{false_from_ne_true, or_left}
 use Rattle.uri_pct.specs.Sets.{TableSet, is_one_of, scheme_set}
 use Rattle.uri_pct.specs.Tokens.{is_valid_for}
-use Rattle.uri_pct.specs.Models.Fronts.{front, after}
-use Rattle.uri_pct.proofs.ValidTexts.Cuts.{ascii_marks, to_mark, cut, front_zero_mark}
+use Rattle.uri_pct.specs.Prefixes.{valid_prefix, after}
+use Rattle.uri_pct.proofs.ValidTexts.Cuts.{ascii_marks, to_mark, cut, prefix_zero_mark}
 use Rattle.uri_parts.specs.Components.{before_any, from_any, starts, has_authority, has_scheme}
 use Rattle.uri_parts.specs.Components.{after_scheme, after_authority, components, when}
 use Rattle.uri_parts.specs.Grammar.{Kind, if_some, is_scheme, is_authority, has_colon_first}
@@ -57,21 +57,21 @@ pub slashes_colon : (bs : List ℕ) → has_authority bs ≡ true → starts 58 
 slashes_colon [] e = refl
 slashes_colon (b ∷ rest) e = ap (λ c. eqb c 58) (eqb-true b 47 (and_parts _ _ e).0)
 
-pub slashes_front : (bs : List ℕ) → has_authority bs ≡ true → front scheme_set bs ≡ 0
-slashes_front [] e = absurd (false≢true e)
-slashes_front (b ∷ rest) e = front_zero_mark (codes ":/?#") scheme_set scheme_lacks scheme_marks b
+pub slashes_prefix : (bs : List ℕ) → has_authority bs ≡ true → valid_prefix scheme_set bs ≡ 0
+slashes_prefix [] e = absurd (false≢true e)
+slashes_prefix (b ∷ rest) e = prefix_zero_mark (codes ":/?#") scheme_set scheme_lacks scheme_marks b
     rest (ap (is_one_of (codes ":/?#")) (eqb-true b 47 (and_parts _ _ e).0))
 
 -- slashes are next behind no character of a scheme exactly where the text begins with them
 pub slashes_scanned : (text : List ℕ)
-    → (eqb (front scheme_set text) 0 && has_authority (after scheme_set text)) ≡ has_authority text
+    → (eqb (valid_prefix scheme_set text) 0 && has_authority (after scheme_set text)) ≡ has_authority text
 slashes_scanned text = ⊎_elim
-    (λ a. let z = slashes_front text a in
+    (λ a. let z = slashes_prefix text a in
     and_from _ _ (eq-eqb _ 0 z) (ap (λ n. has_authority (drop n text)) z ∙ a) ∙ sym a)
     (λ a. ⊎_elim
     (λ z. and_right _ _ (ap (λ n. has_authority (drop n text)) (eqb-true _ 0 z) ∙ a) ∙ sym a)
     (λ z. and_left _ _ z ∙ sym a)
-    (cases_Bool (eqb (front scheme_set text) 0)))
+    (cases_Bool (eqb (valid_prefix scheme_set text) 0)))
     (cases_Bool (has_authority text))
 
 pub alpha_colon : (text : List ℕ) → starts 58 text ≡ true
@@ -111,7 +111,7 @@ scheme_head (b ∷ rest) e = ⊎_elim
 
 cut_scheme : (text : List ℕ) → IsUtf8 text
     → is_valid_for scheme_set (before_any (codes ":/?#") text)
-    ≡ eqb (front scheme_set text) (to_mark (codes ":/?#") text)
+    ≡ eqb (valid_prefix scheme_set text) (to_mark (codes ":/?#") text)
 cut_scheme text u = cut (codes ":/?#") scheme_set scheme_lacks scheme_marks text u
 
 pub utf8_scheme : (text : List ℕ) → IsUtf8 text → IsUtf8 (after_scheme text)
@@ -248,21 +248,21 @@ module _ (segment : TableSet) (kind : Kind) (w : Separates segment kind) where
       (cases_Bool (starts 58 text))
 
   schemeless_authority : (text : List ℕ) → has_authority text ≡ true
-      → parses_schemeless segment kind (front scheme_set text) (after scheme_set text)
+      → parses_schemeless segment kind (valid_prefix scheme_set text) (after scheme_set text)
       ≡ parses_authority kind (drop 2 text)
   unfolding parses_schemeless
   schemeless_authority text a = cond-true _ _ _ (slashes_scanned text ∙ a)
-      ∙ ap (λ n. parses_authority kind (drop 2 (drop n text))) (slashes_front text a)
+      ∙ ap (λ n. parses_authority kind (drop 2 (drop n text))) (slashes_prefix text a)
 
   schemeless_relative : (text : List ℕ) → has_authority text ≡ false
-      → parses_schemeless segment kind (front scheme_set text) (after scheme_set text)
+      → parses_schemeless segment kind (valid_prefix scheme_set text) (after scheme_set text)
       ≡ parses_relative segment kind text
   unfolding parses_schemeless
   schemeless_relative text a = cond-false _ _ _ (slashes_scanned text ∙ a)
       ∙ relative_within segment kind w text
 
   without_colon : (text : List ℕ) → IsUtf8 text → starts 58 (after scheme_set text) ≡ false
-      → (not kind.needs_scheme && parses_schemeless segment kind (front scheme_set text)
+      → (not kind.needs_scheme && parses_schemeless segment kind (valid_prefix scheme_set text)
       (after scheme_set text))
       ≡ (scheme_ok text && (unmixed text && tail_ok text))
   without_colon text u s = ⊎_elim
@@ -270,7 +270,7 @@ module _ (segment : TableSet) (kind : Kind) (w : Separates segment kind) where
       let a : has_authority text ≡ false =
       false_from_ne_true _ (λ t. both_ways _ (slashes_colon text t)
       (sym (ap (starts 58) (slashes_first text t)) ∙ (and_parts _ _ h).0)) in
-      let ne : eqb (front scheme_set text) (to_mark (codes ":/?#") text) ≡ false =
+      let ne : eqb (valid_prefix scheme_set text) (to_mark (codes ":/?#") text) ≡ false =
       ne_eqb _ _
       (λ e. both_ways _ s (ap (λ n. starts 58 (drop n text)) e ∙ (and_parts _ _ h).0)) in
       and_right _ _ (schemeless_relative text a ∙ relative_false segment kind w text u h)

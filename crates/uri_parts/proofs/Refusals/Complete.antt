@@ -16,11 +16,10 @@ use Rattle.std.proofs.lemmas.Bool.{and_parts}
 use Rattle.std.proofs.lemmas.List.{drop-drop}
 use Rattle.std.proofs.lemmas.Fmt.{decimal_is_IsNumeral, decimal_digit, first_decimal, length-decimal-le}
 use Rattle.std.proofs.NetLemmas.Numbers.{NoDigit, digit_count-append, digit_count_none}
-use Rattle.uri_parts.specs.Components.{starts}
-use Rattle.uri_parts.specs.Models.Parsing.{is_end}
-use Rattle.uri_parts.specs.Refusals.{Groups, Groups_end, Elision, digits_end, octet_end}
-use Rattle.uri_parts.specs.Refusals.{octets_end, ipv4_end, behind_ipv4, groups_from, ipv6_end, is_no_ipv6}
-use Rattle.uri_parts.specs.Refusals.{behind_groups, behind_elision}
+use Rattle.uri_parts.specs.Components.{starts, is_end}
+use Rattle.uri_parts.specs.LiteralErrors.{Groups, Groups_end, Elision, digits_end, octet_end}
+use Rattle.uri_parts.specs.LiteralErrors.{octets_end, ipv4_end, after_ipv4, groups_from, ipv6_end}
+use Rattle.uri_parts.specs.LiteralErrors.{is_no_ipv6, after_groups, after_elision}
 use Rattle.uri_parts.proofs.Splitting.Recompose.{starts-cons}
 use Rattle.uri_parts.proofs.HostForms.AddressParsing.{dotted as dotted_with}
 use Rattle.uri_parts.proofs.Refusals.GroupTurns.{none_left, ends, elides, dotted, goes_on}
@@ -230,7 +229,7 @@ module _ (text : List ℕ) where
       w.apart
       (and_from _ _ few (ap (starts 46) next))
       (λ z. omega (arith, z, l))
-      ∙ ap (behind_ipv4 text (r - 1)) (ipv4_complete w.place end address octets behind d w.at stop e)
+      ∙ ap (after_ipv4 text (r - 1)) (ipv4_complete w.place end address octets behind d w.at stop e)
 
   record IsRest (ipv4 : Bool) (end : ℕ) (answer : ℕ → Groups) : Type 0 where
     stops : Stops (drop end text)
@@ -307,7 +306,7 @@ module _ (text : List ℕ) where
       ∙ ap (Elision (suc r)) two
       ∙ sym (cond-false _ _ _ (ne_eqb (suc r) 0 (λ z. omega (arith, z))))
 
-  too_few : (o : Option ℕ) → behind_groups text (behind_ipv4 text 6 o) ≡ None
+  too_few : (o : Option ℕ) → after_groups text (after_ipv4 text 6 o) ≡ None
   too_few None = refl
   too_few (Some last) = refl
 
@@ -342,7 +341,7 @@ module _ (text : List ℕ) where
       → starts 93 (drop end text) ≡ true → ipv6_end text i ≡ Some end
   unfolding ipv6_end
   ipv6_complete i end address segments (inl h) p s c =
-      ap (behind_groups text) (complete true segments 8 true i end address (λ m. Groups_end m end)
+      ap (after_groups text) (complete true segments 8 true i end address (λ m. Groups_end m end)
       (closing true end c) p s h.0 (omega (arith, h.1)))
       ∙ cond-true _ _ _ (eq-eqb (8 - length segments) 0 (omega (arith, h.1)))
   ipv6_complete i end address segments (inr h) p s c =
@@ -360,11 +359,11 @@ module _ (text : List ℕ) where
       let size = ap length h.spelled ∙ length-append (h.head_text ++ codes "::") h.tail_text
       ∙ ap (λ n. n + length h.tail_text) (length-append h.head_text (codes "::")) in
       let room : ℕ = 8 - length h.head in
-      ap (behind_groups text) (complete false h.head 8 true i mid h.head_text (elision mid)
+      ap (after_groups text) (complete false h.head 8 true i mid h.head_text (elision mid)
       (eliding mid behind d) refl (cut ∙ ap (λ t. h.head_text ++ t) (sym d)) h.head_groups
       (omega (arith, h.room))
       ∙ cond-false _ _ _ (ne_eqb room 0 (λ z. omega (arith, z, h.room))))
-      ∙ ap (behind_elision text) (complete true h.tail room true (mid + 2) end h.tail_text
+      ∙ ap (after_elision text) (complete true h.tail room true (mid + 2) end h.tail_text
       (λ m. Groups_end m end) (closing true end c) (omega (arith, size, p)) d_two h.tail_groups
       (omega (arith, h.room)))
       ∙ cond-false _ _ _ (ne_eqb (room - length h.tail) 0 (λ z. omega (arith, z, h.room)))
@@ -378,11 +377,11 @@ module _ (text : List ℕ) where
       let colon : starts 58 (drop i text) ≡ false = untrue _ p.0 in
       let is : i ≡ cond (starts 58 (drop i text)) (i + 1) i = sym (cond-false _ _ _ colon) in
       ⊎_elim
-      (λ q. ap (behind_groups text) (ends text 8 7 true i i end eight is refl
+      (λ q. ap (after_groups text) (ends text 8 7 true i i end eight is refl
       (eqb-true end i q) colon))
       (λ q.
       let d = and_parts _ _ (or_other _ _ q p.1) in
-      ap (behind_groups text) (dotted text 8 7 true i i end eight is refl
+      ap (after_groups text) (dotted text 8 7 true i i end eight is refl
       (λ s. both_ways _ q (eq-eqb end i s))
       (and_right _ _ (dot_some (drop end text) d.1))
       (ap (λ t. t && true || not t && false) colon)

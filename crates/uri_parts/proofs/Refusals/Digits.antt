@@ -11,7 +11,7 @@ use Rattle.std.proofs.lemmas.Bool.{lt-ltb, le-ltb, le-leb, lt-leb, cases_lt}
 use Rattle.std.proofs.lemmas.Bool.Decides.{nat_tests}
 use Rattle.std.proofs.lemmas.List.{drop_more, drop_all}
 use Rattle.uri_parts.specs.Components.{starts}
-use Rattle.uri_parts.specs.Refusals.{digits_end, octet_end, octets_end}
+use Rattle.uri_parts.specs.LiteralErrors.{digits_end, octet_end, octets_end}
 
 count_more : (text : List ℕ) (radix i : ℕ) → i < length text
     → is_digit (get_or text i 0) radix ≡ true

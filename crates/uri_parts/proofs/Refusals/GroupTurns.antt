@@ -4,10 +4,9 @@ use Rattle.std.proofs.Common.{List, drop, refl, sym, ap, ◌∙◌, arith, ◌&&
 use Rattle.std.specs.Prelude.{nat_lt}
 use Rattle.std.proofs.lemmas.Bool.{cond-true, cond-false, eq-eqb, ne_eqb, not_from_false}
 use Rattle.std.proofs.lemmas.Bool.{not_from_true}
-use Rattle.uri_parts.specs.Components.{starts}
-use Rattle.uri_parts.specs.Models.Parsing.{is_end}
-use Rattle.uri_parts.specs.Refusals.{Groups, Groups_end, Elision, Malformed, digits_end, ipv4_end}
-use Rattle.uri_parts.specs.Refusals.{behind_ipv4, groups_from}
+use Rattle.uri_parts.specs.Components.{starts, is_end}
+use Rattle.uri_parts.specs.LiteralErrors.{Groups, Groups_end, Elision, Malformed, digits_end}
+use Rattle.uri_parts.specs.LiteralErrors.{ipv4_end, after_ipv4, groups_from}
 
 pub none_left : (text : List ℕ) (n : ℕ) (is_first : Bool) (i : ℕ) → n ≡ 0
     → groups_from text n is_first i ≡ Groups_end 0 i
@@ -32,7 +31,7 @@ module _ (text : List ℕ) (n r : ℕ) (is_first : Bool) (i group end : ℕ) (e 
       (cond (nat_lt last (start + 4) && is_end (drop last text)) (Groups_end m last)
       (cond (colon && is_first || not colon && not is_first) Malformed
       (cond (nat_lt last (start + 4) && starts 46 (drop last text))
-      (cond (eqb k 0) Malformed (behind_ipv4 text (k - 1) (ipv4_end text start)))
+      (cond (eqb k 0) Malformed (after_ipv4 text (k - 1) (ipv4_end text start)))
       (groups_from text k false last))))
 
   turn : groups_from text n is_first i ≡ body n r group end
@@ -76,7 +75,7 @@ module _ (text : List ℕ) (n r : ℕ) (is_first : Bool) (i group end : ℕ) (e 
             ∙ cond-false _ _ _ apart ∙ cond-true _ _ _ d ∙ cond-true _ _ _ (eq-eqb r 0 z)
 
         pub dotted : (short && starts 46 (drop end text)) ≡ true → r ≢ 0
-            → groups_from text n is_first i ≡ behind_ipv4 text (r - 1) (ipv4_end text group)
+            → groups_from text n is_first i ≡ after_ipv4 text (r - 1) (ipv4_end text group)
         dotted d z = turn ∙ cond-false _ _ _ (ne_eqb end group some) ∙ cond-false _ _ _ within
             ∙ cond-false _ _ _ apart ∙ cond-true _ _ _ d ∙ cond-false _ _ _ (ne_eqb r 0 z)
 

@@ -12,9 +12,10 @@ use Rattle.std.proofs.lemmas.Bool.Decides.{nat_tests}
 use Rattle.uri_pct.specs.Delimiters.{full_stop, right_bracket}
 use Rattle.uri_pct.specs.Sets.{is_one_of, hexdig_set, ipv_future_set}
 use Rattle.uri_parts.specs.Components.{starts}
+use Rattle.uri_parts.specs.Errors.{unexpected, malformed_ipv6}
+use Rattle.uri_parts.specs.LiteralErrors.{closed, literal, ipv6_end, is_no_ipv6, digits_end}
+use Rattle.uri_parts.specs.Scanning.{scan_to_mark}
 use Rattle.uri_parts.specs.Models.Literals.{parses_literal, is_literal}
-use Rattle.uri_parts.specs.Refusals.{closed, literal, read_to, ipv6_end, is_no_ipv6, digits_end}
-use Rattle.uri_parts.specs.Refusals.{unexpected, no_address}
 use Rattle.uri_parts.proofs.HostForms.Addresses.{ipv6_value-complete}
 use Rattle.uri_parts.proofs.HostForms.Futures.{ipv6_lacks}
 use Rattle.uri_parts.proofs.HostForms.Ipv6Literals.{begins, place_behind}
@@ -59,8 +60,8 @@ module _ (text : List ℕ) (i : ℕ) where
   first_at = rw (get_or-drop i text 0 0, add-zero) refl
 
   pub lettered : (starts 118 (drop i text) || starts 86 (drop i text)) ≡ true
-      → literal text i ≡ read_to text hexdig_set full_stop
-      (read_to text ipv_future_set right_bracket (λ end. Ok end)) (i + 1)
+      → literal text i ≡ scan_to_mark text hexdig_set full_stop
+      (scan_to_mark text ipv_future_set right_bracket (λ end. Ok end)) (i + 1)
   unfolding literal is_no_ipv6
   lettered e =
       let l = letter_first (drop i text) e in
@@ -81,7 +82,7 @@ module _ (text : List ℕ) (i : ℕ) where
   closed_as some = cond-true _ _ _ (not_from_false _ some)
 
   pub error_none : is_no_ipv6 text i ≡ false → ipv6_end text i ≡ None
-      → literal text i ≡ Err (no_address i)
+      → literal text i ≡ Err (malformed_ipv6 i)
   error_none some e = closed_as some ∙ ap (closed text i) e
 
   -- what is read so with a `]` behind it is parsed

@@ -22,11 +22,10 @@ use Rattle.std.proofs.lemmas.List.{drop-drop, drop_more}
 use Rattle.std.proofs.lemmas.List.Folds.{drop_split}
 use Rattle.std.proofs.lemmas.Fmt.{decimal-digits_value, decimal_digit}
 use Rattle.std.proofs.lemmas.Str.Parse.{numerals_by_value, tells_digits}
-use Rattle.uri_parts.specs.Components.{starts}
-use Rattle.uri_parts.specs.Models.Parsing.{is_end}
-use Rattle.uri_parts.specs.Refusals.{Groups, Groups_end, Elision, Malformed, digits_end, octet_end}
-use Rattle.uri_parts.specs.Refusals.{octets_end, ipv4_end, behind_ipv4, groups_from, ipv6_end}
-use Rattle.uri_parts.specs.Refusals.{behind_groups, behind_elision}
+use Rattle.uri_parts.specs.Components.{starts, is_end}
+use Rattle.uri_parts.specs.LiteralErrors.{Groups, Groups_end, Elision, Malformed, digits_end}
+use Rattle.uri_parts.specs.LiteralErrors.{octet_end, octets_end, ipv4_end, after_ipv4, groups_from}
+use Rattle.uri_parts.specs.LiteralErrors.{ipv6_end, after_groups, after_elision}
 use Rattle.uri_parts.proofs.Refusals.Digits.{all_digits, digits_long}
 use Rattle.uri_parts.proofs.Refusals.GroupTurns.{none_left, ends, elides, lone, over, amiss}
 use Rattle.uri_parts.proofs.Refusals.GroupTurns.{dotted_full, dotted, goes_on}
@@ -230,7 +229,7 @@ module _ (text : List ℕ) where
   addressed : (r : ℕ) (is_first : Bool) (i group : ℕ) → r ≢ 0
       → drop i text ≡ lead is_first ++ drop group text
       → (o : Option ℕ) → ipv4_end text group ≡ o
-      → Sound (suc r) is_first i (behind_ipv4 text (r - 1) o)
+      → Sound (suc r) is_first i (after_ipv4 text (r - 1) o)
   addressed r is_first i group left led None e = tt
   addressed r is_first i group left led (Some last) e = λ z.
       let w = ipv4_sound group last e in
@@ -300,7 +299,7 @@ module _ (text : List ℕ) where
     pub is : IsColonHex address segments
 
   behind_elided : (i m e end : ℕ) → Reads false 8 true i m (58 ∷ 58 ∷ drop e text)
-      → (g : Groups) → Sound m true e g → behind_elision text g ≡ Some end
+      → (g : Groups) → Sound m true e g → after_elision text g ≡ Some end
       → is_end (drop end text) ≡ false → Holds i end
   behind_elided i m e end head (Groups_end room last) s b c =
       let q = cond_none (eqb room 0) (Some last) end b in
@@ -331,7 +330,7 @@ module _ (text : List ℕ) where
   behind_elided i m e end head (Elision room last) s b c = absurd (none-some end b)
   behind_elided i m e end head Malformed s b c = absurd (none-some end b)
 
-  behind_sound : (i end : ℕ) (g : Groups) → Sound 8 true i g → behind_groups text g ≡ Some end
+  behind_sound : (i end : ℕ) (g : Groups) → Sound 8 true i g → after_groups text g ≡ Some end
       → is_end (drop end text) ≡ false → Holds i end
   behind_sound i end (Groups_end room last) s b c =
       let q = cond_some (eqb room 0) last end b in

@@ -6,14 +6,16 @@ use Rattle.std.specs.Char.{is_ascii_alphabetic}
 use Rattle.std.proofs.lemmas.Bool.{cases_Bool, cond-true, cond-false, cases_lt, lt-ltb, le-ltb}
 use Rattle.uri_pct.specs.Sets.{TableSet, scheme_set, reg_name_set, userinfo_set}
 use Rattle.uri_pct.specs.Sets.{is_reg_name_char, is_userinfo_char, allows_past_ascii}
-use Rattle.uri_pct.specs.Models.Fronts.{front, allows_first}
-use Rattle.uri_pct.proofs.ValidTexts.Fronts.{front-within}
+use Rattle.uri_pct.specs.Prefixes.{valid_prefix, allows_first}
+use Rattle.uri_pct.proofs.ValidTexts.Prefixes.{valid_prefix-within}
 use Rattle.uri_parts.specs.Components.{has_authority}
+use Rattle.uri_parts.specs.Errors.{unexpected, stray_percent}
+use Rattle.uri_parts.specs.Refusals.{Refusal, ◌>>=◌, from_path, from_authority, from_relative_path}
+use Rattle.uri_parts.specs.Refusals.{from_hier, refusal}
+use Rattle.uri_parts.specs.Scanning.{is_next, scan_end}
 use Rattle.uri_parts.specs.Grammar.{Kind, first_segment_set, one_of_four}
-use Rattle.uri_parts.specs.Refusals.{Refusal, ◌>>=◌, sees, end_of, unexpected, stray_percent}
-use Rattle.uri_parts.specs.Refusals.{from_path, from_authority, from_relative, from_hier, refusal}
 use Rattle.uri_parts.specs.Models.ParseErrors.{hier_error, schemeless_error, parsed_error}
-use Rattle.uri_parts.proofs.Parsing.WholeTexts.{slashes_front, slashes_scanned}
+use Rattle.uri_parts.proofs.Parsing.WholeTexts.{slashes_prefix, slashes_scanned}
 use Rattle.uri_parts.proofs.Splitting.Relative.{scheme_lacks}
 use Rattle.uri_parts.proofs.Refusals.Names.{authority_is}
 use Rattle.uri_parts.proofs.Refusals.Rooted.{Adjoins}
@@ -23,30 +25,30 @@ use Rattle.uri_parts.proofs.Theorems.{tables_of}
 module _ (segment : TableSet) (kind : Kind) (w : Separates segment kind) (j : Adjoins kind)
     (text : List ℕ) where
   -- a first segment is read on from behind the characters of a scheme
-  segment_end : end_of text segment (front scheme_set text) ≡ end_of text segment 0
-  segment_end = sym (front-within scheme_set segment w.scheme_within scheme_lacks text)
+  segment_end : scan_end text segment (valid_prefix scheme_set text) ≡ scan_end text segment 0
+  segment_end = sym (valid_prefix-within scheme_set segment w.scheme_within scheme_lacks text)
       ∙ sym (zero-add _)
 
-  relative_on : from_relative kind text segment (front scheme_set text)
-      ≡ from_relative kind text segment 0
-  unfolding from_relative
+  relative_on : from_relative_path kind text segment (valid_prefix scheme_set text)
+      ≡ from_relative_path kind text segment 0
+  unfolding from_relative_path
   relative_on = ap (λ e.
-      (if segment.pct_encoded && sees text 37 e then Err (stray_percent e) else Ok e) >>= λ end.
-      if sees text 58 end then Some (unexpected end) else from_path kind text end) segment_end
+      (if segment.pct_encoded && is_next text 37 e then Err (stray_percent e) else Ok e) >>= λ end.
+      if is_next text 58 end then Some (unexpected end) else from_path kind text end) segment_end
 
   hier_is : (i : ℕ) → hier_error kind text i ≡ from_hier kind text i
   unfolding hier_error from_hier
   hier_is i = ap (λ r. cond (has_authority (drop i text)) r (from_path kind text i))
       (authority_is segment kind w j text (i + 2) (omega arith))
 
-  schemeless_is : schemeless_error segment kind text (front scheme_set text)
+  schemeless_is : schemeless_error segment kind text (valid_prefix scheme_set text)
       ≡ (if has_authority text then from_authority kind text 2
-      else from_relative kind text segment 0)
+      else from_relative_path kind text segment 0)
   unfolding schemeless_error
   schemeless_is = ⊎_elim
       (λ a. cond-true _ _ _ (slashes_scanned text ∙ a)
-      ∙ authority_is segment kind w j text (front scheme_set text + 2) (omega arith)
-      ∙ ap (λ n. from_authority kind text (n + 2)) (slashes_front text a)
+      ∙ authority_is segment kind w j text (valid_prefix scheme_set text + 2) (omega arith)
+      ∙ ap (λ n. from_authority kind text (n + 2)) (slashes_prefix text a)
       ∙ sym (cond-true _ _ _ a))
       (λ a. cond-false _ _ _ (slashes_scanned text ∙ a) ∙ relative_on ∙ sym (cond-false _ _ _ a))
       (cases_Bool (has_authority text))
@@ -54,15 +56,15 @@ module _ (segment : TableSet) (kind : Kind) (w : Separates segment kind) (j : Ad
   parsed_is : segment ≡ first_segment_set kind → parsed_error segment kind text ≡ refusal kind text
   unfolding parsed_error refusal
   parsed_is e =
-      let scheme : ℕ = end_of text scheme_set 0 in
-      let rest : Refusal → Refusal → Refusal = λ h r. cond (sees text 58 scheme)
+      let scheme : ℕ = scan_end text scheme_set 0 in
+      let rest : Refusal → Refusal → Refusal = λ h r. cond (is_next text 58 scheme)
       (cond (is_ascii_alphabetic (get_or text 0 0)) h (Some (unexpected 0)))
       (cond kind.needs_scheme (Some (unexpected scheme)) r) in
       ap (λ h. rest h (schemeless_error segment kind text scheme)) (hier_is (scheme + 1))
       ∙ ap (rest (from_hier kind text (scheme + 1)))
-      (ap (schemeless_error segment kind text) (zero-add (front scheme_set text)) ∙ schemeless_is
+      (ap (schemeless_error segment kind text) (zero-add (valid_prefix scheme_set text)) ∙ schemeless_is
       ∙ ap (λ s. cond (has_authority text) (from_authority kind text 2)
-      (from_relative kind text s 0)) e)
+      (from_relative_path kind text s 0)) e)
 
 -- what may stand in userinfo and in no name is `:`
 only_colon : (c : ℕ) → eqb c 58 ≡ false → is_reg_name_char c ≡ false → is_userinfo_char c ≡ false

@@ -10,9 +10,9 @@ use Rattle.std.proofs.lemmas.Bool.{and_parts, eqb-true, not_from_true, not-false
 use Rattle.std.proofs.lemmas.Bool.{false≢true, and_cases, false_from_ne_true, or_left}
 use Rattle.std.proofs.lemmas.Bool.Decides.{nat_tests}
 use Rattle.uri_pct.specs.Sets.{TableSet, LacksPercent, is_one_of, scheme_set}
-use Rattle.uri_pct.specs.Models.Fronts.{front_from, front, after, allows_first, begins_hex}
-use Rattle.uri_pct.proofs.ValidTexts.Cuts.{to_mark, excludes, front_zero_mark, front_cons}
-use Rattle.uri_pct.proofs.ValidTexts.Fronts.{front-after, front-within, none_scanned}
+use Rattle.uri_pct.specs.Prefixes.{valid_prefix_from, valid_prefix, after, allows_first, begins_hex}
+use Rattle.uri_pct.proofs.ValidTexts.Cuts.{to_mark, excludes, prefix_zero_mark, prefix_cons}
+use Rattle.uri_pct.proofs.ValidTexts.Prefixes.{valid_prefix-after, valid_prefix-within, none_scanned}
 use Rattle.uri_parts.specs.Components.{before_any, from_any, starts, has_scheme}
 use Rattle.uri_parts.specs.Grammar.{Kind, has_colon_first}
 use Rattle.uri_parts.specs.Models.Parsing.{is_stray, parses_end, parses_path, parses_relative}
@@ -25,7 +25,7 @@ use Rattle.uri_parts.proofs.Splitting.Cuts.{from_at_mark}
 -- where a scan stops at a mark it stops at the first
 pub stops_at : (marks : List ℕ) (mark : ℕ) → is_one_of marks mark ≡ true → (set : TableSet)
     → LacksPercent set → excludes set marks ≡ true → (bs : List ℕ) → IsUtf8 bs
-    → starts mark (after set bs) ≡ true → front set bs ≡ to_mark marks bs
+    → starts mark (after set bs) ≡ true → valid_prefix set bs ≡ to_mark marks bs
 stops_at marks mark m set lacks outside bs u e = ⊎_elim (λ h. h)
     (λ w. absurd (both_ways _ w.other
     (ap (is_one_of marks) (eqb-true w.byte mark (sym (ap (starts mark) w.left) ∙ e)) ∙ m)))
@@ -33,7 +33,7 @@ stops_at marks mark m set lacks outside bs u e = ⊎_elim (λ h. h)
 
 pub stops_at_colon : (set : TableSet) → LacksPercent set → excludes set (codes ":/?#") ≡ true
     → (bs : List ℕ) → IsUtf8 bs → starts 58 (after set bs) ≡ true
-    → front set bs ≡ to_mark (codes ":/?#") bs
+    → valid_prefix set bs ≡ to_mark (codes ":/?#") bs
 stops_at_colon = stops_at (codes ":/?#") 58 refl
 
 -- nothing is scanned of a text that begins with `:`
@@ -41,7 +41,7 @@ pub at_colon : (set : TableSet) → LacksPercent set → excludes set (codes ":/
     → (bs : List ℕ) → starts 58 bs ≡ true → after set bs ≡ bs
 at_colon set lacks outside [] e = absurd (false≢true e)
 at_colon set lacks outside (b ∷ rest) e =
-    ap (λ n. drop n (b ∷ rest)) (front_zero_mark (codes ":/?#") set lacks outside b rest
+    ap (λ n. drop n (b ∷ rest)) (prefix_zero_mark (codes ":/?#") set lacks outside b rest
     (ap (is_one_of (codes ":/?#")) (eqb-true b 58 e)))
 
 pub four_of_two : (b : ℕ) → is_one_of (codes "?#") b ≡ true → is_one_of (codes ":/?#") b ≡ true
@@ -126,26 +126,26 @@ module _ (segment : TableSet) (kind : Kind) (w : Separates segment kind) where
 
   -- where the first segment stops at no colon, the path stops too
   stuck_too : (b : ℕ) (rest : List ℕ) → is_one_of (codes ":/") b ≡ false
-      → front segment (b ∷ rest) ≡ 0 → front kind.path (b ∷ rest) ≡ 0
+      → valid_prefix segment (b ∷ rest) ≡ 0 → valid_prefix kind.path (b ∷ rest) ≡ 0
   stuck_too b rest e z =
-      let c = front_cons segment b rest in
-      front_cons kind.path b rest
-      ∙ ap (λ t. cond (t && eqb b 37) (cond (begins_hex rest) (front_from kind.path 2 rest + 1) 0)
-      (cond (allows_first kind.path b rest) (front_from kind.path (continuation_len b) rest + 1)
+      let c = prefix_cons segment b rest in
+      prefix_cons kind.path b rest
+      ∙ ap (λ t. cond (t && eqb b 37) (cond (begins_hex rest) (valid_prefix_from kind.path 2 rest + 1) 0)
+      (cond (allows_first kind.path b rest) (valid_prefix_from kind.path (continuation_len b) rest + 1)
       0)) w.octets
       ∙ ⊎_elim
       (λ o. cond-true _ _ _ o ∙ ⊎_elim
-      (λ h. absurd (none_scanned (front_from segment 2 rest)
+      (λ h. absurd (none_scanned (valid_prefix_from segment 2 rest)
       (sym (cond-true _ _ _ h) ∙ sym (cond-true _ _ _ o) ∙ sym c ∙ z)))
       (λ h. cond-false _ _ _ h) (cases_Bool (begins_hex rest)))
       (λ o. cond-false _ _ _ o ∙ ⊎_elim
-      (λ a. absurd (none_scanned (front_from segment (continuation_len b) rest)
+      (λ a. absurd (none_scanned (valid_prefix_from segment (continuation_len b) rest)
       (sym (cond-true _ _ _ a) ∙ sym (cond-false _ _ _ o) ∙ sym c ∙ z)))
       (λ a. cond-false _ _ _ (w.rest b rest e a)) (cases_Bool (allows_first segment b rest)))
       (cases_Bool (segment.pct_encoded && eqb b 37))
 
   path_stuck : (b : ℕ) (rest : List ℕ) → is_one_of (codes ":/?#") b ≡ false
-      → front segment (b ∷ rest) ≡ 0 → parses_path kind (b ∷ rest) ≡ false
+      → valid_prefix segment (b ∷ rest) ≡ 0 → parses_path kind (b ∷ rest) ≡ false
   unfolding parses_path
   path_stuck b rest e z =
       let p = none_of_four b e in
@@ -155,14 +155,14 @@ module _ (segment : TableSet) (kind : Kind) (w : Separates segment kind) where
       ∙ end_stuck segment kind w b rest p.1)
 
   pub after_within : (bs : List ℕ) → after kind.path (after segment bs) ≡ after kind.path bs
-  after_within bs = drop-drop (front kind.path (after segment bs)) (front segment bs) bs
-      ∙ ap (λ n. drop n bs) (sym (front-within segment kind.path w.within w.segment_lacks bs))
+  after_within bs = drop-drop (valid_prefix kind.path (after segment bs)) (valid_prefix segment bs) bs
+      ∙ ap (λ n. drop n bs) (sym (valid_prefix-within segment kind.path w.within w.segment_lacks bs))
 
   pub path_after : (bs : List ℕ) → parses_path kind (after segment bs) ≡ parses_path kind bs
   unfolding parses_path
   path_after bs = ap (λ r. not (is_stray kind.path r) && parses_end kind r) (after_within bs)
 
-  percent_path : (r : List ℕ) → starts 37 r ≡ true → front segment r ≡ 0 → is_stray segment r ≡ true
+  percent_path : (r : List ℕ) → starts 37 r ≡ true → valid_prefix segment r ≡ 0 → is_stray segment r ≡ true
       → parses_path kind r ≡ false
   unfolding parses_path
   percent_path [] e z s = absurd (false≢true e)
@@ -183,7 +183,7 @@ module _ (segment : TableSet) (kind : Kind) (w : Separates segment kind) where
       (λ s. and_left _ _ (not_from_true _ s)
       ∙ sym
       (and_right _ _
-      (percent_path (after segment bs) (and_parts _ _ s).1 (front-after segment bs) s)))
+      (percent_path (after segment bs) (and_parts _ _ s).1 (valid_prefix-after segment bs) s)))
       (λ s. ap (λ t. not t && (x && parses_path kind (after segment bs))) s)
       (cases_Bool (is_stray segment (after segment bs)))
 
@@ -208,8 +208,8 @@ module _ (segment : TableSet) (kind : Kind) (w : Separates segment kind) where
 
   -- what might have been a scheme is the beginning of the segment
   pub segment_within : (bs : List ℕ) → after segment (after scheme_set bs) ≡ after segment bs
-  segment_within bs = drop-drop (front segment (after scheme_set bs)) (front scheme_set bs) bs
-      ∙ ap (λ n. drop n bs) (sym (front-within scheme_set segment w.scheme_within scheme_lacks bs))
+  segment_within bs = drop-drop (valid_prefix segment (after scheme_set bs)) (valid_prefix scheme_set bs) bs
+      ∙ ap (λ n. drop n bs) (sym (valid_prefix-within scheme_set segment w.scheme_within scheme_lacks bs))
 
   pub relative_within : (bs : List ℕ)
       → parses_relative segment kind (after scheme_set bs) ≡ parses_relative segment kind bs

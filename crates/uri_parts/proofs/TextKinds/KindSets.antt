@@ -12,7 +12,7 @@ use Rattle.uri_pct.specs.Sets.{is_path_char, is_reg_name_char, is_userinfo_char,
 use Rattle.uri_pct.specs.Sets.{path_set, userinfo_set, reg_name_set, query_set, fragment_set}
 use Rattle.uri_pct.specs.Sets.{allows_past_ascii}
 use Rattle.uri_pct.specs.Tokens.{is_valid_for, tokens_of}
-use Rattle.uri_pct.specs.Models.Fronts.{allows_first}
+use Rattle.uri_pct.specs.Prefixes.{allows_first}
 use Rattle.uri_parts.specs.Grammar.{Kind, uri, uri_ref, iri, iri_ref, IsOfKind, first_segment_set}
 use Rattle.uri_parts.specs.Grammar.{one_of_four}
 use Rattle.uri_parts.specs.Components.{components}

@@ -3,7 +3,7 @@ use Rattle.std.proofs.Common.{◌≡◌, ℕ, true, false, List}
 use Rattle.std.specs.Prelude.{codes}
 use Rattle.uri_pct.specs.Sets.{TableSet, LacksPercent, IsSubset, is_one_of, scheme_set, digit_set}
 use Rattle.uri_pct.specs.Sets.{reg_name_set}
-use Rattle.uri_pct.specs.Models.Fronts.{allows_first}
+use Rattle.uri_pct.specs.Prefixes.{allows_first}
 use Rattle.uri_pct.proofs.ValidTexts.Cuts.{excludes}
 use Rattle.uri_parts.specs.Grammar.{Kind}
 
@@ -23,7 +23,7 @@ pub record Separates (segment : TableSet) (kind : Kind) : Type 0 where
   pub query_marks : excludes kind.query (codes "#") ≡ true
   pub segment_marks : excludes segment (codes ":/?#") ≡ true
   pub userinfo_starts : excludes kind.userinfo (codes "[") ≡ true
-  -- a name, `:` and digits are a front of userinfo, and an IPv4 address is a name
+  -- a name, `:` and digits are a prefix of userinfo, and an IPv4 address is a name
   pub name_within : IsSubset kind.reg_name kind.userinfo
   pub digits_within : IsSubset digit_set kind.userinfo
   pub colon_within : kind.userinfo.ascii 58 ≡ true

@@ -8,8 +8,8 @@ use Rattle.std.proofs.lemmas.List.{take_all}
 use Rattle.std.proofs.lemmas.Bool.{and_parts, eqb-true, not-true}
 use Rattle.uri_pct.specs.Sets.{TableSet, LacksPercent, is_one_of}
 use Rattle.uri_pct.specs.Tokens.{is_valid_for}
-use Rattle.uri_pct.specs.Models.Fronts.{front}
-use Rattle.uri_pct.proofs.ValidTexts.Cuts.{to_mark, excludes, of_each, front_le_mark}
+use Rattle.uri_pct.specs.Prefixes.{valid_prefix}
+use Rattle.uri_pct.proofs.ValidTexts.Cuts.{to_mark, excludes, of_each, prefix_le_mark}
 use Rattle.uri_pct.proofs.ValidTexts.Cuts.{valid_where_scanned}
 use Rattle.uri_parts.specs.Components.{Lacks, before_any}
 use Rattle.uri_parts.proofs.Splitting.Cuts.{IsCut-any}
@@ -41,8 +41,8 @@ mark_outside set marks outside c m =
 pub valid_lacks : (set : TableSet) (marks : List ℕ) → LacksPercent set → excludes set marks ≡ true
     → (text : List ℕ) → IsUtf8 text → is_valid_for set text ≡ true → Lacks marks text
 valid_lacks set marks lacks outside text u valid =
-    let scanned : front set text ≡ length text =
+    let scanned : valid_prefix set text ≡ length text =
     eqb-true _ _ (sym (valid_where_scanned set text lacks u) ∙ valid) in
-    let le : front set text ≤ to_mark marks text = front_le_mark marks set lacks outside text u in
+    let le : valid_prefix set text ≤ to_mark marks text = prefix_le_mark marks set lacks outside text u in
     let whole : before_any marks text ≡ text = take_all _ text (omega arith) in
     subst (Lacks marks) whole (IsCut-any marks text).lacks

@@ -3,7 +3,7 @@
 use Rattle.std.specs.Prelude.{ℕ, ◌+◌, Bool, true, ◌&&◌, ◌||◌, List, [], ◌∷◌, drop, codes}
 use Rattle.std.specs.Prelude.{if◌then◌else◌}
 use Rattle.uri_pct.specs.Sets.{digit_set, is_one_of}
-use Rattle.uri_pct.specs.Models.Fronts.{front, after}
+use Rattle.uri_pct.specs.Prefixes.{valid_prefix, after}
 use Rattle.uri_parts.specs.Components.{starts}
 use Rattle.uri_parts.specs.Grammar.{Kind}
 use Rattle.uri_parts.specs.Models.Literals.{parses_literal, literal_length}
@@ -17,11 +17,11 @@ begins_any marks (b ∷ rest) = is_one_of marks b
 
 -- `:` and digits, if they are next
 unfoldable pub port_length : List ℕ → ℕ
-port_length rest = if starts colon rest then 1 + front digit_set (drop 1 rest) else 0
+port_length rest = if starts colon rest then 1 + valid_prefix digit_set (drop 1 rest) else 0
 
 -- a registered name, perhaps with a port
 unfoldable pub name_length : Kind → List ℕ → ℕ
-name_length kind rest = front kind.reg_name rest + port_length (after kind.reg_name rest)
+name_length kind rest = valid_prefix kind.reg_name rest + port_length (after kind.reg_name rest)
 
 -- An authority ends where `/`, `?`, `#` or nothing follows. Most are a registered name, perhaps
 -- with a port.
@@ -31,7 +31,7 @@ finds_name kind rest = begins_any (codes "/?#") (drop (name_length kind rest) re
 -- a host: an address in brackets if `[` is next, and else a registered name
 unfoldable pub host_end : Kind → List ℕ → ℕ
 host_end kind rest =
-    if starts left_bracket rest then 1 + literal_length (drop 1 rest) else front kind.reg_name rest
+    if starts left_bracket rest then 1 + literal_length (drop 1 rest) else valid_prefix kind.reg_name rest
 
 -- a host, perhaps with a port
 unfoldable pub host_length : Kind → List ℕ → ℕ
@@ -44,9 +44,9 @@ unfoldable pub finds_host : Kind → List ℕ → Bool
 finds_host kind rest =
     passes_host rest && begins_any (codes "/?#") (drop (host_length kind rest) rest)
 
--- what was passed as a name and a port is the front of userinfo, which goes on from there
+-- what was passed as a name and a port is a prefix of userinfo, which goes on from there
 unfoldable pub more_user : Kind → List ℕ → ℕ
-more_user kind rest = if starts at_sign rest then 0 else front kind.userinfo rest
+more_user kind rest = if starts at_sign rest then 0 else valid_prefix kind.userinfo rest
 
 unfoldable pub user_length : Kind → List ℕ → ℕ
 user_length kind rest =
@@ -93,7 +93,7 @@ found_authority kind place rest =
     then record {
       start = place;
       host_start = place;
-      host_end = place + front kind.reg_name rest;
+      host_end = place + valid_prefix kind.reg_name rest;
       end = place + name_length kind rest;
     }
     else other_authority kind place rest

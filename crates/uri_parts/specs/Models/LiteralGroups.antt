@@ -3,7 +3,7 @@ use Rattle.std.specs.Prelude.{ℕ, List, ⊤}
 use Rattle.std.specs.Str.{IsCharBoundary}
 use Rattle.uri_parts.specs.declared.literal.GroupsEnd.{GroupsEnd}
 use Rattle.uri_parts.specs.declared.literal.GroupsEnd.TheVariants as Of
-use Rattle.uri_parts.specs.Refusals.{Groups, Groups_end, Elision, Malformed}
+use Rattle.uri_parts.specs.LiteralErrors.{Groups, Groups_end, Elision, Malformed}
 
 abbrev pub groups_of : GroupsEnd → Groups
 groups_of (Of.End room end) = Groups_end room end

@@ -13,7 +13,7 @@ use Rattle.uri_parts.specs.declared.error.ParseErrorKind.TheVariants.{InvalidIpv
 use Rattle.uri_parts.specs.Components.{starts, before_any, from_any}
 use Rattle.uri_parts.specs.Hosts.{ipv6_value, is_ipv_future}
 use Rattle.uri_pct.specs.Delimiters.{full_stop, right_bracket}
-use Rattle.uri_pct.specs.Models.Fronts.{front, after}
+use Rattle.uri_pct.specs.Prefixes.{valid_prefix, after}
 use Rattle.uri_pct.specs.Sets.{TableSet, hexdig_set, ipv_future_set}
 
 -- so many hexadecimal digits come first: all of them, or five
@@ -48,10 +48,10 @@ literal_length rest = length (literal_before rest) + 1
 
 -- one or more characters of the set come first, and then the mark
 unfoldable pub parses_marked : TableSet → ℕ → List ℕ → Bool
-parses_marked set mark rest = nat_lt 0 (front set rest) && starts mark (after set rest)
+parses_marked set mark rest = nat_lt 0 (valid_prefix set rest) && starts mark (after set rest)
 
 unfoldable pub length_to_mark : TableSet → List ℕ → ℕ
-length_to_mark set rest = front set rest + 1
+length_to_mark set rest = valid_prefix set rest + 1
 
 -- what is left behind a version and its `.`
 abbrev pub behind_version : List ℕ → List ℕ

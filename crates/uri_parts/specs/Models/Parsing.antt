@@ -1,11 +1,11 @@
 -- What the parser takes, as functions of the text that is left: RFC 3986, sections 3 and 4.1.
-use Rattle.std.specs.Prelude.{ℕ, ◌+◌, Bool, true, false, not, ◌&&◌, ◌==◌, List}
-use Rattle.std.specs.Prelude.{[], ◌∷◌, drop, slice_index, Option, Some, None, if◌then◌else◌}
+use Rattle.std.specs.Prelude.{ℕ, ◌+◌, Bool, not, ◌&&◌, ◌==◌, List}
+use Rattle.std.specs.Prelude.{drop, slice_index, Option, Some, None, if◌then◌else◌}
 use Rattle.std.specs.Char.{is_ascii_alphabetic}
 use Rattle.uri_pct.specs.Sets.{TableSet, scheme_set}
-use Rattle.uri_pct.specs.Models.Fronts.{front, after}
+use Rattle.uri_pct.specs.Prefixes.{valid_prefix, after}
 use Rattle.uri_parts.specs.Models.AuthorityParsing.{finds_authority, found_length, found_authority}
-use Rattle.uri_parts.specs.Components.{starts, has_authority}
+use Rattle.uri_parts.specs.Components.{starts, has_authority, is_end}
 use Rattle.uri_parts.specs.Grammar.{Kind}
 use Rattle.uri_parts.specs.declared.positions.Positions.{Positions}
 use Rattle.uri_parts.specs.declared.positions.AuthorityPositions.{AuthorityPositions}
@@ -15,13 +15,9 @@ use Rattle.uri_pct.specs.Delimiters.{colon, number_sign, percent_sign, question_
 abbrev pub is_stray : TableSet → List ℕ → Bool
 is_stray set rest = set.pct_encoded && starts percent_sign rest
 
--- what follows the longest front that the set allows is taken by a test
+-- what follows the longest prefix that the set allows is taken by a test
 abbrev pub parses_after : TableSet → (List ℕ → Bool) → List ℕ → Bool
 parses_after set test rest = not (is_stray set (after set rest)) && test (after set rest)
-
-unfoldable pub is_end : List ℕ → Bool
-is_end [] = true
-is_end (b ∷ rest) = false
 
 -- a fragment if there is one, and then the end
 unfoldable pub parses_fragment : Kind → List ℕ → Bool
@@ -65,18 +61,18 @@ parses segment kind text =
     then is_ascii_alphabetic (slice_index text 0)
     && parses_hier kind (drop 1 (after scheme_set text))
     else not kind.needs_scheme
-    && parses_schemeless segment kind (front scheme_set text) (after scheme_set text)
+    && parses_schemeless segment kind (valid_prefix scheme_set text) (after scheme_set text)
 
 -- where the query ends that begins at a place
 unfoldable pub query_end_at : Kind → ℕ → List ℕ → Option ℕ
 query_end_at kind place rest =
-    if starts question_mark rest then Some (place + 1 + front kind.query (drop 1 rest)) else None
+    if starts question_mark rest then Some (place + 1 + valid_prefix kind.query (drop 1 rest)) else None
 
 -- the positions, where the path begins at `start` and the text is parsed up to `place` within it
 unfoldable pub path_positions : Kind → Option ℕ → Option AuthorityPositions → ℕ → ℕ → List ℕ
     → Positions
 path_positions kind scheme_end authority start place rest =
-    let end = place + front kind.path rest in
+    let end = place + valid_prefix kind.path rest in
     record {
       scheme_end = scheme_end;
       authority = authority;
@@ -98,7 +94,7 @@ hier_positions kind scheme_end place rest =
 
 unfoldable pub relative_positions : TableSet → Kind → ℕ → List ℕ → Positions
 relative_positions segment kind place rest =
-    path_positions kind None None 0 (place + front segment rest) (after segment rest)
+    path_positions kind None None 0 (place + valid_prefix segment rest) (after segment rest)
 
 unfoldable pub schemeless_positions : TableSet → Kind → ℕ → List ℕ → Positions
 schemeless_positions segment kind passed rest =
@@ -107,7 +103,7 @@ schemeless_positions segment kind passed rest =
 
 unfoldable pub parsed_positions : TableSet → Kind → List ℕ → Positions
 parsed_positions segment kind text =
-    let passed = front scheme_set text in
+    let passed = valid_prefix scheme_set text in
     if starts colon (after scheme_set text)
     then hier_positions kind (Some passed) (passed + 1) (drop 1 (after scheme_set text))
     else schemeless_positions segment kind passed (after scheme_set text)

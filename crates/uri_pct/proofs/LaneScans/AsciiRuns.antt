@@ -5,16 +5,16 @@ use Rattle.std.proofs.Common.{drop, arith, subst}
 use Rattle.std.specs.Str.{IsUtf8, IsCharBoundary}
 use Rattle.std.proofs.lemmas.Str.{IsCharBoundary-after_ascii}
 use Rattle.uri_pct.specs.Sets.{TableSet, LacksPercent}
-use Rattle.uri_pct.specs.Models.Fronts.{front}
+use Rattle.uri_pct.specs.Prefixes.{valid_prefix}
 use Rattle.uri_pct.specs.Models.ByteRuns.{IsRun}
-use Rattle.uri_pct.proofs.ValidTexts.Fronts.{front-char}
+use Rattle.uri_pct.proofs.ValidTexts.Prefixes.{valid_prefix-char}
 
 module _ (set : TableSet) (lacks : LacksPercent set)
     (ascii : (b : ℕ) → set.ascii b ≡ true → b < 128) (bs : List ℕ) (u : IsUtf8 bs) (start : ℕ)
     (here : IsCharBoundary bs start) where
   abbrev IsScannedTo : ℕ → Type 0
   IsScannedTo i =
-      (i + front set (drop i bs) ≡ start + front set (drop start bs)) × IsCharBoundary bs i
+      (i + valid_prefix set (drop i bs) ≡ start + valid_prefix set (drop start bs)) × IsCharBoundary bs i
 
   goes_on : (n : ℕ) → start + n ≤ length bs
       → ((k : ℕ) → start ≤ k → k < start + n → set.ascii (get_or bs k 0) ≡ true)
@@ -25,7 +25,7 @@ module _ (set : TableSet) (lacks : LacksPercent set)
       let before = goes_on n (omega arith) (λ k from to. pass k from (omega arith)) in
       let held = pass (start + n) (omega arith) (omega arith) in
       let below = ascii (get_or bs (start + n) 0) held in
-      let step = front-char set lacks bs (start + n) (omega arith) below held in
+      let step = valid_prefix-char set lacks bs (start + n) (omega arith) below held in
       let next : start + n + 1 ≡ start + suc n = omega arith in
       subst IsScannedTo next (
         omega (arith, before.0, step),
@@ -34,7 +34,7 @@ module _ (set : TableSet) (lacks : LacksPercent set)
       )
 
   pub run_scanned : (end : ℕ) → IsRun set.ascii bs start end
-      → (end + front set (drop end bs) ≡ start + front set (drop start bs)) × IsCharBoundary bs end
+      → (end + valid_prefix set (drop end bs) ≡ start + valid_prefix set (drop start bs)) × IsCharBoundary bs end
   run_scanned end run =
       let f = run.from in
       let w = run.within in

@@ -83,7 +83,7 @@ print-encodes (t ∷ ts) e =
     ∙ ap (λ x. x ++ encode_utf8_all (flat_map chars_of_token ts)) (token_encodes t p.0)
     ∙ ap (λ x. text_of_token t ++ x) (sym (print-encodes ts p.1)))
 
-scalars-append : (xs ys : List ℕ) → all_scalars xs ≡ true → all_scalars ys ≡ true
+pub scalars-append : (xs ys : List ℕ) → all_scalars xs ≡ true → all_scalars ys ≡ true
     → all_scalars (xs ++ ys) ≡ true
 scalars-append [] ys e f = f
 scalars-append (x ∷ xs) ys e f = let p = and_parts _ (all_scalars xs) e in

@@ -9,7 +9,7 @@ use Rattle.std.proofs.lemmas.Str.{chars-encodes, encode_ascii}
 use Rattle.std.proofs.lemmas.Bool.{cases_lt, cond-true, cond-false, and_left, and_from, lt-ltb}
 use Rattle.std.proofs.lemmas.Bool.{le-ltb}
 use Rattle.std.proofs.lemmas.Bool.Decides.{nat_tests}
-use Rattle.uri_pct.specs.Models.Fronts.{begins_hex, first_char}
+use Rattle.uri_pct.specs.Prefixes.{begins_hex, first_char}
 use Rattle.uri_pct.proofs.TableSets.Constants.{hexdigit_past}
 
 -- a byte that is not ASCII

@@ -18,7 +18,7 @@ use Rattle.std.proofs.lemmas.Bool.{false≢true}
 use Rattle.std.proofs.lemmas.Bool.Decides.{nat_tests}
 use Rattle.uri_pct.specs.Sets.{TableSet, LacksPercent, is_one_of}
 use Rattle.uri_pct.specs.Tokens.{is_valid_for}
-use Rattle.uri_pct.specs.Models.Fronts.{begins_hex, first_char, allows_first, front_from, front}
+use Rattle.uri_pct.specs.Prefixes.{begins_hex, first_char, allows_first, valid_prefix_from, valid_prefix}
 use Rattle.uri_pct.proofs.Unicode.Characters.{bytes_of_char, is_high, hex_ascii}
 use Rattle.uri_pct.proofs.ValidTexts.Validity.{valid_from, valid_cons, is_valid_for-bytes}
 use Rattle.uri_pct.proofs.ValidTexts.Validity.{allows_first-ascii}
@@ -88,12 +88,12 @@ cond_le : (b : Bool) (x y m : ℕ) → (b ≡ true → x ≤ m) → (b ≡ false
 cond_le true x y m f g = f refl
 cond_le false x y m f g = g refl
 
-pub front_cons : (set : TableSet) (b : ℕ) (bs : List ℕ)
-    → front_from set 0 (b ∷ bs)
-    ≡ cond (set.pct_encoded && eqb b 37) (cond (begins_hex bs) (front_from set 2 bs + 1) 0)
-    (cond (allows_first set b bs) (front_from set (continuation_len b) bs + 1) 0)
-unfolding front_from
-front_cons set b bs = refl
+pub prefix_cons : (set : TableSet) (b : ℕ) (bs : List ℕ)
+    → valid_prefix_from set 0 (b ∷ bs)
+    ≡ cond (set.pct_encoded && eqb b 37) (cond (begins_hex bs) (valid_prefix_from set 2 bs + 1) 0)
+    (cond (allows_first set b bs) (valid_prefix_from set (continuation_len b) bs + 1) 0)
+unfolding valid_prefix_from
+prefix_cons set b bs = refl
 
 pub mark_len : (marks : List ℕ) (b : ℕ) (rest : List ℕ) → is_one_of marks b ≡ true
     → to_mark marks (b ∷ rest) ≡ 0
@@ -243,15 +243,15 @@ module _ (marks : List ℕ) (set : TableSet) (lacks : LacksPercent set)
       (and_from _ _ (not_from_false _ (hex_no_mark b p.1)) t)
 
   cut_octet : (b : ℕ) (bs : List ℕ) → (set.pct_encoded && eqb b 37) ≡ true
-      → valid_from set 2 (take (to_mark marks bs) bs) ≡ eqb (front_from set 2 bs) (to_mark marks bs)
+      → valid_from set 2 (take (to_mark marks bs) bs) ≡ eqb (valid_prefix_from set 2 bs) (to_mark marks bs)
       → begins_hex bs ≡ true
       → valid_from set 0 (b ∷ take (to_mark marks bs) bs)
-      ≡ eqb (front_from set 0 (b ∷ bs)) (suc (to_mark marks bs))
+      ≡ eqb (valid_prefix_from set 0 (b ∷ bs)) (suc (to_mark marks bs))
   cut_octet b bs o ih h =
       valid_cons set b _ ∙ cond-true _ _ _ (and_from _ _ o (hex_two bs ∙ h)) ∙ ih
-      ∙ sym (eqb_step (front_from set 2 bs) (to_mark marks bs))
+      ∙ sym (eqb_step (valid_prefix_from set 2 bs) (to_mark marks bs))
       ∙ sym (ap (λ n. eqb n (suc (to_mark marks bs)))
-      (front_cons set b bs ∙ cond-true _ _ _ o ∙ cond-true _ _ _ h))
+      (prefix_cons set b bs ∙ cond-true _ _ _ o ∙ cond-true _ _ _ h))
 
   percent_first : (b : ℕ) (bs : List ℕ) → eqb b 37 ≡ true → allows_first set b bs ≡ false
   percent_first b bs e = let d = eqb-true b 37 e in allows_first-ascii set b bs (omega arith)
@@ -259,49 +259,49 @@ module _ (marks : List ℕ) (set : TableSet) (lacks : LacksPercent set)
 
   cut_stray : (b : ℕ) (bs : List ℕ) → (set.pct_encoded && eqb b 37) ≡ true → begins_hex bs ≡ false
       → valid_from set 0 (b ∷ take (to_mark marks bs) bs)
-      ≡ eqb (front_from set 0 (b ∷ bs)) (suc (to_mark marks bs))
+      ≡ eqb (valid_prefix_from set 0 (b ∷ bs)) (suc (to_mark marks bs))
   cut_stray b bs o h =
       valid_cons set b _ ∙ cond-false _ _ _ (and_right _ _ (hex_two bs ∙ h))
       ∙ and_left _ _ (percent_first b _ (and_parts _ _ o).1) ∙ sym (eqb_zero (to_mark marks bs))
       ∙ sym (ap (λ n. eqb n (suc (to_mark marks bs)))
-      (front_cons set b bs ∙ cond-true _ _ _ o ∙ cond-false _ _ _ h))
+      (prefix_cons set b bs ∙ cond-true _ _ _ o ∙ cond-false _ _ _ h))
 
   cut_char : (b : ℕ) (bs : List ℕ) → (set.pct_encoded && eqb b 37) ≡ false
       → skips marks (continuation_len b) bs ≡ true
       → valid_from set (continuation_len b) (take (to_mark marks bs) bs)
-      ≡ eqb (front_from set (continuation_len b) bs) (to_mark marks bs)
+      ≡ eqb (valid_prefix_from set (continuation_len b) bs) (to_mark marks bs)
       → valid_from set 0 (b ∷ take (to_mark marks bs) bs)
-      ≡ eqb (front_from set 0 (b ∷ bs)) (suc (to_mark marks bs))
+      ≡ eqb (valid_prefix_from set 0 (b ∷ bs)) (suc (to_mark marks bs))
   cut_char b bs o s ih =
       let m = to_mark marks bs in
       let k = continuation_len b in
       valid_cons set b _ ∙ cond-false _ _ _ (and_left _ _ o)
       ∙ ap (λ t. t && valid_from set k (take m bs)) (first_before set marks b bs s)
       ∙ ⊎_elim (λ a. ap (λ t. t && valid_from set k (take m bs)) a ∙ ih
-      ∙ sym (eqb_step (front_from set k bs) m)
+      ∙ sym (eqb_step (valid_prefix_from set k bs) m)
       ∙ sym (ap (λ n. eqb n (suc m)) (cond-true _ _ _ a)))
       (λ a. and_left _ _ a ∙ sym (eqb_zero m) ∙ sym (ap (λ n. eqb n (suc m)) (cond-false _ _ _ a)))
       (cases_Bool (allows_first set b bs))
-      ∙ sym (ap (λ n. eqb n (suc m)) (front_cons set b bs ∙ cond-false _ _ _ o))
+      ∙ sym (ap (λ n. eqb n (suc m)) (prefix_cons set b bs ∙ cond-false _ _ _ o))
 
-  pub front_zero_mark : (b : ℕ) (bs : List ℕ) → is_one_of marks b ≡ true
-      → front_from set 0 (b ∷ bs) ≡ 0
-  front_zero_mark b bs e =
-      front_cons set b bs ∙ cond-false _ _ _ (and_right _ _ (mark_percent set marks outside b e))
+  pub prefix_zero_mark : (b : ℕ) (bs : List ℕ) → is_one_of marks b ≡ true
+      → valid_prefix_from set 0 (b ∷ bs) ≡ 0
+  prefix_zero_mark b bs e =
+      prefix_cons set b bs ∙ cond-false _ _ _ (and_right _ _ (mark_percent set marks outside b e))
       ∙ cond-false _ _ _ (allows_first-ascii set b bs (ascii b e) ∙ mark_char set marks outside b e)
 
   cut_from : (k : ℕ) (bs : List ℕ) → skips marks k bs ≡ true
-      → valid_from set k (take (to_mark marks bs) bs) ≡ eqb (front_from set k bs) (to_mark marks bs)
-  unfolding valid_from front_from skips
+      → valid_from set k (take (to_mark marks bs) bs) ≡ eqb (valid_prefix_from set k bs) (to_mark marks bs)
+  unfolding valid_from valid_prefix_from skips
   cut_from zero [] s = refl
   cut_from (suc k) [] s = refl
   cut_from (suc k) (b ∷ bs) s =
       let p = and_parts _ _ s in
       let e = not-true _ p.0 in
       rw (other_len marks b bs e) (cut_from k bs p.1
-      ∙ sym (eqb_step (front_from set k bs) (to_mark marks bs)))
+      ∙ sym (eqb_step (valid_prefix_from set k bs) (to_mark marks bs)))
   cut_from zero (b ∷ bs) s = ⊎_elim
-      (λ e. rw (mark_len marks b bs e) (sym (ap (λ n. eqb n 0) (front_zero_mark b bs e))))
+      (λ e. rw (mark_len marks b bs e) (sym (ap (λ n. eqb n 0) (prefix_zero_mark b bs e))))
       (λ e. rw (other_len marks b bs e) (⊎_elim
       (λ o. let t = percent_rest marks b bs (and_parts _ _ o).1 s in
       ⊎_elim (λ h. cut_octet b bs o (cut_from 2 bs (two_digits bs h t)) h) (λ h. cut_stray b bs o h)
@@ -310,48 +310,48 @@ module _ (marks : List ℕ) (set : TableSet) (lacks : LacksPercent set)
       (cases_Bool (set.pct_encoded && eqb b 37))))
       (cases_Bool (is_one_of marks b))
 
-  front_le_any : (b : ℕ) (bs : List ℕ)
+  prefix_le_any : (b : ℕ) (bs : List ℕ)
       → ((set.pct_encoded && eqb b 37) ≡ true → begins_hex bs ≡ true
-      → front_from set 2 bs ≤ to_mark marks bs)
-      → front_from set (continuation_len b) bs ≤ to_mark marks bs
-      → front_from set 0 (b ∷ bs) ≤ suc (to_mark marks bs)
-  front_le_any b bs two one =
+      → valid_prefix_from set 2 bs ≤ to_mark marks bs)
+      → valid_prefix_from set (continuation_len b) bs ≤ to_mark marks bs
+      → valid_prefix_from set 0 (b ∷ bs) ≤ suc (to_mark marks bs)
+  prefix_le_any b bs two one =
       let m = to_mark marks bs in
       let k = continuation_len b in
-      rw (front_cons set b bs) (cond_le (set.pct_encoded && eqb b 37)
-      (cond (begins_hex bs) (front_from set 2 bs + 1) 0)
-      (cond (allows_first set b bs) (front_from set k bs + 1) 0) (suc m)
-      (λ o. cond_le (begins_hex bs) (front_from set 2 bs + 1) 0 (suc m)
+      rw (prefix_cons set b bs) (cond_le (set.pct_encoded && eqb b 37)
+      (cond (begins_hex bs) (valid_prefix_from set 2 bs + 1) 0)
+      (cond (allows_first set b bs) (valid_prefix_from set k bs + 1) 0) (suc m)
+      (λ o. cond_le (begins_hex bs) (valid_prefix_from set 2 bs + 1) 0 (suc m)
       (λ h. let l = two o h in omega arith) (λ _. omega arith))
-      (λ _. cond_le (allows_first set b bs) (front_from set k bs + 1) 0 (suc m) (λ _. omega arith)
+      (λ _. cond_le (allows_first set b bs) (valid_prefix_from set k bs + 1) 0 (suc m) (λ _. omega arith)
       (λ _. omega arith)))
 
-  front_le : (k : ℕ) (bs : List ℕ) → skips marks k bs ≡ true
-      → front_from set k bs ≤ to_mark marks bs
-  unfolding front_from skips
-  front_le zero [] s = omega arith
-  front_le (suc k) [] s = omega arith
-  front_le (suc k) (b ∷ bs) s =
+  prefix_le : (k : ℕ) (bs : List ℕ) → skips marks k bs ≡ true
+      → valid_prefix_from set k bs ≤ to_mark marks bs
+  unfolding valid_prefix_from skips
+  prefix_le zero [] s = omega arith
+  prefix_le (suc k) [] s = omega arith
+  prefix_le (suc k) (b ∷ bs) s =
       let p = and_parts _ _ s in
-      rw (other_len marks b bs (not-true _ p.0)) (let h = front_le k bs p.1 in omega arith)
-  front_le zero (b ∷ bs) s = ⊎_elim
-      (λ e. rw (front_zero_mark b bs e) (omega arith))
-      (λ e. rw (other_len marks b bs e) (front_le_any b bs
-      (λ o h. front_le 2 bs (two_digits bs h (percent_rest marks b bs (and_parts _ _ o).1 s)))
-      (front_le (continuation_len b) bs s)))
+      rw (other_len marks b bs (not-true _ p.0)) (let h = prefix_le k bs p.1 in omega arith)
+  prefix_le zero (b ∷ bs) s = ⊎_elim
+      (λ e. rw (prefix_zero_mark b bs e) (omega arith))
+      (λ e. rw (other_len marks b bs e) (prefix_le_any b bs
+      (λ o h. prefix_le 2 bs (two_digits bs h (percent_rest marks b bs (and_parts _ _ o).1 s)))
+      (prefix_le (continuation_len b) bs s)))
       (cases_Bool (is_one_of marks b))
 
   -- a scan ends at the mark exactly where what is before it is valid
   pub cut : (text : List ℕ) → IsUtf8 text
       → is_valid_for set (take (to_mark marks text) text)
-      ≡ eqb (front set text) (to_mark marks text)
+      ≡ eqb (valid_prefix set text) (to_mark marks text)
   cut text u =
       is_valid_for-bytes set lacks _ (IsUtf8-take text _ u (mark_boundary marks ascii text))
       ∙ cut_from 0 text (skips_text marks ascii text u)
 
   -- a scan ends at the first mark, or before it
-  pub front_le_mark : (text : List ℕ) → IsUtf8 text → front set text ≤ to_mark marks text
-  front_le_mark text u = front_le 0 text (skips_text marks ascii text u)
+  pub prefix_le_mark : (text : List ℕ) → IsUtf8 text → valid_prefix set text ≤ to_mark marks text
+  prefix_le_mark text u = prefix_le 0 text (skips_text marks ascii text u)
 
 none_len : (text : List ℕ) → to_mark [] text ≡ length text
 none_len text = prefix_len_is (λ c. not (is_one_of [] c)) text (length text) 0 (omega arith)
@@ -359,8 +359,8 @@ none_len text = prefix_len_is (λ c. not (is_one_of [] c)) text (length text) 0 
 
 -- a text is valid where it is scanned to its end
 pub valid_where_scanned : (set : TableSet) (text : List ℕ) → LacksPercent set → IsUtf8 text
-    → is_valid_for set text ≡ eqb (front set text) (length text)
+    → is_valid_for set text ≡ eqb (valid_prefix set text) (length text)
 valid_where_scanned set text lacks u =
     ap (is_valid_for set) (sym (take_all (length text) text (omega arith))
     ∙ ap (λ n. take n text) (sym (none_len text)))
-    ∙ cut [] set lacks refl text u ∙ ap (eqb (front set text)) (none_len text)
+    ∙ cut [] set lacks refl text u ∙ ap (eqb (valid_prefix set text)) (none_len text)

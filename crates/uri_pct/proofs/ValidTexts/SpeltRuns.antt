@@ -6,10 +6,10 @@ use Rattle.std.specs.Str.{IsUtf8, IsCharBoundary}
 use Rattle.std.proofs.lemmas.Str.{IsCharBoundary-after_ascii}
 use Rattle.std.proofs.lemmas.Bool.{cases_Bool, cases_lt, and_parts, both_ways, false_from_ne_true}
 use Rattle.uri_pct.specs.Sets.{TableSet, LacksPercent}
-use Rattle.uri_pct.specs.Models.Fronts.{front}
+use Rattle.uri_pct.specs.Prefixes.{valid_prefix}
 use Rattle.uri_pct.specs.Texts.{has_digits}
 use Rattle.uri_pct.specs.Models.ByteRuns.{AreSpelt}
-use Rattle.uri_pct.proofs.ValidTexts.Fronts.{front-char, front-octet, digits-ascii}
+use Rattle.uri_pct.proofs.ValidTexts.Prefixes.{valid_prefix-char, valid_prefix-octet, digits-ascii}
 
 -- bytes and octets that are lanes from i on, of which octets begin where `oct` tells
 module _ (set : TableSet) (lacks : LacksPercent set) (pct : set.pct_encoded ≡ true)
@@ -26,7 +26,7 @@ module _ (set : TableSet) (lacks : LacksPercent set) (pct : set.pct_encoded ≡ 
   IsFresh k = (j : ℕ) → j < k → k ≤ j + 2 → oct j ≡ false
 
   abbrev IsScanned : ℕ → Type 0
-  IsScanned k = (i + n + front set (drop (i + n) bs) ≡ i + k + front set (drop (i + k) bs))
+  IsScanned k = (i + n + valid_prefix set (drop (i + n) bs) ≡ i + k + valid_prefix set (drop (i + k) bs))
       × IsCharBoundary bs (i + n)
 
   plain : (k : ℕ) → (get_or bs (i + k) 0 ≡ 37 → ⊥) → oct k ≡ false
@@ -59,7 +59,7 @@ module _ (set : TableSet) (lacks : LacksPercent set) (pct : set.pct_encoded ≡ 
 
   stay : (k : ℕ) → n ≡ k → IsCharBoundary bs (i + k) → IsScanned k
   stay k e b = (
-    ap (λ m. i + m + front set (drop (i + m) bs)) e,
+    ap (λ m. i + m + valid_prefix set (drop (i + m) bs)) e,
     subst (λ m. IsCharBoundary bs (i + m))
         (sym e) b,
   )
@@ -71,42 +71,42 @@ module _ (set : TableSet) (lacks : LacksPercent set) (pct : set.pct_encoded ≡ 
       (λ o.
       let w = whole k inside o in
       let p = percent k o in
-      let e = front-octet set bs (i + k) (omega arith) pct p (digits k o) in
+      let e = valid_prefix-octet set bs (i + k) (omega arith) pct p (digits k o) in
       let next : i + k + 3 ≡ i + (k + 3) = omega arith in
       let last : i + k + 2 + 1 ≡ i + (k + 3) = omega arith in
       let behind = IsCharBoundary-after_ascii bs (i + k + 2) u (omega arith)
       (digits-ascii bs (i + k) (digits k o)) in
       let r : IsScanned (k + 3) = walk steps (k + 3) (omega arith) w (fresh_3 k o)
       (subst (IsCharBoundary bs) last behind) in
-      let f : front set (drop (i + k) bs) ≡ front set (drop (i + (k + 3)) bs) + 3 = e
-      ∙ ap (λ m. front set (drop m bs) + 3) next in
+      let f : valid_prefix set (drop (i + k) bs) ≡ valid_prefix set (drop (i + (k + 3)) bs) + 3 = e
+      ∙ ap (λ m. valid_prefix set (drop m bs) + 3) next in
       (omega (arith, r.0, f), r.1))
       (λ o.
       let a = held k inside o fresh in
-      let e = front-char set lacks bs (i + k) (omega arith) (ascii _ a) a in
+      let e = valid_prefix-char set lacks bs (i + k) (omega arith) (ascii _ a) a in
       let next : i + k + 1 ≡ i + (k + 1) = omega arith in
       let behind = IsCharBoundary-after_ascii bs (i + k) u (omega arith) (ascii _ a) in
       let r : IsScanned (k + 1) = walk steps (k + 1) (omega arith) (omega arith) (fresh_1 k fresh o)
       (subst (IsCharBoundary bs) next behind) in
-      let f : front set (drop (i + k) bs) ≡ front set (drop (i + (k + 1)) bs) + 1 = e
-      ∙ ap (λ m. front set (drop m bs) + 1) next in
+      let f : valid_prefix set (drop (i + k) bs) ≡ valid_prefix set (drop (i + (k + 1)) bs) + 1 = e
+      ∙ ap (λ m. valid_prefix set (drop m bs) + 1) next in
       (omega (arith, r.0, f), r.1))
       (cases_Bool (oct k)))
       (λ (end : n ≤ k). stay k (omega arith) b)
       (cases_lt k n)
 
-  pub all_scanned : (i + n + front set (drop (i + n) bs) ≡ i + front set (drop i bs))
+  pub all_scanned : (i + n + valid_prefix set (drop (i + n) bs) ≡ i + valid_prefix set (drop i bs))
       × IsCharBoundary bs (i + n)
   all_scanned =
       let z : i + 0 ≡ i = omega arith in
       let r = walk n 0 (omega arith) (omega arith) (λ j l h. absurd (omega arith))
       (subst (IsCharBoundary bs) (sym z) here) in
-      (r.0 ∙ ap (λ m. m + front set (drop m bs)) z, r.1)
+      (r.0 ∙ ap (λ m. m + valid_prefix set (drop m bs)) z, r.1)
 
 pub spelt_scanned : (set : TableSet) → LacksPercent set → set.pct_encoded ≡ true
     → ((b : ℕ) → set.ascii b ≡ true → b < 128) → (bs : List ℕ) (i n : ℕ) → i + n ≤ length bs
     → IsUtf8 bs → IsCharBoundary bs i → AreSpelt set.ascii bs i n
-    → (i + n + front set (drop (i + n) bs) ≡ i + front set (drop i bs)) × IsCharBoundary bs (i + n)
+    → (i + n + valid_prefix set (drop (i + n) bs) ≡ i + valid_prefix set (drop i bs)) × IsCharBoundary bs (i + n)
 spelt_scanned set lacks pct ascii bs i n room u here are =
     all_scanned set lacks pct ascii bs i n room are.octet are.pass are.percent are.digits are.whole
     u
@@ -115,9 +115,9 @@ spelt_scanned set lacks pct ascii bs i n room u here are =
 -- an octet is scanned
 pub octet_scanned : (set : TableSet) (bs : List ℕ) (i : ℕ) → IsUtf8 bs → set.pct_encoded ≡ true
     → i + 2 < length bs → get_or bs i 0 ≡ 37 → has_digits bs i ≡ true
-    → (i + 3 + front set (drop (i + 3) bs) ≡ i + front set (drop i bs)) × IsCharBoundary bs (i + 3)
+    → (i + 3 + valid_prefix set (drop (i + 3) bs) ≡ i + valid_prefix set (drop i bs)) × IsCharBoundary bs (i + 3)
 octet_scanned set bs i u pct within percent digits =
-    let e = front-octet set bs i within pct percent digits in
+    let e = valid_prefix-octet set bs i within pct percent digits in
     let f : i + 2 + 1 ≡ i + 3 = omega arith in (
       omega arith,
       subst (IsCharBoundary bs) f

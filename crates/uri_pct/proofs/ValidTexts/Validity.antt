@@ -10,7 +10,7 @@ use Rattle.std.proofs.lemmas.Bool.{cases_lt, cases_Bool, and_parts, eqb-true, co
 use Rattle.std.proofs.lemmas.Bool.{and_left, and_right, and_from, lt-ltb, le-ltb, ne_eqb}
 use Rattle.uri_pct.specs.Sets.{TableSet, LacksPercent, allows, allows_past_ascii}
 use Rattle.uri_pct.specs.Tokens.{tokens_of, allows_token, is_valid_for, is_pct_encoded}
-use Rattle.uri_pct.specs.Models.Fronts.{begins_hex, first_char, allows_first}
+use Rattle.uri_pct.specs.Prefixes.{begins_hex, first_char, allows_first}
 use Rattle.uri_pct.proofs.Unicode.Characters.{IsSpelt, bytes_of_char, lead, first_char-encodes}
 use Rattle.uri_pct.proofs.Unicode.Characters.{hex_ascii, begins_hex-encodes}
 

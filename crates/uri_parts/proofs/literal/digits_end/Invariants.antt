@@ -1,6 +1,6 @@
 use Rattle.std.proofs.Common.{length, ◌-◌, ◌≤◌, ◌≡◌}
 use Rattle.std.specs.Str.{IsCharBoundary}
-use Rattle.uri_parts.specs.Refusals.{digits_end}
+use Rattle.uri_parts.specs.LiteralErrors.{digits_end}
 use Rattle.uri_parts.proofs.literal.digits_end.Given as goal
 
 abbrev pub invariant-loop-end : goal.invariant-loop-end

@@ -1,7 +1,7 @@
 use Rattle.std.proofs.Common.{◌≡◌, ◌+◌, ◌-◌, false, not, sym, ap, ◌∙◌, arith, ◌&&◌, ◌||◌}
 use Rattle.std.specs.Prelude.{◌==◌}
 use Rattle.std.proofs.lemmas.Bool.{ne_eqb}
-use Rattle.uri_parts.specs.Refusals.{Groups_end, behind_ipv4, groups_from}
+use Rattle.uri_parts.specs.LiteralErrors.{Groups_end, after_ipv4, groups_from}
 use Rattle.uri_parts.proofs.Refusals.GroupTurns.{none_left, ends, elides, lone, over, amiss}
 use Rattle.uri_parts.proofs.Refusals.GroupTurns.{dotted_full, dotted, goes_on}
 use Rattle.uri_parts.proofs.literal.groups_end.Goals as goal
@@ -73,7 +73,7 @@ returns-in-Some-clause-exact c =
     (ap (λ h. h && (c.loop-counted.counted == 0) || not h && not (c.loop-counted.counted == 0))
     (sym c.sees-has_colon.ensures.value) ∙ sym c.is_malformed_turn.ensures ∙ c.if-is_malformed_turn.false)
     (sym c.is_dotted.ensures ∙ c.if-is_dotted.true) (λ z. c.if-room-counted-eq1.false (omega arith))
-    ∙ ap (behind_ipv4 c.args.text.now _) (sym c.ipv4_end.ensures.exact ∙ c.in-Some.is) ∙ ap (λ k. Groups_end k c.in-Some.end) less)
+    ∙ ap (after_ipv4 c.args.text.now _) (sym c.ipv4_end.ensures.exact ∙ c.in-Some.is) ∙ ap (λ k. Groups_end k c.in-Some.end) less)
 
 pub returns-in-None-clause-exact : goal.returns-in-None-clause-exact
 returns-in-None-clause-exact c =
@@ -85,7 +85,7 @@ returns-in-None-clause-exact c =
     (ap (λ h. h && (c.loop-counted.counted == 0) || not h && not (c.loop-counted.counted == 0))
     (sym c.sees-has_colon.ensures.value) ∙ sym c.is_malformed_turn.ensures ∙ c.if-is_malformed_turn.false)
     (sym c.is_dotted.ensures ∙ c.if-is_dotted.true) (λ z. c.if-room-counted-eq1.false (omega arith))
-    ∙ ap (behind_ipv4 c.args.text.now _) (sym c.ipv4_end.ensures.exact ∙ c.in-None.is))
+    ∙ ap (after_ipv4 c.args.text.now _) (sym c.ipv4_end.ensures.exact ∙ c.in-None.is))
 
 pub loop-counted-preserved : goal.loop-counted-preserved
 loop-counted-preserved c =

@@ -1,7 +1,7 @@
 use Rattle.std.proofs.Common.{◌≡◌, ◌-◌, true}
 use Rattle.std.specs.Prelude.{◌==◌}
 use Rattle.std.specs.Str.{IsCharBoundary}
-use Rattle.uri_parts.specs.Refusals.{groups_from}
+use Rattle.uri_parts.specs.LiteralErrors.{groups_from}
 use Rattle.uri_parts.proofs.literal.groups_end.Given as goal
 
 abbrev pub invariant-loop-counted : goal.invariant-loop-counted

@@ -1,6 +1,6 @@
 use Rattle.std.proofs.Common.{◌≡◌, ◌+◌, ◌-◌, sym, ap, ◌∙◌, arith, rules}
 use Rattle.std.specs.Prelude.{option_and_then}
-use Rattle.uri_parts.specs.Refusals.{octets_end}
+use Rattle.uri_parts.specs.LiteralErrors.{octets_end}
 use Rattle.uri_parts.proofs.Refusals.Digits.{octets_dotted, octets_undotted}
 use Rattle.uri_parts.proofs.literal.ipv4_end.Goals as goal
 

@@ -1,6 +1,6 @@
 use Rattle.std.proofs.Common.{◌≡◌, ◌-◌}
 use Rattle.std.specs.Str.{IsCharBoundary}
-use Rattle.uri_parts.specs.Refusals.{ipv4_end, octets_end}
+use Rattle.uri_parts.specs.LiteralErrors.{ipv4_end, octets_end}
 use Rattle.uri_parts.proofs.literal.ipv4_end.Given as goal
 
 abbrev pub invariant-loop-dots : goal.invariant-loop-dots

@@ -1,14 +1,14 @@
 use Rattle.std.proofs.Common.{◌≡◌, ◌+◌, drop, ap, ◌∙◌}
-use Rattle.uri_pct.specs.Models.Fronts.{front}
+use Rattle.uri_pct.specs.Prefixes.{valid_prefix}
 use Rattle.uri_pct.specs.Tables.{set_of}
-use Rattle.uri_pct.proofs.ValidTexts.KeptFronts.{plain_set, kept_from, refused_behind}
+use Rattle.uri_pct.proofs.ValidTexts.KeptPrefixes.{plain_set, kept_from, refused_behind}
 use Rattle.uri_pct.proofs.encode.kept_end.Goals as goal
 
 scanned_to : (c : goal.After-scan)
     → c.scan.result
-    ≡ c.args.start + front (plain_set (set_of c.args.table.now)) (drop c.args.start c.args.text.now)
+    ≡ c.args.start + valid_prefix (plain_set (set_of c.args.table.now)) (drop c.args.start c.args.text.now)
 scanned_to c = c.scan.ensures.end
-    ∙ ap (λ set. c.args.start + front set (drop c.args.start c.args.text.now))
+    ∙ ap (λ set. c.args.start + valid_prefix set (drop c.args.start c.args.text.now))
     c.without_octets.ensures
 
 pub returns-clause-kept : goal.returns-clause-kept

@@ -4,7 +4,7 @@ use Rattle.std.proofs.lemmas.Str.{IsCharBoundary-start}
 use Rattle.uri_pct.specs.Tables.{set_of}
 use Rattle.uri_pct.specs.Tokens.{Octet, print}
 use Rattle.uri_pct.proofs.EncodedTexts.Encodings.{kept_more, kept_on}
-use Rattle.uri_pct.proofs.ValidTexts.KeptFronts.{run_step, whole_written}
+use Rattle.uri_pct.proofs.ValidTexts.KeptPrefixes.{run_step, whole_written}
 use Rattle.uri_pct.proofs.encode.push_text.Goals as goal
 
 pub loop-done-init : goal.loop-done-init

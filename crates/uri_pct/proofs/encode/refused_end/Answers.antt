@@ -3,7 +3,7 @@ use Rattle.std.specs.Char.{len_utf8}
 use Rattle.std.specs.Str.{IsCharBoundary}
 use Rattle.std.proofs.lemmas.Str.{IsCharBoundary-past_char, IsUtf8-drop}
 use Rattle.uri_pct.specs.Tables.{set_of}
-use Rattle.uri_pct.proofs.ValidTexts.KeptFronts.{none_refused, refused_more, some_refused}
+use Rattle.uri_pct.proofs.ValidTexts.KeptPrefixes.{none_refused, refused_more, some_refused}
 use Rattle.uri_pct.proofs.encode.refused_end.Goals as goal
 
 pub loop-end-init : goal.loop-end-init

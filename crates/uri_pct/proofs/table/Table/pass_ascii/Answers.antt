@@ -4,7 +4,7 @@ use Rattle.uri_pct.specs.Models.ByteRuns.{IsRun}
 use Rattle.uri_pct.specs.Masks.{has_bit}
 use Rattle.uri_pct.specs.Tables.{set_of}
 use Rattle.uri_pct.proofs.LaneScans.AsciiRuns.{run_scanned}
-use Rattle.uri_pct.proofs.ValidTexts.Fronts.{front-char}
+use Rattle.uri_pct.proofs.ValidTexts.Prefixes.{valid_prefix-char}
 use Rattle.uri_pct.proofs.TableSets.Masks.{bit_ascii}
 use Rattle.uri_pct.proofs.TableSets.Percent.{lacks_percent}
 use Rattle.uri_pct.proofs.table.Table.pass_ascii.Goals as goal
@@ -39,7 +39,7 @@ loop-i-preserved c =
     sym (ap (λ f. f (get_or bs i 0)) c.masks-low.ensures)
     ∙ held in
     let below : get_or bs i 0 < 128 = bit_ascii _ _ _ allowed in
-    let e = front-char (set_of table) (lacks_percent table) bs i (omega arith) below allowed in
+    let e = valid_prefix-char (set_of table) (lacks_percent table) bs i (omega arith) below allowed in
     record {
       from = omega arith;
       boundary =

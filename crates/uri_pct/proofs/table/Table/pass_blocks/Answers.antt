@@ -1,7 +1,7 @@
 use Rattle.std.proofs.Common.{◌≡◌, ◌≤◌, ◌+◌, ◌∙◌, ℕ, List, true, length, drop, subst, arith}
 use Rattle.std.specs.Str.{IsUtf8, IsCharBoundary}
 use Rattle.uri_pct.specs.Models.ByteRuns.{AreSpelt}
-use Rattle.uri_pct.specs.Models.Fronts.{front}
+use Rattle.uri_pct.specs.Prefixes.{valid_prefix}
 use Rattle.uri_pct.specs.Masks.{has_bit}
 use Rattle.uri_pct.specs.Tables.{set_of}
 use Rattle.uri_pct.specs.declared.table.Table.{Table}
@@ -14,8 +14,8 @@ use Rattle.uri_pct.proofs.table.Table.pass_blocks.Goals as goal
 step : (t : Table) (low high : ℕ) (bs : List ℕ) (start i n : ℕ)
     → has_bit low high ≡ has_bit t.low t.high → t.pct_encoded ≡ true → IsUtf8 bs
     → IsCharBoundary bs i → i + 16 ≤ length bs → n ≤ 16 → AreSpelt (has_bit low high) bs i n
-    → i + front (set_of t) (drop i bs) ≡ start + front (set_of t) (drop start bs)
-    → (i + n + front (set_of t) (drop (i + n) bs) ≡ start + front (set_of t) (drop start bs))
+    → i + valid_prefix (set_of t) (drop i bs) ≡ start + valid_prefix (set_of t) (drop start bs)
+    → (i + n + valid_prefix (set_of t) (drop (i + n) bs) ≡ start + valid_prefix (set_of t) (drop start bs))
     × IsCharBoundary bs (i + n)
 step t low high bs start i n masks pct u here room few spelt before =
     let r = spelt_scanned (set_of t) (lacks_percent t) pct (bit_ascii t.low t.high) bs i n

@@ -3,15 +3,15 @@ use Rattle.std.specs.Prelude.{slice_index}
 use Rattle.std.specs.Int.{is_in_range}
 use Rattle.std.specs.Str.{IsCharBoundary}
 use Rattle.std.proofs.lemmas.Bool.{and_parts, cond-false}
-use Rattle.uri_pct.specs.Models.Fronts.{front}
+use Rattle.uri_pct.specs.Prefixes.{valid_prefix}
 use Rattle.uri_pct.specs.Tables.{set_of}
-use Rattle.uri_pct.proofs.ValidTexts.Fronts.{front-past-at}
+use Rattle.uri_pct.proofs.ValidTexts.Prefixes.{valid_prefix-past-at}
 use Rattle.uri_pct.proofs.TableSets.LeadBytes.{two_scanned, three_scanned, char_scanned, lead_range}
 use Rattle.uri_pct.proofs.table.Table.past_ascii_len.Goals as goal
 
 two : (c : goal.Then-byte-lt224)
-    → (front (set_of c.args.self.now) (drop c.args.index c.args.text.now)
-    ≡ front (set_of c.args.self.now) (drop (c.args.index + 2) c.args.text.now) + 2)
+    → (valid_prefix (set_of c.args.self.now) (drop c.args.index c.args.text.now)
+    ≡ valid_prefix (set_of c.args.self.now) (drop (c.args.index + 2) c.args.text.now) + 2)
     × IsCharBoundary c.args.text.now (c.args.index + 2)
 two c =
     let text = c.args.text.now in
@@ -32,8 +32,8 @@ pub returns-then-byte-lt224-clause-allowed : goal.returns-then-byte-lt224-clause
 returns-then-byte-lt224-clause-allowed c = λ _. (two c).0
 
 three : (c : goal.Else-byte-lt224)
-    → (front (set_of c.args.self.now) (drop c.args.index c.args.text.now)
-    ≡ front (set_of c.args.self.now) (drop (c.args.index + 3) c.args.text.now) + 3)
+    → (valid_prefix (set_of c.args.self.now) (drop c.args.index c.args.text.now)
+    ≡ valid_prefix (set_of c.args.self.now) (drop (c.args.index + 3) c.args.text.now) + 3)
     × IsCharBoundary c.args.text.now (c.args.index + 3)
 three c =
     let text = c.args.text.now in
@@ -56,13 +56,13 @@ returns-then-allows_lead-clause-allowed c = λ _. (three c).0
 
 pub returns-then-not-allows_past_ascii-clause-refused : goal.returns-then-not-allows_past_ascii-clause-refused
 returns-then-not-allows_past_ascii-clause-refused c = λ _.
-    front-past-at (set_of c.args.self.now) c.args.text.now c.args.index c.char_at-ch.result
+    valid_prefix-past-at (set_of c.args.self.now) c.args.text.now c.args.index c.char_at-ch.result
     c.utf8.text c.requires.here c.char_at-ch.ensures c.requires.past
     ∙ cond-false _ _ _ (sym c.allows_past_ascii.ensures ∙ c.if-not-allows_past_ascii.true)
 
 read_char : (c : goal.After-len_utf8)
-    → (front (set_of c.args.self.now) (drop c.args.index c.args.text.now)
-    ≡ front (set_of c.args.self.now) (drop (c.args.index + c.len_utf8.result) c.args.text.now)
+    → (valid_prefix (set_of c.args.self.now) (drop c.args.index c.args.text.now)
+    ≡ valid_prefix (set_of c.args.self.now) (drop (c.args.index + c.len_utf8.result) c.args.text.now)
     + c.len_utf8.result)
     × IsCharBoundary c.args.text.now (c.args.index + c.len_utf8.result)
 read_char c =

@@ -1,59 +1,34 @@
 -- The prefix of a text that a set without octets allows is encoded as it is.
 use Rattle.std.proofs.Common.{◌≡◌, ℕ, ◌+◌, ◌-◌, ◌<◌, ◌≤◌, true, false, cond, List, [], ◌∷◌, ◌++◌}
-use Rattle.std.proofs.Common.{length, get_or, take, drop, map, refl, sym, ap, subst, ◌∙◌, arith}
+use Rattle.std.proofs.Common.{length, take, drop, map, refl, sym, ap, subst, ◌∙◌, arith}
 use Rattle.std.proofs.Common.{⊎_elim, append_assoc}
 use Rattle.std.specs.Char.{encode_utf8, len_utf8}
-use Rattle.std.specs.Str.{encode_utf8_all, all_scalars, continuation_len, IsUtf8, IsCharBoundary}
+use Rattle.std.specs.Str.{encode_utf8_all, all_scalars, IsUtf8, IsCharBoundary}
 use Rattle.std.proofs.Math.Seq.{take-append-add, drop-append-add}
 use Rattle.std.proofs.lemmas.Bool.{cases_Bool, cases_lt, cond-true, cond-false, and_parts}
 use Rattle.std.proofs.lemmas.Bool.{both_ways}
 use Rattle.std.proofs.lemmas.List.{append-nil, drop-drop, drop_all, map-append}
-use Rattle.std.proofs.lemmas.Str.{encode_ascii, length-encode, IsUtf8-drop}
+use Rattle.std.proofs.lemmas.Str.{length-encode, IsUtf8-drop}
 use Rattle.uri_pct.specs.Sets.{TableSet, allows, allows_past_ascii}
-use Rattle.uri_pct.specs.Models.Fronts.{front_from, front}
+use Rattle.uri_pct.specs.Prefixes.{valid_prefix_from, valid_prefix}
 use Rattle.uri_pct.specs.Tokens.{Octet, print}
 use Rattle.uri_pct.specs.Encoding.{encode_char, encode_text, IsEncodedBy}
-use Rattle.uri_pct.proofs.Unicode.Characters.{lead, bytes_of_char}
-use Rattle.uri_pct.proofs.ValidTexts.Validity.{allows_first-ascii, allows-ascii, allows-past}
-use Rattle.uri_pct.proofs.ValidTexts.Cuts.{front_cons, len_ascii}
+use Rattle.uri_pct.proofs.Unicode.Characters.{bytes_of_char}
 use Rattle.uri_pct.proofs.EncodedTexts.Encodings.{print-append, encode_text-first, encode_char-kept}
 use Rattle.uri_pct.proofs.EncodedTexts.Encodings.{encode_char-octets, part_longer, encode_none}
-use Rattle.uri_pct.proofs.ValidTexts.Fronts.{front-past, front-after}
+use Rattle.uri_pct.proofs.ValidTexts.Prefixes.{prefix_first, valid_prefix-after}
 
 -- the set that allows the same characters, and no octets
 abbrev pub plain_set : TableSet → TableSet
 plain_set set = record set { pct_encoded = false }
 
-one_byte : (c : ℕ) → c < 128 → len_utf8 c ≡ 1
-one_byte c h = sym (length-encode c) ∙ ap length (encode_ascii c h)
-
-ascii_front : (set : TableSet) (rest : List ℕ) (c : ℕ) → c < 128
-    → front (plain_set set) (c ∷ rest)
-    ≡ cond (allows set c) (front (plain_set set) rest + len_utf8 c) 0
-ascii_front set rest c h =
-    let plain = plain_set set in
-    front_cons plain c rest
-    ∙ ap (λ t. cond t (front_from plain (continuation_len c) rest + 1) 0)
-    (allows_first-ascii plain c rest h ∙ sym (allows-ascii set c h))
-    ∙ ap (λ k. cond (allows set c) (front_from plain k rest + 1) 0) (len_ascii c h)
-    ∙ ap (λ k. cond (allows set c) (front plain rest + k) 0) (sym (one_byte c h))
-
-same_past : (set : TableSet) (c : ℕ) → allows_past_ascii (plain_set set) c ≡ allows_past_ascii set c
-unfolding allows_past_ascii
-same_past set c = refl
-
 -- the prefix of a text by its first character
-pub front_first : (set : TableSet) (text rest : List ℕ) (c : ℕ) → IsUtf8 text
+pub kept_first : (set : TableSet) (text rest : List ℕ) (c : ℕ) → IsUtf8 text
     → text ≡ encode_utf8 c ++ rest
-    → front (plain_set set) text ≡ cond (allows set c) (front (plain_set set) rest + len_utf8 c) 0
-front_first set text rest c u e = ⊎_elim
-    (λ h. ap (front (plain_set set)) (e ∙ ap (λ t. t ++ rest) (encode_ascii c h))
-    ∙ ascii_front set rest c h)
-    (λ h. front-past (plain_set set) text rest c u e
-    (subst (λ t. 128 ≤ get_or t 0 0) (sym e) (lead c rest h))
-    ∙ ap (λ t. cond t (front (plain_set set) rest + len_utf8 c) 0)
-    (same_past set c ∙ sym (allows-past set c h)))
-    (cases_lt c 128)
+    → valid_prefix (plain_set set) text
+    ≡ cond (allows set c) (valid_prefix (plain_set set) rest + len_utf8 c) 0
+unfolding allows_past_ascii
+kept_first set text rest c u e = prefix_first (plain_set set) text rest c u e refl
 
 -- so many bytes are encoded as they are
 abbrev IsKept : TableSet → List ℕ → ℕ → Type 0
@@ -76,35 +51,35 @@ some_kept set c n rest u allowed kept =
     ∙ ap (λ k. take k text ++ print (encode_text set (drop k text))) (sym size)
 
 kept_chars : (set : TableSet) (cs : List ℕ) → all_scalars cs ≡ true
-    → IsKept set (encode_utf8_all cs) (front (plain_set set) (encode_utf8_all cs))
-unfolding front_from
+    → IsKept set (encode_utf8_all cs) (valid_prefix (plain_set set) (encode_utf8_all cs))
+unfolding valid_prefix_from
 kept_chars set [] s = refl
 kept_chars set (c ∷ cs) s =
     let rest : List ℕ = encode_utf8_all cs in
     let text : List ℕ = encode_utf8 c ++ rest in
     let u : IsUtf8 text = (c ∷ cs, (s, refl)) in
-    let first = front_first set text rest c u refl in
+    let first = kept_first set text rest c u refl in
     ⊎_elim
     (λ a. subst (IsKept set text) (sym (first ∙ cond-true _ _ _ a))
-    (some_kept set c (front (plain_set set) rest) rest u a
+    (some_kept set c (valid_prefix (plain_set set) rest) rest u a
     (kept_chars set cs (and_parts _ (all_scalars cs) s).1)))
     (λ a. subst (IsKept set text) (sym (first ∙ cond-false _ _ _ a)) refl)
     (cases_Bool (allows set c))
 
 -- what is scanned of a text stands for itself
-pub front_kept : (set : TableSet) (text : List ℕ) → IsUtf8 text
-    → IsKept set text (front (plain_set set) text)
-front_kept set text u = subst (λ t. IsKept set t (front (plain_set set) t)) u.1.1
+pub prefix_kept : (set : TableSet) (text : List ℕ) → IsUtf8 text
+    → IsKept set text (valid_prefix (plain_set set) text)
+prefix_kept set text u = subst (λ t. IsKept set t (valid_prefix (plain_set set) t)) u.1.1
     (kept_chars set u.0 u.1.0)
 
 -- the same at a place of a text
 pub kept_from : (set : TableSet) (text : List ℕ) (start end : ℕ) → IsUtf8 text
-    → IsCharBoundary text start → end ≡ start + front (plain_set set) (drop start text)
+    → IsCharBoundary text start → end ≡ start + valid_prefix (plain_set set) (drop start text)
     → IsEncodedBy (λ bytes. bytes) set text start end
 kept_from set text start end u here e =
-    let n = front (plain_set set) (drop start text) in
+    let n = valid_prefix (plain_set set) (drop start text) in
     let size : n ≡ end - start = omega (arith, e) in
-    front_kept set (drop start text) (IsUtf8-drop text start u here)
+    prefix_kept set (drop start text) (IsUtf8-drop text start u here)
     ∙ ap (λ x. take n (drop start text) ++ print (encode_text set x))
     (drop-drop n start text ∙ ap (λ k. drop k text) (sym e))
     ∙ ap (λ k. take k (drop start text) ++ print (encode_text set (drop end text))) size
@@ -121,18 +96,18 @@ none_more n k h e = omega arith
 
 -- what is after it is not allowed
 pub refused_behind : (set : TableSet) (text rest : List ℕ) (start end c : ℕ) → IsUtf8 text
-    → IsCharBoundary text end → end ≡ start + front (plain_set set) (drop start text)
+    → IsCharBoundary text end → end ≡ start + valid_prefix (plain_set set) (drop start text)
     → drop end text ≡ encode_utf8 c ++ rest → allows set c ≡ false
 refused_behind set text rest start end c u here e spelt =
-    let n = front (plain_set set) (drop start text) in
-    let none : front (plain_set set) (drop end text) ≡ 0 =
-    ap (λ k. front (plain_set set) (drop k text)) e
-    ∙ ap (front (plain_set set)) (sym (drop-drop n start text))
-    ∙ front-after (plain_set set) (drop start text) in
+    let n = valid_prefix (plain_set set) (drop start text) in
+    let none : valid_prefix (plain_set set) (drop end text) ≡ 0 =
+    ap (λ k. valid_prefix (plain_set set) (drop k text)) e
+    ∙ ap (valid_prefix (plain_set set)) (sym (drop-drop n start text))
+    ∙ valid_prefix-after (plain_set set) (drop start text) in
     ⊎_elim
-    (λ a. absurd (none_more (front (plain_set set) rest) (len_utf8 c) (len_some c)
+    (λ a. absurd (none_more (valid_prefix (plain_set set) rest) (len_utf8 c) (len_some c)
     (sym (cond-true _ _ _ a) ∙ sym
-    (front_first set (drop end text) rest c (IsUtf8-drop text end u here) spelt) ∙ none)))
+    (kept_first set (drop end text) rest c (IsUtf8-drop text end u here) spelt) ∙ none)))
     (λ a. a)
     (cases_Bool (allows set c))
 
@@ -143,12 +118,12 @@ octets_more : (xs ys : List ℕ) → octets (xs ++ ys) ≡ octets xs ++ octets y
 unfolding octets
 octets_more xs ys = ap print (map-append Octet xs ys) ∙ print-append (map Octet xs) (map Octet ys)
 
--- no character is rejected yet
+-- no character is refused yet
 pub none_refused : (set : TableSet) (text : List ℕ) (start : ℕ)
     → IsEncodedBy (λ bytes. print (map Octet bytes)) set text start start
 none_refused set text start = let none : start - start ≡ 0 = omega arith in rw none refl
 
--- one more that is rejected
+-- one more that is refused
 pub refused_more : (set : TableSet) (text : List ℕ) (start end next c : ℕ) → IsUtf8 (drop end text)
     → start ≤ end → drop end text ≡ encode_utf8 c ++ drop (end + len_utf8 c) text
     → next ≡ end + len_utf8 c → allows set c ≡ false
@@ -169,7 +144,7 @@ refused_more set text start end next c u ordered spelt place refused before =
     ∙ ap (λ k. octets (take (k - start) (drop start text)) ++ print (encode_text set (drop k text)))
     (sym place)
 
--- the first character is rejected, so that some is
+-- the first character is refused, so that some is
 pub some_refused : (set : TableSet) (text : List ℕ) (start end c : ℕ) → start ≤ end
     → drop end text ≡ encode_utf8 c ++ drop (end + len_utf8 c) text → allows set c ≡ true
     → ((d : ℕ) (rest : List ℕ) → drop start text ≡ encode_utf8 d ++ rest → allows set d ≡ false)
@@ -183,7 +158,7 @@ some_refused set text start end c ordered spelt allowed first = ⊎_elim
     (ap (λ k. drop k text) (sym same) ∙ spelt)) allowed))
     (cases_lt start end)
 
--- what is written after a run that is kept and one that is rejected
+-- what is written behind a run that is kept and one that is refused
 pub run_step : (set : TableSet) (out mid new text all : List ℕ) (start end next : ℕ)
     → IsEncodedBy (λ bytes. bytes) set text start end
     → IsEncodedBy (λ bytes. print (map Octet bytes)) set text end next
