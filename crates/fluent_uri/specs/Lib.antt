@@ -9,6 +9,7 @@ pub use Rattle.uri_pct.specs.Pieces
 pub use Rattle.uri_pct.specs.Prefixes
 pub use Rattle.uri_pct.specs.Reading
 pub use Rattle.uri_pct.specs.Sets
+pub use Rattle.uri_pct.specs.Spelling
 pub use Rattle.uri_pct.specs.Tables
 pub use Rattle.uri_pct.specs.Texts
 pub use Rattle.uri_pct.specs.Tokens
@@ -28,11 +29,14 @@ pub use Rattle.uri_parts.specs.Refusals
 pub use Rattle.uri_parts.specs.Scanning
 pub use Rattle.uri_parts.specs.SchemePorts
 pub use Rattle.uri_parts.specs.Schemes
+pub use Rattle.uri_ops.specs.ComponentSets
 pub use Rattle.uri_ops.specs.Conversions
 pub use Rattle.uri_ops.specs.Encoded
 pub use Rattle.uri_ops.specs.Resolving
 pub use Rattle.uri_ops.specs.Dots
+pub use Rattle.uri_ops.specs.HostParts
 pub use Rattle.uri_ops.specs.Meaning
+pub use Rattle.uri_ops.specs.SameMeanings
 pub use Rattle.uri_ops.specs.Normal
 pub use Rattle.uri_ops.specs.Normalizers
 pub use Rattle.uri_ops.specs.NormalTargets

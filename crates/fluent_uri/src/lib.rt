@@ -86,7 +86,8 @@ pub mod laws {
         encoded_texts_mean_the_same, encoded_texts_resolve_alike, texts_of_wider_kinds,
     };
     pub use uri_ops::canonical::{
-        four_kinds_have_component_sets, meaning_under_ports, normal_texts_are_canonical,
+        four_kinds_have_component_sets, meaning_under_ports, meanings_are_equal_if_their_parts_are,
+        normal_texts_are_canonical,
     };
     pub use uri_ops::laws::{
         authorities_have_one_cut, bases_may_be_removed_before_merging,
@@ -104,8 +105,9 @@ pub mod laws {
     };
     pub use uri_pct::laws::{
         lossy_texts_are_those_of_std, octets_are_read_in_either_case,
-        pieces_are_together_the_bytes, valid_prefixes_are_longest,
-        what_is_encoded_decodes_to_what_was_given, what_is_printed_is_read_back,
+        pieces_are_together_the_bytes, spelt_texts_are_read_back, uris_are_read_octet_by_octet,
+        valid_prefixes_are_longest, what_is_encoded_decodes_to_what_was_given,
+        what_is_printed_is_read_back,
     };
 }
 

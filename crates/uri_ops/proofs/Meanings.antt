@@ -3,6 +3,7 @@ pub mod AllowedParts
 pub mod Lacking
 mod MeaningRows
 pub mod PortMeanings
+pub mod SameMeanings
 pub mod PlainTexts
 pub mod TextParts
 pub mod ComponentEnds

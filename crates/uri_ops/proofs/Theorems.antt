@@ -10,6 +10,7 @@ use Rattle.uri_ops.proofs.Paths.DotLaws.{directory_ends, removed_directory, unde
 use Rattle.uri_ops.proofs.Paths.DotLaws.{removed_in_pieces, underflows_in_pieces}
 use Rattle.uri_ops.proofs.Paths.DotLaws.{removed_before_merging, underflows_merged}
 use Rattle.uri_ops.proofs.Meanings.PortMeanings.{meaning_of-under}
+use Rattle.uri_ops.proofs.Meanings.SameMeanings.{same_meaning-decides}
 use Rattle.uri_ops.proofs.Normal.NormalTexts.{normal_is_text, meaning_of-normal_text}
 use Rattle.uri_ops.proofs.Normal.NormalTexts.{normal_text-normal_text, same_normal_text}
 use Rattle.uri_ops.proofs.Targeting.Targets.{target_is_split, target_components}
@@ -67,6 +68,9 @@ pub ruleset canonical = (
   normal_text-normal_text,
   same_normal_text,
 )
+
+-- Meanings are equal exactly if each part is: RFC 3986, section 6.2.2.
+pub ruleset comparing = (same_meaning-decides)
 
 -- A target's text has the components that were put into it: RFC 3986, sections 5.2.2 and 5.3.
 pub ruleset target_laws = (target_is_split, target_components)

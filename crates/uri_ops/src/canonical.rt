@@ -1,9 +1,10 @@
 //! Laws of meanings and normal texts, each the contract of a function that does nothing.
-ghost use Rattle.std.specs.Prelude.{◌≡◌, ◌↔◌, ℕ, List};
+ghost use Rattle.std.specs.Prelude.{◌≡◌, ◌↔◌, ℕ, List, true};
 ghost use Rattle.uri_parts.specs.Grammar.{Kind, iri, iri_ref, uri, uri_ref};
 ghost use Rattle.uri_ops.specs.ComponentSets.{HasComponentSets};
-ghost use Rattle.uri_ops.specs.Meaning.{bare_meaning_of, meaning_of, under};
+ghost use Rattle.uri_ops.specs.Meaning.{Meaning, bare_meaning_of, meaning_of, under};
 ghost use Rattle.uri_ops.specs.Normal.{normal_text};
+ghost use Rattle.uri_ops.specs.SameMeanings.{same_meaning};
 ghost use Rattle.uri_parts.specs.Ports.{PortFunction};
 ghost use Rattle.uri_parts.specs.Grammar.{IsTextOf};
 
@@ -31,6 +32,18 @@ pub fn four_kinds_have_component_sets()
 pub fn meaning_under_ports()
     ensures { (kind : Kind) (ports : PortFunction) (text : List ℕ)
         → meaning_of kind ports text ≡ under ports (bare_meaning_of kind text) }
+{}
+
+/// Two meanings are equal exactly if each of their parts is, which `same_meaning` computes (RFC 3986,
+/// section 6.2.2).
+///
+/// # Examples
+///
+/// The meanings of `HTTP://a` and `http://a` have equal parts, and those of `http://a` and
+/// `http://a/` differ in their paths.
+#[tactic(auto, using(crate::proofs::Theorems::comparing))]
+pub fn meanings_are_equal_if_their_parts_are()
+    ensures { (m n : Meaning) → (same_meaning m n ≡ true ↔ m ≡ n) }
 {}
 
 /// The normal text of a text's meaning is a text of the kind and has that meaning, so texts have

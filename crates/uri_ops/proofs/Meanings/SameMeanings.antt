@@ -1,0 +1,78 @@
+-- Two meanings have the same parts exactly if they are equal.
+use Rattle.std.proofs.Common.{◌≡◌, Bool, List, Option, Some, None, refl, ap}
+use Rattle.std.specs.Bool.{Decides}
+use Rattle.std.specs.Prelude.{bytes_eq}
+use Rattle.std.specs.Option.{option_eq}
+use Rattle.std.proofs.lemmas.Bool.Decides.{Decides-eqb, Decides-and, Decides-like}
+use Rattle.std.proofs.lemmas.Slice.Eq.{bytes_eq-Decides, slice_eq-Decides}
+use Rattle.uri_ops.specs.Meaning.{HostMeaning, Address, FutureAddress, Name, AuthorityMeaning}
+use Rattle.uri_ops.specs.Meaning.{Meaning}
+use Rattle.uri_pct.specs.Tokens.{Token, Char, Octet}
+use Rattle.uri_ops.specs.SameMeanings.{same_token, same_tokens, same_host, same_authority}
+use Rattle.uri_ops.specs.SameMeanings.{same_meaning}
+
+same_option : {A : Type 0} (E : A → A → Bool) → ((a b : A) → Decides (E a b) (a ≡ b))
+    → (p q : Option A) → Decides (option_eq E p q) (p ≡ q)
+same_option E d None None = (λ _. refl, λ _. refl)
+same_option E d None (Some b) = (λ e. cc, λ e. cc)
+same_option E d (Some a) None = (λ e. cc, λ e. cc)
+same_option E d (Some a) (Some b) = Decides-like (E a b) (ap Some) (λ e. cc) (d a b)
+
+token : (a b : Token) → Decides (same_token a b) (a ≡ b)
+token (Char a) (Char b) = Decides-like _ (ap Char) (λ e. cc) (Decides-eqb a b)
+token (Octet a) (Octet b) = Decides-like _ (ap Octet) (λ e. cc) (Decides-eqb a b)
+token (Char a) (Octet b) = (λ e. cc, λ e. cc)
+token (Octet a) (Char b) = (λ e. cc, λ e. cc)
+
+some_tokens : (a b : List Token) → Decides (same_tokens a b) (a ≡ b)
+some_tokens a b = slice_eq-Decides token a b (same_tokens a b) refl
+
+host : (a b : HostMeaning) → Decides (same_host a b) (a ≡ b)
+host (Address a) (Address b) = Decides-like _ (ap Address) (λ e. cc) (bytes_eq-Decides a b)
+host (FutureAddress a) (FutureAddress b) =
+    Decides-like _ (ap FutureAddress) (λ e. cc) (bytes_eq-Decides a b)
+host (Name a) (Name b) = Decides-like _ (ap Name) (λ e. cc) (some_tokens a b)
+host (Address a) (FutureAddress b) = (λ e. cc, λ e. cc)
+host (Address a) (Name b) = (λ e. cc, λ e. cc)
+host (FutureAddress a) (Address b) = (λ e. cc, λ e. cc)
+host (FutureAddress a) (Name b) = (λ e. cc, λ e. cc)
+host (Name a) (Address b) = (λ e. cc, λ e. cc)
+host (Name a) (FutureAddress b) = (λ e. cc, λ e. cc)
+
+authority : (a b : AuthorityMeaning) → Decides (same_authority a b) (a ≡ b)
+authority a b =
+    Decides-like _ (λ e. λ i. record { userinfo = e.0 i; host = e.1.0 i; port = e.1.1 i })
+    (λ e. (
+      ap (λ (m : AuthorityMeaning). m.userinfo) e,
+      (ap (λ (m : AuthorityMeaning). m.host) e, ap (λ (m : AuthorityMeaning). m.port) e),
+    ))
+    (Decides-and _ _ (same_option same_tokens some_tokens a.userinfo b.userinfo)
+    (Decides-and _ _ (host a.host b.host) (same_option bytes_eq bytes_eq-Decides a.port b.port)))
+
+pub same_meaning-decides : (m n : Meaning) → Decides (same_meaning m n) (m ≡ n)
+unfolding same_meaning
+same_meaning-decides m n =
+    Decides-like _
+    (λ e. λ i. record {
+      scheme = e.0 i;
+      authority = e.1.0 i;
+      path = e.1.1.0 i;
+      query =
+          e.1.1.1.0 i;
+      fragment = e.1.1.1.1 i;
+    })
+    (λ e. (
+      ap (λ (x : Meaning). x.scheme) e,
+      (
+        ap (λ (x : Meaning). x.authority) e,
+        (
+          ap (λ (x : Meaning). x.path) e,
+          (ap (λ (x : Meaning). x.query) e, ap (λ (x : Meaning). x.fragment) e),
+        ),
+      ),
+    ))
+    (Decides-and _ _ (same_option bytes_eq bytes_eq-Decides m.scheme n.scheme)
+    (Decides-and _ _ (same_option same_authority authority m.authority n.authority)
+    (Decides-and _ _ (some_tokens m.path n.path)
+    (Decides-and _ _ (same_option same_tokens some_tokens m.query n.query)
+    (same_option same_tokens some_tokens m.fragment n.fragment)))))

@@ -1,0 +1,33 @@
+-- Whether two meanings are equal, part by part: RFC 3986, section 6.2.2.
+use Rattle.std.specs.Prelude.{Bool, false, ◌==◌, ◌&&◌, List, bytes_eq}
+use Rattle.std.specs.Cmp.Lexicographic.{pointwise}
+use Rattle.std.specs.Option.{option_eq}
+use Rattle.uri_pct.specs.Tokens.{Token, Char, Octet}
+use Rattle.uri_ops.specs.Meaning.{HostMeaning, Address, FutureAddress, Name, AuthorityMeaning}
+use Rattle.uri_ops.specs.Meaning.{Meaning}
+
+abbrev pub same_token : Token → Token → Bool
+same_token (Char c) (Char d) = c == d
+same_token (Octet c) (Octet d) = c == d
+same_token _ _ = false
+
+abbrev pub same_tokens : List Token → List Token → Bool
+same_tokens = pointwise same_token
+
+abbrev pub same_host : HostMeaning → HostMeaning → Bool
+same_host (Address a) (Address b) = bytes_eq a b
+same_host (FutureAddress a) (FutureAddress b) = bytes_eq a b
+same_host (Name a) (Name b) = same_tokens a b
+same_host _ _ = false
+
+abbrev pub same_authority : AuthorityMeaning → AuthorityMeaning → Bool
+same_authority a b =
+    option_eq same_tokens a.userinfo b.userinfo &&
+    (same_host a.host b.host && option_eq bytes_eq a.port b.port)
+
+unfoldable pub same_meaning : Meaning → Meaning → Bool
+same_meaning m n =
+    option_eq bytes_eq m.scheme n.scheme
+    && (option_eq same_authority m.authority n.authority
+    && (same_tokens m.path n.path
+    && (option_eq same_tokens m.query n.query && option_eq same_tokens m.fragment n.fragment)))
