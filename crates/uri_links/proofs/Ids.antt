@@ -11,7 +11,7 @@ use Rattle.fluent_uri.specs.Meaning.{meaning_of}
 use Rattle.fluent_uri.specs.Normal.{normal_text}
 use Rattle.fluent_uri.specs.Ports.{PortFunction}
 use Rattle.fluent_uri.specs.Target.{Refusal, resolution_of}
-use Rattle.uri_links.specs.Alike.{same_meaning}
+use Rattle.fluent_uri.specs.SameMeanings.{same_meaning}
 use Rattle.uri_links.specs.Outcomes.{outcome_of, outcomes_of, place_of_meaning, placed, registered}
 use Rattle.uri_links.specs.OutcomesInWords.{HasText}
 use Rattle.uri_links.specs.declared.links.Outcome.{Outcome}

@@ -9,15 +9,16 @@ use Rattle.fluent_uri.specs.Grammar.{uri}
 use Rattle.fluent_uri.specs.Meaning.{Meaning, meaning_of}
 use Rattle.fluent_uri.specs.Normal.{normal_text}
 use Rattle.fluent_uri.specs.Ports.{PortFunction}
+use Rattle.fluent_uri.specs.SameMeanings.{same_meaning}
 use Rattle.fluent_uri.specs.Target.{Refusal, resolution_of}
-use Rattle.uri_links.specs.Alike.{same_meaning}
 use Rattle.uri_links.specs.Outcomes.{outcome_of, place_of_meaning, placed, registered}
 use Rattle.uri_links.specs.OutcomesInWords.{IsOutcome, Means}
 use Rattle.uri_links.specs.declared.links.Outcome.{Outcome}
-use Rattle.uri_links.proofs.Alike.{same}
+use Rattle.uri_links.proofs.Noted.{ComparesMeanings}
 use Rattle.uri_links.proofs.Places.{none}
 
-module _ (ports : PortFunction) (base : List ℕ) (texts : List (List ℕ)) (reference : List ℕ) where
+module _ (same : ComparesMeanings) (ports : PortFunction) (base : List ℕ)
+    (texts : List (List ℕ)) (reference : List ℕ) where
   means : (meaning : Meaning) (place : ℕ) → place_of_meaning ports texts meaning ≡ Some place
       → Means ports texts place meaning
   means meaning place e =

@@ -1,9 +1,7 @@
-pub mod Alike
 pub mod Places
 pub mod Texts
 pub mod Noted
 pub mod Several
 pub mod InWords
 pub mod Ids
-mod Rows
 pub mod Theorems

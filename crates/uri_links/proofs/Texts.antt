@@ -6,15 +6,18 @@ use Rattle.std.specs.List.{IsDistinct, position}
 use Rattle.std.specs.Prelude.{bytes_eq}
 use Rattle.std.specs.String.{string_cmp}
 use Rattle.std.proofs.lemmas.Cmp.{nat_list_eq_equiv}
+use Rattle.std.proofs.lemmas.Bool.{and_from}
 use Rattle.std.proofs.lemmas.List.{map-append}
+use Rattle.std.proofs.lemmas.List.Folds.{list_all-append}
 use Rattle.std.proofs.lemmas.Map.Keys.{IsDistinct-push}
 use Rattle.std.proofs.lemmas.Map.Text.{btree_map_updates_text}
 use Rattle.std.proofs.lemmas.Slice.Eq.{bytes_eq-Decides}
-use Rattle.fluent_uri.specs.Grammar.{uri}
+use Rattle.std.proofs.lemmas.Str.{is_utf8-from_IsUtf8}
+use Rattle.fluent_uri.specs.Grammar.{IsTextOf, uri}
 use Rattle.fluent_uri.specs.Meaning.{meaning_of}
 use Rattle.fluent_uri.specs.Normal.{normal_text}
 use Rattle.fluent_uri.specs.Ports.{PortFunction}
-use Rattle.uri_links.specs.Registered.{AreNormal}
+use Rattle.uri_links.specs.Registered.{AreNormal, AreUris, is_uri_text}
 use Rattle.uri_links.proofs.Places.{none, pushed, pushed_past}
 
 pub none_distinct : (texts : List (List ℕ)) → texts ≡ [] → IsDistinct bytes_eq texts
@@ -25,6 +28,16 @@ normal_pushed : (ports : PortFunction) (texts : List (List ℕ)) (text : List �
     → AreNormal ports texts → normal_text (meaning_of uri ports text) ≡ text
     → AreNormal ports (texts ++ text ∷ [])
 normal_pushed ports texts text h e = map-append _ texts (text ∷ []) ∙ (λ i. h i ++ e i ∷ [])
+
+uri_pushed : (texts : List (List ℕ)) (text : List ℕ) → AreUris texts → IsTextOf uri text
+    → AreUris (texts ++ text ∷ [])
+uri_pushed texts text h is = list_all-append is_uri_text texts (text ∷ [])
+    ∙ and_from _ _ h (and_from _ true (and_from _ _ (is_utf8-from_IsUtf8 text is.utf8) is.grammar)
+    refl)
+
+pub uris_after : (texts after : List (List ℕ)) (text : List ℕ) → after ≡ texts ++ text ∷ []
+    → AreUris texts → IsTextOf uri text → AreUris after
+uris_after texts after text a h is = subst AreUris (sym a) (uri_pushed texts text h is)
 
 pub normal_after : (ports : PortFunction) (texts after : List (List ℕ)) (text : List ℕ)
     → after ≡ texts ++ text ∷ [] → AreNormal ports texts

@@ -1,4 +1,3 @@
-pub mod Alike
 pub mod Outcomes
 pub mod OutcomesInWords
 pub mod Registered

@@ -13,7 +13,7 @@ use Rattle.fluent_uri.specs.declared.resolve.ResolveError.{ResolveError}
 use Rattle.fluent_uri.specs.declared.resolve.ResolveError.TheVariants as Of
 use Rattle.uri_links.specs.declared.links.Outcome.{Outcome}
 use Rattle.uri_links.specs.declared.links.Outcome.TheVariants.{New, Known, Refused}
-use Rattle.uri_links.specs.Alike.{same_meaning}
+use Rattle.fluent_uri.specs.SameMeanings.{same_meaning}
 
 -- the error that tells why a reference has no target
 abbrev pub error_of : Refusal → ResolveError

@@ -18,11 +18,11 @@ ghost use Rattle.fluent_uri.specs.Uris.{uri_ref_text};
 ghost use Rattle.fluent_uri.specs.Uris.{uri_text};
 ghost use Rattle.uri_links.specs.Outcomes.{outcome_of, outcomes_of, placed};
 ghost use Rattle.uri_links.specs.OutcomesInWords.{HasText, IsOutcome};
-ghost use Rattle.uri_links.specs.Registered.{AreDistinct, AreNormal};
+ghost use Rattle.uri_links.specs.Registered.{AreDistinct, AreNormal, AreUris};
 
 use fluent_uri::normalize::{DefaultPort, Normalizer};
 use fluent_uri::resolve::{ResolveError, Resolver};
-use fluent_uri::{Uri, UriRef};
+use fluent_uri::{Uri, UriRef, laws};
 use std::alloc::{AllocError, Global};
 use std::collections::BTreeMap;
 
@@ -56,7 +56,9 @@ pub struct Register<P: DefaultPort> {
     normalizer: Normalizer<P>,
     targets: Vec<Uri<String>>,
     places: BTreeMap<String, usize>,
-    // Each text is its own normal text.
+    // Each text is a URI.
+    pub ghost uris: { AreUris (map uri_text targets.items) },
+    // Each is its own normal text.
     pub ghost normal: { AreNormal (P.port_of (ports_of normalizer)) (map uri_text targets.items) },
     // No two are equal.
     pub ghost distinct: { AreDistinct
@@ -216,6 +218,7 @@ impl<P: DefaultPort> Register<P> {
         ensures refused { OnErr result (is_ok (resolution_of (components (uri_text base.now))
             (components (uri_ref_text reference.now))) ≡ true) }
     {
+        laws::meanings_are_equal_if_their_parts_are();
         match self.normal_target(base, reference) {
             Ok(target) => self.note_target(target),
             Err(error) => refused(error),

@@ -1,9 +1,18 @@
 use Rattle.uri_links.proofs.links.Register.add.Goals as goal
 use Rattle.std.proofs.lemmas.Grind.{common_steps}
-use Rattle.std.proofs.Common.{arith, ◌∙◌, ap, map, [], ◌∷◌}
+use Rattle.std.proofs.Common.{arith, ◌∙◌, ap, map, subst, [], ◌∷◌}
 use Rattle.std.proofs.lemmas.List.{map-append}
+use Rattle.fluent_uri.specs.Grammar.{IsTextOf, uri}
 use Rattle.fluent_uri.specs.Uris.{uri_text}
-use Rattle.uri_links.proofs.Texts.{normal_after, distinct_after, place_after}
+use Rattle.uri_links.proofs.Texts.{uris_after, normal_after, distinct_after, place_after}
+
+pub invariant_of-self-in-Ok-clause-uris : goal.invariant_of-self-in-Ok-clause-uris
+invariant_of-self-in-Ok-clause-uris g c =
+    let e = ap (map uri_text) c.in_ok-push.ensures.items
+    ∙ map-append uri_text c.args.self.now.targets.items (c.args.target ∷ []) in
+    uris_after _ _ _ e c.args.self.now.uris
+    (subst (IsTextOf uri) c.as_str.ensures.text
+    (record { utf8 = c.as_str.utf8; grammar = c.as_str.ensures.of_kind }))
 
 pub invariant_of-self-in-Ok-clause-normal : goal.invariant_of-self-in-Ok-clause-normal
 invariant_of-self-in-Ok-clause-normal g c =

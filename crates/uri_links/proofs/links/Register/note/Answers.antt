@@ -1,13 +1,11 @@
 use Rattle.std.proofs.Common.{◌∙◌, ap, sym}
 use Rattle.std.proofs.lemmas.Result.{IfOk-weaker}
-use Rattle.std.proofs.lemmas.Str.{IsUtf8-string_bytes}
 use Rattle.fluent_uri.specs.Grammar.{uri}
-use Rattle.fluent_uri.specs.Grammar.{IsTextOf}
 use Rattle.fluent_uri.specs.Uris.{uri_ref_text}
 use Rattle.fluent_uri.specs.Uris.{uri_text}
 use Rattle.uri_links.specs.Registers.{port_function_of, texts_of}
 use Rattle.uri_links.proofs.InWords.{in_words}
-use Rattle.uri_links.proofs.Noted.{each, noted, own_normal_text, noted_refusal}
+use Rattle.uri_links.proofs.Noted.{noted, own_normal_text, noted_refusal}
 use Rattle.uri_links.proofs.links.Register.note.Goals as goal
 
 pub note_target-requires : goal.note_target-requires
@@ -18,12 +16,11 @@ note_target-requires g c = own_normal_text uri (port_function_of c.args.self.now
 pub returns-in-Ok-clause-noted : goal.returns-in-Ok-clause-noted
 returns-in-Ok-clause-noted g c =
     IfOk-weaker c.note_target.result _ _
-    (λ outcome e. noted (port_function_of c.args.self.now) (uri_text c.args.base.now)
+    (λ outcome e. noted c.meanings_are_equal_if_their_parts_are.ensures
+    (port_function_of c.args.self.now) (uri_text c.args.base.now)
     (uri_ref_text c.args.reference.now) (uri_text c.in-Ok.target) (texts_of c.args.self.now)
     (outcome, texts_of c.note_target.new.self)
-    c.in-Ok.ensures.target (each (IsTextOf uri) uri_text
-    (λ u. record { utf8 = IsUtf8-string_bytes u.core.text; grammar = u.core.of_kind })
-    c.args.self.now.targets.items) c.args.self.now.normal e)
+    c.in-Ok.ensures.target c.args.self.now.uris c.args.self.now.normal e)
     c.note_target.ensures.noted
 
 pub returns-in-Err-clause-noted : goal.returns-in-Err-clause-noted
@@ -38,7 +35,8 @@ returns-in-Err-clause-noted g c =
 pub returns-in-Ok-clause-meant : goal.returns-in-Ok-clause-meant
 returns-in-Ok-clause-meant g c =
     IfOk-weaker c.note_target.result _ _
-    (λ outcome. in_words (port_function_of c.args.self.now) (uri_text c.args.base.now)
+    (λ outcome. in_words c.meanings_are_equal_if_their_parts_are.ensures
+    (port_function_of c.args.self.now) (uri_text c.args.base.now)
     (texts_of c.args.self.now) (uri_ref_text c.args.reference.now) outcome
     (texts_of c.note_target.new.self))
     (returns-in-Ok-clause-noted g c)
@@ -46,7 +44,8 @@ returns-in-Ok-clause-meant g c =
 pub returns-in-Err-clause-meant : goal.returns-in-Err-clause-meant
 returns-in-Err-clause-meant g c =
     IfOk-weaker c.refused.result _ _
-    (λ outcome. in_words (port_function_of c.args.self.now) (uri_text c.args.base.now)
+    (λ outcome. in_words c.meanings_are_equal_if_their_parts_are.ensures
+    (port_function_of c.args.self.now) (uri_text c.args.base.now)
     (texts_of c.args.self.now) (uri_ref_text c.args.reference.now) outcome
     (texts_of c.args.self.now))
     (returns-in-Err-clause-noted g c)
