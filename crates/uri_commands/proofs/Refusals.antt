@@ -1,9 +1,9 @@
--- What is refused, by what is answered for a text that the parser refuses.
-use Rattle.std.proofs.Common.{◌≡◌, ◌↔◌, false, true, List, ℕ, Result, Ok, Err, sym, ap, ◌∙◌, subst}
+-- What is returned for a text that has an error.
+use Rattle.std.proofs.Common.{◌≡◌, ◌↔◌, List, ℕ, Result, Ok, Err, Some, sym, ap, ◌∙◌, subst}
 use Rattle.std.specs.Prelude.{IsOk, IfErr, MatchResult, is_ok}
 use Rattle.std.specs.Result.{IsErrAnd}
-use Rattle.fluent_uri.specs.Errors.{IsErrorIn}
 use Rattle.fluent_uri.specs.Grammar.{Kind, IsOfKind}
+use Rattle.fluent_uri.specs.Refusals.{refusal}
 use Rattle.fluent_uri.specs.declared.ParseError.{ParseError}
 use Rattle.uri_commands.specs.Refusals.{IsErrorOf}
 use Rattle.fluent_uri.proofs.Outcomes.{refused_with}
@@ -13,31 +13,31 @@ pub refused_as : {A B : Type 0} (P : B → Type 0) (result : Result A B) (e : B)
 refused_as P (Ok a) e is p = tt
 refused_as P (Err x) e is p = subst P (sym is) p
 
--- The refusal of a text, as it is told. It was parsed as `kind`: where this is not the one that was
--- named, the two are compared, and not what they say of the text.
+-- The error of a text, in what is returned. The text was parsed as `kind`: if this is not the one
+-- that was named, the two are compared, and not what they say of the text.
 pub text_refused : {A B : Type 0} (P : B → Type 0) (told : ParseError → B)
     (named kind : Kind) (text : List ℕ) (result : Result A B) (e : ParseError)
     → ((x : ParseError) → IsErrorOf named text x → P (told x))
-    → (IsOfKind kind text → false ≡ true) → named ≡ kind → IsErrorIn text e
+    → named ≡ kind → refusal kind text ≡ Some e
     → IsErrAnd result (λ x. x ≡ told e) → IfErr result P
-text_refused P told named kind text result e is none same err given =
+text_refused P told named kind text result e is same error given =
     refused_with P result (told e) given
-    (is e (subst (λ k. IsErrorOf k text e) (sym same) (λ of_kind. cc (none of_kind), err)))
+    (is e (subst (λ k. IsErrorOf k text e) (sym same) error))
 
--- the refusal of a text, as `map_err` tells it
+-- the same where `map_err` made it
 pub mapped_refused : {A B C : Type 0} (P : B → Type 0) (told : ParseError → B) (kind : Kind)
     (text : List ℕ) (parsed : Result A ParseError) (mapped : Result A B) (result : Result C B)
     (why : B)
     → ((e : ParseError) → IsErrorOf kind text e → P (told e))
-    → (IsOk parsed ↔ IsOfKind kind text) → IfErr parsed (IsErrorIn text)
+    → IfErr parsed (λ e. refusal kind text ≡ Some e)
     → MatchResult parsed (λ x. mapped ≡ Ok x) (λ e. IsErrAnd mapped (λ y. y ≡ told e))
     → mapped ≡ Err why → IsErrAnd result (λ y. y ≡ why) → IfErr result P
-mapped_refused P told kind text (Ok x) mapped result why is accepts err cases was given =
+mapped_refused P told kind text (Ok x) mapped result why is error cases was given =
     cc (sym cases ∙ was)
-mapped_refused P told kind text (Err e) mapped result why is accepts err cases was given =
+mapped_refused P told kind text (Err e) mapped result why is error cases was given =
     let same : why ≡ told e = subst (λ m. IsErrAnd m (λ y. y ≡ told e)) was cases in
     refused_with P result why given
-    (subst P (sym same) (is e (λ of_kind. cc (accepts.1 of_kind), err)))
+    (subst P (sym same) (is e error))
 
 -- what was parsed before is of its kind
 pub mapped_parsed : {A B E : Type 0} (kind : Kind) (text : List ℕ) (parsed : Result A E)

@@ -1,8 +1,8 @@
 -- Why a command is refused, and the line that tells it.
 use Rattle.std.specs.Prelude.{◌≡◌, ℕ, List, ◌∷◌, ◌++◌, codes, Some, true, slice_get, take}
 use Rattle.fluent_uri.specs.Components.{components}
-use Rattle.fluent_uri.specs.Errors.{IsErrorIn}
 use Rattle.fluent_uri.specs.Grammar.{Kind, IsOfKind, uri, uri_ref}
+use Rattle.fluent_uri.specs.Refusals.{refusal}
 use Rattle.fluent_uri.specs.Resolving.{IsRefusalFor}
 use Rattle.uri_commands.specs.Commands.{Command, Parse, Normalize, Resolve, Links, are_of_kind}
 use Rattle.uri_commands.specs.Commands.{kind_named, kind_of_base, kind_of_references, output_of}
@@ -27,11 +27,11 @@ error_line why = codes "error: " ++ message why ++ codes "\n"
 abbrev pub usage_line : List ℕ
 usage_line = codes "usage: uritool parse KIND TEXT | normalize KIND TEXT | resolve uri|iri BASE REF | links BASE REF...\n"
 
--- the text is not of the kind, and this is what the parser says of it
+-- the error of a text that is not of the kind
 abbrev pub IsErrorOf : Kind → List ℕ → ParseError → Type 0
-IsErrorOf kind text e = ¬ IsOfKind kind text × IsErrorIn text e
+IsErrorOf kind text e = refusal kind text ≡ Some e
 
--- the first of the texts that is not of the kind, and what the parser says of it
+-- the error of the first of the texts that is not of the kind
 abbrev pub IsErrorOfFirst : Kind → List (List ℕ) → ParseError → Type 0
 IsErrorOfFirst kind texts e = (n : ℕ) × (text : List ℕ)
     × (slice_get texts n ≡ Some text) × (are_of_kind kind (take n texts) ≡ true)

@@ -14,7 +14,7 @@ returns-in_err-base-clause-refused c =
     mapped_refused
     (IsRefusalOf (Links c.args.base.now c.args.reference.now (texts c.args.others.now))) Base
     uri c.args.base.now c.parse.result c.map_err.result c.from_residual.result _
-    (λ e is. is) c.parse.ensures.accepts c.parse.ensures.err c.map_err.ensures.cases
+    (λ e is. is) c.parse.ensures.refused c.map_err.ensures.cases
     c.in_err-base.was c.from_residual.ensures.1
 
 pub returns-clause-lines : goal.returns-clause-lines

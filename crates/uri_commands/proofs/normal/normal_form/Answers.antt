@@ -10,32 +10,28 @@ pub returns-in_err-parse-in-Uri-clause-refused : goal.returns-in_err-parse-in-Ur
 returns-in_err-parse-in-Uri-clause-refused c =
     text_refused (IsRefusalOf (Normalize c.args.kind c.args.text.now)) Text _ _ _
     c.from_residual.result _ (λ _ is. is)
-    c.in_err-parse-in-Uri.ensures.accepts.1
-    (ap kind_named c.in-Uri.is) c.in_err-parse-in-Uri.ensures.err
+    (ap kind_named c.in-Uri.is) c.in_err-parse-in-Uri.ensures.refused
     c.from_residual.ensures.1
 
 pub returns-in_err-parse-in-UriRef-clause-refused : goal.returns-in_err-parse-in-UriRef-clause-refused
 returns-in_err-parse-in-UriRef-clause-refused c =
     text_refused (IsRefusalOf (Normalize c.args.kind c.args.text.now)) Text _ _ _
     c.from_residual-in_err-parse-in-UriRef.result _ (λ _ is. is)
-    c.in_err-parse-in-UriRef.ensures.accepts.1
-    (ap kind_named c.in-UriRef.is) c.in_err-parse-in-UriRef.ensures.err
+    (ap kind_named c.in-UriRef.is) c.in_err-parse-in-UriRef.ensures.refused
     c.from_residual-in_err-parse-in-UriRef.ensures.1
 
 pub returns-in_err-parse-in-Iri-clause-refused : goal.returns-in_err-parse-in-Iri-clause-refused
 returns-in_err-parse-in-Iri-clause-refused c =
     text_refused (IsRefusalOf (Normalize c.args.kind c.args.text.now)) Text _ _ _
     c.from_residual-in_err-parse-in-Iri.result _ (λ _ is. is)
-    c.in_err-parse-in-Iri.ensures.accepts.1
-    (ap kind_named c.in-Iri.is) c.in_err-parse-in-Iri.ensures.err
+    (ap kind_named c.in-Iri.is) c.in_err-parse-in-Iri.ensures.refused
     c.from_residual-in_err-parse-in-Iri.ensures.1
 
 pub returns-in_err-parse-in-IriRef-clause-refused : goal.returns-in_err-parse-in-IriRef-clause-refused
 returns-in_err-parse-in-IriRef-clause-refused c =
     text_refused (IsRefusalOf (Normalize c.args.kind c.args.text.now)) Text _ _ _
     c.from_residual-in_err-parse-in-IriRef.result _ (λ _ is. is)
-    c.in_err-parse-in-IriRef.ensures.accepts.1
-    (ap kind_named c.in-IriRef.is) c.in_err-parse-in-IriRef.ensures.err
+    (ap kind_named c.in-IriRef.is) c.in_err-parse-in-IriRef.ensures.refused
     c.from_residual-in_err-parse-in-IriRef.ensures.1
 
 pub returns-clause-normal : goal.returns-clause-normal

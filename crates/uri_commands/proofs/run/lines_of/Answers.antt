@@ -8,30 +8,26 @@ pub returns-in_err-parse-in-Uri-clause-error : goal.returns-in_err-parse-in-Uri-
 returns-in_err-parse-in-Uri-clause-error c =
     text_refused (IsErrorOf (kind_named c.args.kind) c.args.text.now) (λ e. e) _ _ _
     c.from_residual.result _ (λ _ is. is)
-    c.in_err-parse-in-Uri.ensures.accepts.1
-    (ap kind_named c.in-Uri.is) c.in_err-parse-in-Uri.ensures.err
+    (ap kind_named c.in-Uri.is) c.in_err-parse-in-Uri.ensures.refused
     c.from_residual.ensures.1
 
 pub returns-in_err-parse-in-UriRef-clause-error : goal.returns-in_err-parse-in-UriRef-clause-error
 returns-in_err-parse-in-UriRef-clause-error c =
     text_refused (IsErrorOf (kind_named c.args.kind) c.args.text.now) (λ e. e) _ _ _
     c.from_residual-in_err-parse-in-UriRef.result _ (λ _ is. is)
-    c.in_err-parse-in-UriRef.ensures.accepts.1
-    (ap kind_named c.in-UriRef.is) c.in_err-parse-in-UriRef.ensures.err
+    (ap kind_named c.in-UriRef.is) c.in_err-parse-in-UriRef.ensures.refused
     c.from_residual-in_err-parse-in-UriRef.ensures.1
 
 pub returns-in_err-parse-in-Iri-clause-error : goal.returns-in_err-parse-in-Iri-clause-error
 returns-in_err-parse-in-Iri-clause-error c =
     text_refused (IsErrorOf (kind_named c.args.kind) c.args.text.now) (λ e. e) _ _ _
     c.from_residual-in_err-parse-in-Iri.result _ (λ _ is. is)
-    c.in_err-parse-in-Iri.ensures.accepts.1
-    (ap kind_named c.in-Iri.is) c.in_err-parse-in-Iri.ensures.err
+    (ap kind_named c.in-Iri.is) c.in_err-parse-in-Iri.ensures.refused
     c.from_residual-in_err-parse-in-Iri.ensures.1
 
 pub returns-in_err-parse-in-IriRef-clause-error : goal.returns-in_err-parse-in-IriRef-clause-error
 returns-in_err-parse-in-IriRef-clause-error c =
     text_refused (IsErrorOf (kind_named c.args.kind) c.args.text.now) (λ e. e) _ _ _
     c.from_residual-in_err-parse-in-IriRef.result _ (λ _ is. is)
-    c.in_err-parse-in-IriRef.ensures.accepts.1
-    (ap kind_named c.in-IriRef.is) c.in_err-parse-in-IriRef.ensures.err
+    (ap kind_named c.in-IriRef.is) c.in_err-parse-in-IriRef.ensures.refused
     c.from_residual-in_err-parse-in-IriRef.ensures.1

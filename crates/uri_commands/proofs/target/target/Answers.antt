@@ -11,7 +11,7 @@ returns-in_err-base-in-Uri-clause-refused c =
     mapped_refused (IsRefusalOf (Resolve c.args.kind c.args.base.now c.args.reference.now)) Base uri
     c.args.base.now c.parse.result c.map_err.result c.from_residual.result _
     (λ e is. subst (λ k. IsErrorOf (kind_of_base k) c.args.base.now e) (sym c.in-Uri.is) is)
-    c.parse.ensures.accepts c.parse.ensures.err c.map_err.ensures.cases c.in_err-base-in-Uri.was
+    c.parse.ensures.refused c.map_err.ensures.cases c.in_err-base-in-Uri.was
     c.from_residual.ensures.1
 
 pub returns-in_err-reference-in-Uri-clause-refused : goal.returns-in_err-reference-in-Uri-clause-refused
@@ -23,7 +23,7 @@ returns-in_err-reference-in-Uri-clause-refused c =
     c.from_residual-in_err-reference-in-Uri.result _
     (λ e is. subst (λ k. IsOfKind (kind_of_base k) c.args.base.now
     × IsErrorOf (kind_of_references k) c.args.reference.now e) (sym c.in-Uri.is) (base, is))
-    c.parse-in-Uri.ensures.accepts c.parse-in-Uri.ensures.err c.map_err-in-Uri.ensures.cases
+    c.parse-in-Uri.ensures.refused c.map_err-in-Uri.ensures.cases
     c.in_err-reference-in-Uri.was c.from_residual-in_err-reference-in-Uri.ensures.1
 
 pub returns-in_err-base-in-Iri-clause-refused : goal.returns-in_err-base-in-Iri-clause-refused
@@ -32,7 +32,7 @@ returns-in_err-base-in-Iri-clause-refused c =
     c.args.base.now c.parse-in-Iri.result c.map_err-in-Iri.result
     c.from_residual-in_err-base-in-Iri.result _
     (λ e is. subst (λ k. IsErrorOf (kind_of_base k) c.args.base.now e) (sym c.in-Iri.is) is)
-    c.parse-in-Iri.ensures.accepts c.parse-in-Iri.ensures.err c.map_err-in-Iri.ensures.cases
+    c.parse-in-Iri.ensures.refused c.map_err-in-Iri.ensures.cases
     c.in_err-base-in-Iri.was c.from_residual-in_err-base-in-Iri.ensures.1
 
 pub returns-in_err-reference-in-Iri-clause-refused : goal.returns-in_err-reference-in-Iri-clause-refused
@@ -44,7 +44,7 @@ returns-in_err-reference-in-Iri-clause-refused c =
     c.from_residual-in_err-reference-in-Iri.result _
     (λ e is. subst (λ k. IsOfKind (kind_of_base k) c.args.base.now
     × IsErrorOf (kind_of_references k) c.args.reference.now e) (sym c.in-Iri.is) (base, is))
-    c.parse-in-Iri-2.ensures.accepts c.parse-in-Iri-2.ensures.err c.map_err-in-Iri-2.ensures.cases
+    c.parse-in-Iri-2.ensures.refused c.map_err-in-Iri-2.ensures.cases
     c.in_err-reference-in-Iri.was c.from_residual-in_err-reference-in-Iri.ensures.1
 
 pub returns-in_err-uri_target-in-Uri-clause-refused : goal.returns-in_err-uri_target-in-Uri-clause-refused
