@@ -1,7 +1,11 @@
-//! Texts that were tested.
+//! Texts that were tested, and empty ones.
 #![tactic(auto)]
 
-use fluent_uri::component::Scheme;
+ghost use Rattle.std.specs.Prelude.{◌≡◌, []};
+ghost use Rattle.fluent_uri.specs.AuthorityTexts.{authority_text};
+ghost use Rattle.fluent_uri.specs.EncodedTexts.{text_of};
+
+use fluent_uri::component::{Authority, Scheme};
 use fluent_uri::pct_enc::EStr;
 use fluent_uri::pct_enc::encoder::{Encoder, Path};
 
@@ -12,6 +16,20 @@ pub fn valid_or_empty<E: Encoder>(text: &str) -> EStr<'_, E> {
     } else {
         EStr::EMPTY
     }
+}
+
+/// The empty text, of any encoder.
+pub fn empty<E: Encoder>() -> EStr<'static, E>
+    ensures { text_of result ≡ [] }
+{
+    EStr::default()
+}
+
+/// The empty authority.
+pub fn empty_authority() -> Authority<'static>
+    ensures { authority_text result ≡ [] }
+{
+    Authority::new_empty()
 }
 
 /// The text, if it is valid for `Path`.
