@@ -292,6 +292,11 @@ def folder_of(path):
     return "/".join(path.split("/")[1:-1])
 
 
+def judged(text):
+    """Returns a mutant without its lines `shows:`, which the prover does not read."""
+    return "\n".join(it for it in text.split("\n") if not it.startswith("shows:"))
+
+
 class Digests:
     """The digest of what the verdict on each mutant depends on."""
 
@@ -318,5 +323,5 @@ class Digests:
         modules = ["/".join(shape.module(it)) for it in files if it.startswith("src/")]
         touched = shape.touched([*modules, *([edit.function] if edit.function else [])])
         below = [(it.name, self.below[it.name]) for it in crate.below()]
-        parts = (self.judge, self.own[crate.name], touched, below, edit.text)
+        parts = (self.judge, self.own[crate.name], touched, below, judged(edit.text))
         return sum_of(*parts)[:16]

@@ -6,8 +6,8 @@ A crate's file `mutants.lock` has a line for each mutant of its `edits/` that wa
 
 DIGEST is of all that the verdict depends on (mutant_digest.py), so a line whose digest is another
 one is stale and counts for nothing. SHOWN is `-`, or what a run of the mutant showed (shows.py):
-`seen:N` where each of its N lines `shows:` printed both outputs, and `nothing` where it says that
-no difference is visible. The digest covers the whole text of the mutant, and so these lines.
+`seen:N:SUM` where each of its N lines `shows:` printed both outputs, and `nothing:SUM` where it says
+that no difference is visible. SUM is of these lines, which DIGEST does not cover.
 """
 import contextlib
 import fcntl
@@ -111,12 +111,13 @@ class Verdicts:
         if edits:
             self.write(edits[0].crate, {stem_of(it): self.line(it) for it in edits})
 
-    def keep_shown(self, edit, shown):
-        """Writes what a run of an edit showed, and returns whether its verdict has a line."""
-        if self.is_stale(edit):
-            return False
-        self.write(edit.crate, {stem_of(edit): (self.digest(edit), shown)})
-        return True
+    def keep_shown(self, shown):
+        """Writes what a run of these edits showed, and returns those whose verdict has no line."""
+        kept = {it: (self.digest(it), text) for it, text in shown.items() if not self.is_stale(it)}
+        for crate in {it.crate.name: it.crate for it in kept}.values():
+            of_crate = {stem_of(it): line for it, line in kept.items() if it.crate.name == crate.name}
+            self.write(crate, of_crate)
+        return [it for it in shown if it not in kept]
 
     def write(self, crate, changes):
         """Writes these lines, unless a file that they depend on has changed meanwhile."""

@@ -5,15 +5,26 @@ prints:
 
     shows: normalize iri http://a/%2F -> http://a/%2F, turned http://a//
 
-The words are a command of `uritool` (parse, normalize, resolve, links), or one of the program
-shows.txt: `estr ENCODER TEXT`, `encode ENCODER TEXT`, `decode TEXT`, `push ENCODER CHARACTERS` and
-`push-estr ENCODER TEXT TEXT`. They may be quoted as in a shell. An output is all that the program
-prints, errors too, with `\\n` between its lines, and `stopped` where the program panics or does not
-end. Where no output can differ, as of a model or of memory, the mutant says so:
+The words are a command of `uritool` (parse, normalize, resolve, links), or one of the program in
+`shows/`, each of whose files begins with the commands that it has:
+
+    row OPERATION FIELD..           a row as `crates/vectors/data/README.txt` says
+    value, set, text, decode, decode-by, table, address, build
+                                    what the calls of a reference, a normaliser or a resolver, a
+                                    percent-encoded text, a table, an authority or a builder return
+    run WORD.., run-failing WORD..  the status of `uritool`, and what its outputs get, or its error
+                                    output where the output fails
+
+They may be quoted as in a shell. An output is all that the program prints, errors too, with `\\n`
+between its lines and `\\u{E000}` for what cannot be seen, and `stopped` where the program panics or
+does not end. Where no output can differ, as of a model or of memory, the mutant says so:
 
     shows: nothing, since the text is the same without the reserved capacity
+
+One program has all mutants that only change the body of a function, and chooses one at a time
+(chosen.py). What is tried alone takes a program of its own, some 30 seconds.
 """
-import concurrent.futures
+import hashlib
 import pathlib
 import re
 import shlex
@@ -22,12 +33,16 @@ import subprocess
 import tempfile
 from typing import NamedTuple
 
-from mutant_lock import UNSHOWN
+from chosen import LIBRARY, Chosen
 
-PROGRAM, DEPS = "shows", ("uri_commands", "uri_pct")
+PROGRAM = "shows"
+DEPS = ("uri_commands", "uri_rows", "fluent_uri", "uri_parts", "uri_pct")
 MARK = "\n= shown\n"
 NOTHING = "nothing"
-LIMITS = ("--steps", "1000000000", "--seconds", "120")
+LIMITS = ("--steps", "1000", "--seconds", "5")
+STOPPED = "stopped"
+# So many rows are a run, since a run takes a second whatever it has.
+AT_ONCE = 12
 LINE = re.compile(r"(.+?) -> ?(.*), turned ?(.*)")
 
 
@@ -57,25 +72,45 @@ def has_shows(edit):
     return any(it.startswith("shows:") for it in edit.text.split("\n"))
 
 
+def mark_of(edit):
+    """What the lock says of a mutant that was seen to print what its lines say."""
+    lines = [it for it in edit.text.split("\n") if it.startswith("shows:")]
+    sum_of_lines = hashlib.sha256("\n".join(lines).encode()).hexdigest()[:8]
+    shown, _ = shows_of(edit)
+    return f"seen:{len(shown)}:{sum_of_lines}" if shown else f"{NOTHING}:{sum_of_lines}"
+
+
+def visible(text):
+    """A text on one line, with what cannot be seen by its number."""
+    text = text.replace("\n", "\\n")
+    return "".join(it if it.isprintable() else f"\\u{{{ord(it):X}}}" for it in text)
+
+
+class Refused(Exception):
+    """A program that could not be made: what was said, with the places in the sources."""
+
+    def places(self):
+        """The crate, the file and the line of each error."""
+        found = re.finditer(r"crates/(\w+)/(src/\S+?\.rt):(\d+):\d+: error", str(self))
+        return [(it[1], it[2], int(it[3])) for it in found]
+
+
 class Runner:
-    """Copies of the crates below the program, in which a mutant is written."""
+    """Copies of the crates below the program, in which mutants are written."""
 
     def __init__(self, rt, root, crates, folder):
-        self.rt, self.root, self.folder = rt, pathlib.Path(root), folder
+        self.rt, self.root, self.folder, self.stopping = rt, pathlib.Path(root), folder, set()
         named = [it for it in crates if it.name in DEPS]
         self.crates = {below.name: below for it in named for below in [*it.below(), it]}
 
-    def outputs(self, rows, texts=None, crate=None):
-        """What the program prints for each of these commands, where these texts of a crate are."""
+    def outputs(self, files, runs):
+        """What the program prints with these files of the crates, by mutant and words."""
         with tempfile.TemporaryDirectory(dir=self.folder) as folder:
             room = pathlib.Path(folder)
             self.copy(room)
-            for path, text in (texts or {}).items():
-                (room / "crates" / crate.name / path).write_text(text, encoding="utf-8")
-            found = []
-            while len(found) < len(rows):
-                found += self.run(room / "crates" / PROGRAM, rows[len(found) :])
-            return found
+            for (crate, path), data in files.items():
+                (room / "crates" / crate / path).write_bytes(data)
+            return self.run(room / "crates" / PROGRAM, list(dict.fromkeys(runs)))
 
     def copy(self, room):
         (room / ".git").mkdir()
@@ -84,76 +119,141 @@ class Runner:
                 if pathlib.Path(crate.folder, part).is_dir():
                     shutil.copytree(pathlib.Path(crate.folder, part), room / "crates" / name / part)
         (room / "crates" / PROGRAM / "src").mkdir(parents=True)
-        program = pathlib.Path(__file__).with_name("shows.txt")
-        shutil.copyfile(program, room / "crates" / PROGRAM / "src/main.rt")
+        for it in pathlib.Path(__file__).with_name(PROGRAM).glob("*.txt"):
+            shutil.copyfile(it, room / "crates" / PROGRAM / "src" / f"{it.stem}.rt")
         lines = (self.root / "crates.txt").read_text(encoding="utf-8").splitlines()
-        kept = [it for it in lines if re.split(r"[\s:]", it)[0] in self.crates]
-        kept.append(f"{PROGRAM}: {' '.join(DEPS)}")
+        kept = [f"{it} {LIBRARY}" for it in lines if re.split(r"[\s:]", it)[0] in self.crates]
+        kept.append(f"{PROGRAM}: {' '.join(DEPS)} {LIBRARY}")
         (room / "crates.txt").write_text("\n".join(kept) + "\n", encoding="utf-8")
         shutil.copyfile(self.root / "HANDLES", room / "HANDLES")
 
-    def run(self, folder, rows):
-        """What one run prints, with `stopped` for a command in which it ends."""
-        given = "".join("\t".join(it) + "\n" for it in rows)
-        how = {"cwd": folder, "capture_output": True, "encoding": "utf-8", "errors": "replace"}
-        ran = subprocess.run(["rt", "try", *LIMITS], input=given, **how)
-        if "run=none" in ran.stderr or "run=" not in ran.stderr:
-            raise RuntimeError(ran.stderr.strip()[-300:])
-        parts = ran.stdout.split(MARK)[:-1]
-        printed = [it.rstrip("\n").replace("\n", "\\n") for it in parts]
-        return printed if len(printed) == len(rows) else [*printed, "stopped"]
+    def run(self, folder, runs):
+        """What is printed for each of the rows, by mutant and words; of one that stops, that."""
+        alone = [[it] for it in runs if it in self.stopping]
+        left = [it for it in runs if it not in self.stopping]
+        found = {}
+        while left or alone:
+            cases = [left[it : it + AT_ONCE] for it in range(0, len(left), AT_ONCE)] + alone
+            for rows, printed in zip(cases, self.printed(folder, cases)):
+                if len(printed) == len(rows):
+                    found |= zip(rows, printed)
+                elif len(rows) == 1:
+                    found[rows[0]] = STOPPED
+            # (where one stops nothing is told of a run, so its rows are run again, each by itself)
+            left, alone = [], [[it] for it in runs if it not in found]
+        return found
+
+    def printed(self, folder, cases):
+        """What the program prints for each row of these cases; less where it stops."""
+        with tempfile.TemporaryDirectory(dir=folder) as given:
+            for at, rows in enumerate(cases):
+                lines = ["\t".join([str(number), *words]) for number, words in rows]
+                text = "".join(f"{it}\n" for it in lines)
+                pathlib.Path(given, f"{at:04}").write_text(text, encoding="utf-8")
+            how = {"cwd": folder, "capture_output": True, "stdin": subprocess.DEVNULL}
+            words = ["rt", "try", *LIMITS, "--cases", given]
+            ran = subprocess.run(words, encoding="utf-8", errors="replace", **how)
+        if not re.search(r"^cases=\d+ ", ran.stderr, re.MULTILINE):
+            raise Refused(ran.stderr)
+        parts = re.split(r"^== (?=\d+\n)", ran.stdout, flags=re.MULTILINE)[1:]
+        said = dict(it.split("\n", 1) for it in parts)
+        for at in range(len(cases)):
+            rows = said.get(f"{at:04}", "").split(MARK)[:-1]
+            yield [visible(it.rstrip("\n")) for it in rows]
 
 
 def differences(shown, stands, turned):
     """What is printed otherwise than the lines of a mutant say."""
-    for it, one, other in zip(shown, stands, turned):
-        if one != it.output:
-            yield f"`{shlex.join(it.words)}` prints `{one}`, and not `{it.output}`"
-        if other != it.turned:
-            yield f"`{shlex.join(it.words)}`, turned, prints `{other}`, and not `{it.turned}`"
+    for it in shown:
+        words = f"`{shlex.join(it.words)}`"
+        if stands[it.words] != it.output:
+            yield f"{words} prints `{stands[it.words]}`, and not `{it.output}`"
+        if turned[it.words] != it.turned:
+            yield f"{words}, turned, prints `{turned[it.words]}`, and not `{it.turned}`"
 
 
-def seen(runner, edit, shown, stands):
-    """What was seen of a mutant, and whether it is what its lines say."""
-    texts, why = runner.rt.edited(edit.text, edit.crate.folder)
-    if not why and edit.crate.name not in runner.crates:
-        why = f"the program that runs it is not above {edit.crate.name}"
-    if why:
-        return why, False
-    try:
-        turned = runner.outputs([it.words for it in shown], texts, edit.crate)
-    except RuntimeError as error:
-        return f"rt try did not run it: {error}", False
-    wrong = list(differences(shown, [stands[it.words] for it in shown], turned))
-    return "; ".join(wrong) or f"seen:{len(shown)}", not wrong
+class Seen:
+    """What the mutants print, those together that one program can have."""
+
+    def __init__(self, rt, runner, shown):
+        self.rt, self.runner, self.shown = rt, runner, shown
+        self.stands, self.turned, self.why = {}, {}, {}
+
+    def run(self):
+        together = self.together([it for it in self.shown if it.crate.name in self.runner.crates])
+        for edit in self.shown:
+            if edit not in together and edit not in self.why:
+                self.alone(edit)
+
+    def together(self, edits):
+        """Runs those that one program can have; what it refuses is tried without the rest."""
+        while True:
+            made = Chosen(self.rt.rtlib.RATTLE, edits)
+            runs = [(0, it.words) for lines in self.shown.values() for it in lines]
+            rows = [(n, it) for edit, n in made.numbers.items() for it in self.shown[edit]]
+            runs += [(n, it.words) for n, it in rows]
+            self.runner.stopping = {(n, it.words) for n, it in rows if it.turned == STOPPED}
+            try:
+                outputs = self.runner.outputs(made.files, runs)
+                break
+            except Refused as error:
+                numbers = {made.at(*it) for it in error.places()} - {None}
+                if not numbers:
+                    raise SystemExit(f"shows: no program was made: {str(error).strip()[-2000:]}")
+                apart = [it for it, number in made.numbers.items() if number in numbers]
+                print(*(f"shows {it.name}: is tried alone" for it in apart), sep="\n", flush=True)
+                edits = [it for it in edits if it not in apart]
+        self.stands = {words: text for (number, words), text in outputs.items() if number == 0}
+        for edit, n in made.numbers.items():
+            self.turned[edit] = {it.words: outputs[n, it.words] for it in self.shown[edit]}
+        return made.numbers
+
+    def alone(self, edit):
+        texts, why = self.rt.edited(edit.text, edit.crate.folder)
+        if not why and edit.crate.name not in self.runner.crates:
+            why = f"the program that runs it is not above {edit.crate.name}"
+        if not why:
+            files = {(edit.crate.name, path): it.encode() for path, it in texts.items()}
+            try:
+                outputs = self.runner.outputs(files, [(0, it.words) for it in self.shown[edit]])
+                self.turned[edit] = {words: text for (_, words), text in outputs.items()}
+            except Refused as error:
+                why = f"rt try did not run it: {str(error).strip()[-300:]}"
+        if why:
+            self.why[edit] = why
+
+    def said(self, edit):
+        """What was seen of a mutant, and whether it is what its lines say."""
+        if edit in self.why:
+            return self.why[edit], False
+        shown = self.shown[edit]
+        wrong = list(differences(shown, self.stands, self.turned[edit]))
+        return "; ".join(wrong) or f"seen:{len(shown)}", not wrong
 
 
-def show(rt, root, crates, verdicts, edits, jobs, is_due):
+def show(rt, root, crates, verdicts, edits, is_due):
     """Runs the mutants that have lines `shows:`, and returns the status."""
     found = [it for it in edits if has_shows(it)]
     if is_due:
-        found = [it for it in found if verdicts.shown(it) in (None, UNSHOWN)]
+        # (of one in must-fail/ no file keeps what was seen)
+        found = [it for it in found if not it.function or verdicts.shown(it) != mark_of(it)]
     read = {it: shows_of(it) for it in found}
-    rows = sorted({one.words for shown, _ in read.values() for one in shown})
-    failed, nothing, count = 0, 0, 0
+    said = {it: (why or NOTHING, not why) for it, (shown, why) in read.items() if why or not shown}
     with tempfile.TemporaryDirectory(prefix="shows-") as folder:
         runner = Runner(rt, root, crates, folder)
-        stands = dict(zip(rows, runner.outputs(rows))) if rows else {}
-
-        def one(edit):
-            shown, why = read[edit]
-            if why or not shown:
-                return why or NOTHING, not why
-            return seen(runner, edit, shown, stands)
-
-        with concurrent.futures.ThreadPoolExecutor(jobs) as pool:
-            for edit, (said, is_well) in zip(found, pool.map(one, found)):
-                print(f"shows {edit.name}: {'' if is_well else 'FAILED: '}{said}", flush=True)
-                failed, nothing = failed + (not is_well), nothing + (said == NOTHING)
-                count += is_well and said != NOTHING
-                if is_well and not verdicts.keep_shown(edit, said):
-                    print(f"shows {edit.name}: not kept, as mutants.lock has no line for it")
+        seen = Seen(rt, runner, {it: shown for it, (shown, _) in read.items() if it not in said})
+        if seen.shown:
+            seen.run()
+        said |= {it: seen.said(it) for it in seen.shown}
+    for edit in found:
+        text, is_well = said[edit]
+        print(f"shows {edit.name}: {'' if is_well else 'FAILED: '}{text}", flush=True)
+    seen_well = {it: mark_of(it) for it, (_, is_well) in said.items() if is_well and it.function}
+    if unkept := verdicts.keep_shown(seen_well):
+        print(f"shows: {len(unkept)} of these are not kept, as mutants.lock has no line for them")
+    failed = sum(not is_well for _, is_well in said.values())
+    nothing = sum(text == NOTHING for text, _ in said.values())
     lacking = len(edits) - sum(map(has_shows, edits))
-    print(f"shows: {count} show a difference, {nothing} can show none, {failed} failed; "
-          f"{lacking} of {len(edits)} mutants have no line `shows:`")
+    print(f"shows: {len(found) - nothing - failed} show a difference, {nothing} can show none, "
+          f"{failed} failed; {lacking} of {len(edits)} mutants have no line `shows:`")
     return 1 if failed else 0
