@@ -1,0 +1,9 @@
+pub mod Rows
+pub mod Places
+pub mod KindFacts
+pub mod Tails
+pub mod PathErrors
+pub mod LiteralHosts
+pub mod NextMarks
+pub mod AuthorityErrors
+pub mod Whole

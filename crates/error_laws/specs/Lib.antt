@@ -1,0 +1,2 @@
+pub mod ViablePrefixes
+pub mod ViablePrefixRows

@@ -1,0 +1,71 @@
+-- Whether what is before an error begins some text of the kind. Each text does that is not one
+-- of three exceptions, in which the error is returned later than it might be: this library's own
+-- choice, since no RFC says which error a text has.
+use Rattle.std.specs.Prelude.{ℕ, ◌+◌, ◌==◌, Bool, false, not, ◌&&◌, ◌||◌, nat_lt, List, ◌++◌}
+use Rattle.std.specs.Prelude.{length, drop, codes, slice_index, Ok, Err, if◌then◌else◌}
+use Rattle.std.specs.Char.{is_ascii_alphabetic}
+use Rattle.std.specs.Option.{option_map_or}
+use Rattle.uri_pct.specs.Delimiters.{at_sign, colon, left_bracket, percent_sign, slash}
+use Rattle.uri_pct.specs.Sets.{digit_set, scheme_set}
+use Rattle.uri_parts.specs.Components.{has_authority}
+use Rattle.uri_parts.specs.Grammar.{Kind, IsTextOf}
+use Rattle.uri_parts.specs.LiteralErrors.{ipv6_end, literal}
+use Rattle.uri_parts.specs.Scanning.{End, is_next, is_at_end, scan_end}
+
+-- a text of the kind begins so
+abbrev pub IsViable : Kind → List ℕ → Type 0
+IsViable kind prefix = (more : List ℕ) × IsTextOf kind (prefix ++ more)
+
+-- what is read ends somewhere, and a test holds there
+abbrev pub ends_where : (ℕ → Bool) → End → Bool
+ends_where test (Ok end) = test end
+ends_where test (Err e) = false
+
+module _ (text : List ℕ) where
+  -- 1. A scheme is needed, and what might be one begins with no letter. The error is at its end:
+  -- `3ab` at 3.
+  abbrev pub lacks_letter : ℕ → Bool
+  lacks_letter scheme = nat_lt 0 scheme && not (is_ascii_alphabetic (slice_index text 0))
+
+  -- 2. An IPv6 address is read up to the end of the text, but not if `]` follows: the digits at the
+  -- end of the text are not counted. The error is there: `//[:::1` at 7.
+  abbrev pub is_uncounted : ℕ → Bool
+  is_uncounted i =
+      option_map_or (is_at_end text) (ipv6_end text i) false
+      && not (option_map_or (λ end. end == length text) (ipv6_end (text ++ codes "]") i) false)
+
+module _ (kind : Kind) (text : List ℕ) where
+  -- 3. A stray `%` is in a path that should begin with `/`, since a host and a port are before it.
+  -- The error is at the `%`: `//[::1]a%zz` at 8.
+  abbrev pub is_unrooted : ℕ → Bool
+  is_unrooted i =
+      let end = scan_end text kind.path i in
+      nat_lt i end && not (is_next text slash i) && is_next text percent_sign end
+
+  unfoldable pub is_late_from_port : ℕ → Bool
+  is_late_from_port i =
+      is_unrooted (if is_next text colon i then scan_end text digit_set (i + 1) else i)
+
+  unfoldable pub is_late_from_host : ℕ → Bool
+  is_late_from_host i =
+      if is_next text left_bracket i
+      then is_uncounted text (i + 1) || ends_where is_late_from_port (literal text (i + 1))
+      else is_late_from_port (scan_end text kind.reg_name i)
+
+  -- a host after userinfo, or one in brackets
+  unfoldable pub is_late_from_authority : ℕ → Bool
+  is_late_from_authority i =
+      let end = scan_end text kind.userinfo i in
+      if is_next text at_sign end then is_late_from_host (end + 1)
+      else is_next text left_bracket i && is_late_from_host i
+
+  abbrev pub is_late_from_hier : ℕ → Bool
+  is_late_from_hier i = has_authority (drop i text) && is_late_from_authority (i + 2)
+
+  -- the text is one of the three exceptions
+  unfoldable pub has_late_error : Bool
+  has_late_error =
+      let scheme = scan_end text scheme_set 0 in
+      if is_next text colon scheme
+      then is_ascii_alphabetic (slice_index text 0) && is_late_from_hier (scheme + 1)
+      else (if kind.needs_scheme then lacks_letter text scheme else is_late_from_hier 0)
