@@ -4,7 +4,9 @@
 
 pub mod converting;
 pub mod decoding;
+pub mod empty;
 pub mod normalising;
+pub mod reading;
 pub mod removing;
 pub mod spelling;
 pub mod swapping;

@@ -1,11 +1,16 @@
 //! Normal forms (RFC 3986, section 6.2.2).
 ghost use Rattle.std.specs.Prelude.{◌≡◌, IfOk, true};
-ghost use Rattle.fluent_uri.specs.Grammar.{iri};
+ghost use Rattle.fluent_uri.specs.ComponentSets.{HasComponentSets};
+ghost use Rattle.fluent_uri.specs.Grammar.{IsTextOf, Kind, iri};
 ghost use Rattle.fluent_uri.specs.Iris.{iri_text};
+ghost use Rattle.fluent_uri.specs.Meaning.{meaning_of};
+ghost use Rattle.fluent_uri.specs.Normal.{normal_text};
 ghost use Rattle.fluent_uri.specs.Normalizers.{IsNormalForm};
+ghost use Rattle.fluent_uri.specs.Ports.{PortFunction};
+ghost use Rattle.fluent_uri.specs.SameMeanings.{same_meaning};
 ghost use Rattle.fluent_uri.specs.SchemePorts.{default_port};
 
-use fluent_uri::Iri;
+use fluent_uri::{Iri, laws};
 use std::alloc::{AllocError, Global};
 
 /// Whether a normal form is its own normal form: it is.
@@ -18,6 +23,26 @@ pub fn same_when_normalised_twice(alloc: Global, given: Iri<&str>) -> Result<boo
 {
     let normal = given.normalize(alloc)?;
     Ok(normal.normalize(alloc)? == normal)
+}
+
+/// A text of any kind with sets such as those of the four kinds means what its normal text means.
+pub fn normal_text_means_the_same(text: &str)
+    ensures { (kind : Kind) (ports : PortFunction) → HasComponentSets kind
+        → IsTextOf kind text.now
+        → meaning_of kind ports (normal_text (meaning_of kind ports text.now))
+        ≡ meaning_of kind ports text.now }
+{
+    laws::normal_texts_are_canonical();
+}
+
+/// Texts whose meanings have equal parts have one normal text.
+pub fn normal_text_of_equal_parts(text: &str, other: &str)
+    requires { same_meaning (meaning_of iri default_port text.now)
+        (meaning_of iri default_port other.now) ≡ true }
+    ensures { normal_text (meaning_of iri default_port text.now)
+        ≡ normal_text (meaning_of iri default_port other.now) }
+{
+    laws::meanings_are_equal_if_their_parts_are();
 }
 
 /// The normal form, whose text is parsed once more: it is never refused.

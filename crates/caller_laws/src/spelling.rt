@@ -1,6 +1,7 @@
 //! The texts of the kinds, in the words of the RFCs (RFC 3986, section 3; RFC 3987, section 2.2).
 ghost use Rattle.std.specs.Prelude.{◌≡◌, IfOk, []};
-ghost use Rattle.fluent_uri.specs.Grammar.{iri};
+ghost use Rattle.fluent_uri.specs.ComponentSets.{IsWithin};
+ghost use Rattle.fluent_uri.specs.Grammar.{IsTextOf, Kind, iri, iri_ref};
 ghost use Rattle.fluent_uri.specs.GrammarInWords.{IsInGrammar};
 
 use fluent_uri::component::Authority;
@@ -17,6 +18,15 @@ pub fn spelt(text: &str) -> Result<&str, ParseError>
 {
     laws::kinds_are_their_grammar();
     Ok(Iri::<&str>::parse(text)?.as_str())
+}
+
+/// A text of any kind whose texts are IRI references is an IRI reference.
+pub fn widened(text: &str)
+    ensures { (kind : Kind) → IsWithin kind iri_ref → IsTextOf kind text.now
+        → IsTextOf iri_ref text.now }
+{
+    laws::four_kinds_have_component_sets();
+    laws::texts_of_wider_kinds();
 }
 
 /// The text of the empty authority: it is empty.

@@ -50,9 +50,10 @@ pub fn same_normal_target(
     ensures { IfOk result (λ same. same ≡ true) }
 {
     let target = Resolver::with_base(base).resolve(alloc, &reference)?;
-    let of_normal = Resolver::with_base(base.normalize(alloc)?).resolve(
-        alloc,
-        &reference.normalize(alloc)?,
-    )?;
+    let normal_base = base.normalize(alloc)?;
+    let normal_reference = reference.normalize(alloc)?;
+    let _base_text = normal_base.as_str();
+    let _reference_text = normal_reference.as_str();
+    let of_normal = Resolver::with_base(normal_base).resolve(alloc, &normal_reference)?;
     Ok(target.normalize(alloc)? == of_normal.normalize(alloc)?)
 }

@@ -35,3 +35,18 @@ fn tables_combine(rt: HostRuntime) {
     ];
     equal(past_ascii, [true, false, true, false]).expect(&rt, "past ASCII");
 }
+
+#[test]
+fn lists_are_tested(rt: HostRuntime) {
+    let tested = [
+        Table::try_new(b"").is_some(),
+        Table::try_new(b"ab").is_some(),
+        Table::try_new(b"100%").is_some(),
+        Table::try_new(b"\x7F").is_some(),
+        Table::try_new(b"a\x80").is_some(),
+    ];
+    equal(tested, [true, true, false, true, false]).expect(&rt, "try_new");
+    if let Some(table) = Table::try_new(b"ba") {
+        has_characters(&rt, &table, "ab");
+    }
+}

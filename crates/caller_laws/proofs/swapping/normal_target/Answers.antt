@@ -1,6 +1,5 @@
 use Rattle.std.proofs.Common.{ap, subst}
-use Rattle.std.specs.Str.{IsUtf8}
-use Rattle.fluent_uri.specs.Grammar.{iri, iri_ref}
+use Rattle.fluent_uri.specs.Grammar.{IsTextOf, iri, iri_ref}
 use Rattle.fluent_uri.specs.Iris.{iri_ref_text}
 use Rattle.fluent_uri.specs.Iris.{iri_text}
 use Rattle.fluent_uri.specs.Resolving.{base_of}
@@ -16,13 +15,12 @@ returns-clause-target c =
     (iri_ref_text c.in_ok-normal_reference.normal_reference)
     (iri_text (base_of c.with_base.result)) (iri_text c.in_ok-target.target)
     (iri_text c.in_ok-normalize.field-0)
+    (subst (IsTextOf iri) c.as_str-base_text.ensures.text
+    (record { utf8 = c.as_str-base_text.utf8; grammar = c.as_str-base_text.ensures.of_kind }))
+    (subst (IsTextOf iri_ref) c.as_str-reference_text.ensures.text
     (record {
-      utf8 = subst IsUtf8 c.as_str-base_text.ensures.text c.as_str-base_text.utf8;
-      grammar = c.args.base.core.of_kind;
-    })
-    (record {
-      utf8 = subst IsUtf8 c.as_str-reference_text.ensures.text c.as_str-reference_text.utf8;
-      grammar = c.args.reference.core.of_kind;
-    })
+      utf8 = c.as_str-reference_text.utf8;
+      grammar = c.as_str-reference_text.ensures.of_kind;
+    }))
     (ap iri_text c.with_base.ensures.base) c.in_ok-normal_base.ensures
     c.in_ok-normal_reference.ensures c.in_ok-target.ensures.alike c.in_ok-normalize.ensures
