@@ -29,6 +29,7 @@ pub use Rattle.uri_parts.specs.Refusals
 pub use Rattle.uri_parts.specs.Scanning
 pub use Rattle.uri_parts.specs.SchemePorts
 pub use Rattle.uri_parts.specs.Schemes
+pub use Rattle.error_laws.specs.ViablePrefixes
 pub use Rattle.uri_ops.specs.ComponentSets
 pub use Rattle.uri_ops.specs.Conversions
 pub use Rattle.uri_ops.specs.Encoded

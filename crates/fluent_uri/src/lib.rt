@@ -82,6 +82,7 @@ pub mod component {
 /// Laws of the definitions that contracts cite: a call does nothing, and its contract is the law. A
 /// caller whose proof needs one calls it.
 pub mod laws {
+    pub use error_laws::what_is_before_an_error_begins_a_text;
     pub use uri_ops::across::{
         encoded_texts_mean_the_same, encoded_texts_resolve_alike, texts_of_wider_kinds,
     };
