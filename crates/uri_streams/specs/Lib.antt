@@ -1,0 +1,17 @@
+pub mod Lines
+pub mod Json
+pub mod Answers
+pub mod Outputs
+pub mod Returned
+pub mod Runs
+pub use Rattle.fluent_uri.specs.Authority
+pub use Rattle.fluent_uri.specs.Components
+pub use Rattle.fluent_uri.specs.Grammar
+pub use Rattle.fluent_uri.specs.Hosts
+pub use Rattle.fluent_uri.specs.Meaning
+pub use Rattle.fluent_uri.specs.Normal
+pub use Rattle.fluent_uri.specs.Refusals
+pub use Rattle.fluent_uri.specs.Resolving
+pub use Rattle.fluent_uri.specs.SchemePorts
+pub use Rattle.fluent_uri.specs.Target
+pub use Rattle.uri_commands.specs.Messages
