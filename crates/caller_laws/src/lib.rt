@@ -6,6 +6,7 @@ pub mod converting;
 pub mod decoding;
 pub mod empty;
 pub mod normalising;
+pub mod parsing;
 pub mod reading;
 pub mod removing;
 pub mod spelling;
