@@ -1,0 +1,230 @@
+/**
+ * @file fluent_uri.h
+ * Generic URIs (RFC 3986) and IRIs (RFC 3987): parsed, normalised and resolved. C99 and C++11.
+ *
+ * TEXTS are a pointer and a length in bytes of UTF-8, and need no NUL at their end.
+ *
+ * RESULTS are written into the caller's buffer OUT of OUT_LEN bytes, with no NUL behind them, as
+ * snprintf does it: outcome->length is the length of the whole result. If it is at most OUT_LEN, OUT
+ * begins with the result, and no byte behind it has changed. Else OUT is as it was, and the caller
+ * calls again with a buffer of outcome->length bytes. So nothing is freed across the border.
+ *
+ * ERRORS. Each call returns 0, or the number of an error, which is in the outcome too. OUT is then
+ * as it was.
+ *
+ * POINTERS may be null where the length beside them is 0, and not otherwise. OUT, the offsets, the
+ * validity, the outcome and the parts may not overlap a text, or one another.
+ *
+ * THREADS. The library has no state: any thread may make any call at any time, each with buffers of
+ * its own. It calls malloc, realloc and free, so it must not be called from a signal handler.
+ * It raises no signal, prints nothing and never exits.
+ *
+ * PROCESSORS. The library is compiled for x86-64-v2 (SSE4.2; since 2009). On an older processor
+ * glibc refuses to load it, with the message `CPU ISA level is lower than required`.
+ */
+#ifndef FLUENT_URI_H
+#define FLUENT_URI_H
+
+#include <stddef.h>
+#include <stdint.h>
+
+#ifdef __cplusplus
+extern "C" {
+#endif
+
+#define FLUENT_URI_VERSION_MAJOR 0
+#define FLUENT_URI_VERSION_MINOR 1
+
+/** The kinds of texts. */
+enum fluent_uri_kind {
+    FLUENT_URI_URI = 0,     /**< RFC 3986, section 3 */
+    FLUENT_URI_URI_REF = 1, /**< RFC 3986, section 4.1 */
+    FLUENT_URI_IRI = 2,     /**< RFC 3987, section 2.2 */
+    FLUENT_URI_IRI_REF = 3  /**< RFC 3987, section 2.2 */
+};
+
+/** The errors. An index is in bytes; 0 where none is named. */
+enum fluent_uri_error {
+    FLUENT_URI_OK = 0,
+    FLUENT_URI_INVALID_PCT_ENCODED_OCTET = 1, /**< index: of the `%` */
+    FLUENT_URI_UNEXPECTED_CHAR = 2,           /**< index: of the character, or the text's end */
+    FLUENT_URI_INVALID_IPV6_ADDR = 3,         /**< index: of the byte behind the `[` */
+    FLUENT_URI_NOT_UTF8 = 4,                  /**< index: of the first byte that is not UTF-8 */
+    FLUENT_URI_BASE_WITH_FRAGMENT = 5,
+    FLUENT_URI_INVALID_REFERENCE_AGAINST_OPAQUE_BASE = 6,
+    FLUENT_URI_PATH_UNDERFLOW = 7,            /**< reserved: no call returns it */
+    FLUENT_URI_OUT_OF_MEMORY = 8,
+    FLUENT_URI_INVALID_ARGUMENT = 9,          /**< no such kind or component, or bad offsets */
+    FLUENT_URI_FULL = 10                      /**< a batch: an output is too small */
+};
+
+/** The components that a number names. */
+enum fluent_uri_component {
+    FLUENT_URI_USERINFO = 0,
+    FLUENT_URI_HOST = 1,      /**< to encode and decode: a registered name */
+    FLUENT_URI_PATH = 2,
+    FLUENT_URI_QUERY = 3,
+    FLUENT_URI_FRAGMENT = 4,
+    FLUENT_URI_SCHEME = 5,    /**< of a column only */
+    FLUENT_URI_AUTHORITY = 6, /**< of a column only */
+    FLUENT_URI_PORT = 7,      /**< of a column only */
+    FLUENT_URI_DATA = 8       /**< to encode only: all but unreserved characters is encoded */
+};
+
+/** The kinds of hosts (RFC 3986, section 3.2.2). */
+enum fluent_uri_host_kind {
+    FLUENT_URI_NO_HOST = 0,   /**< there is no authority */
+    FLUENT_URI_REG_NAME = 1,
+    FLUENT_URI_IPV4 = 2,
+    FLUENT_URI_IPV6 = 3,
+    FLUENT_URI_IPV_FUTURE = 4
+};
+
+/** The bytes from `start` up to `end`; both are SIZE_MAX where the component is absent. */
+typedef struct {
+    size_t start, end;
+} fluent_uri_span;
+
+/** Where the components of a text lie, or why it is rejected. */
+typedef struct {
+    uint32_t error;     /**< 0, or why the text is rejected; then every component is absent */
+    uint32_t host_kind; /**< enum fluent_uri_host_kind */
+    size_t index;       /**< where the error is */
+    fluent_uri_span scheme, authority, userinfo, host, port, path, query, fragment;
+} fluent_uri_parts;
+
+/** What a call tells. */
+typedef struct {
+    uint32_t error;
+    uint32_t which; /**< the text that is rejected: 0 the first, or the base; 1 the reference */
+    size_t index;   /**< where in it; of a batch: how many texts are done */
+    size_t length;  /**< how long the result is; of a batch: how long the results so far are */
+} fluent_uri_outcome;
+
+/** Parses a text, and tells where its components lie. Takes no memory. */
+uint32_t fluent_uri_parse(uint32_t kind, const uint8_t *text, size_t text_len,
+                          fluent_uri_parts *parts);
+
+/** Writes the normal form (RFC 3986, section 6.2.2; default ports are left out). */
+uint32_t fluent_uri_normalize(uint32_t kind, const uint8_t *text, size_t text_len, uint8_t *out,
+                              size_t out_len, fluent_uri_outcome *outcome);
+
+/** Writes the target of a reference against a base (RFC 3986, section 5.2). KIND is that of the
+ * base, a URI or an IRI; the reference is one of URIs or of IRIs. */
+uint32_t fluent_uri_resolve(uint32_t kind, const uint8_t *base, size_t base_len,
+                            const uint8_t *reference, size_t reference_len, uint8_t *out,
+                            size_t out_len, fluent_uri_outcome *outcome);
+
+/** Writes the normal form of that target. */
+uint32_t fluent_uri_resolve_normalized(uint32_t kind, const uint8_t *base, size_t base_len,
+                                       const uint8_t *reference, size_t reference_len, uint8_t *out,
+                                       size_t out_len, fluent_uri_outcome *outcome);
+
+/** Writes an IRI or an IRI reference as a URI or a URI reference (RFC 3987, section 3.1). */
+uint32_t fluent_uri_to_uri(uint32_t kind, const uint8_t *text, size_t text_len, uint8_t *out,
+                           size_t out_len, fluent_uri_outcome *outcome);
+
+/** Writes the bytes that a component stands for, which may not be UTF-8. `+` is not a space. A text
+ * with characters that the component may not have is rejected as FLUENT_URI_UNEXPECTED_CHAR. */
+uint32_t fluent_uri_decode(uint32_t component, const uint8_t *text, size_t text_len, uint8_t *out,
+                           size_t out_len, fluent_uri_outcome *outcome);
+
+/** Writes bytes as a component: each character that it may have as it is, all else as
+ * percent-encoded octets. */
+uint32_t fluent_uri_encode(uint32_t component, const uint8_t *bytes, size_t bytes_len, uint8_t *out,
+                           size_t out_len, fluent_uri_outcome *outcome);
+
+/**
+ * COLUMNS, as Apache Arrow has them: the text i runs from offsets[i] up to offsets[i + 1] of DATA,
+ * so N texts have N + 1 offsets. Arrow's signed offsets are never negative, and so have the bits of
+ * these: those of `utf8` are of 32 bits, those of `large_utf8` of 64, as the calls with `64` take
+ * them. A column of results needs N + 1 offsets and (N + 7) / 8 bytes of VALID, of which bit i is 1
+ * where the text i has a result; other bits stay. A text that is rejected has an empty result and
+ * bit 0: fluent_uri_parse tells why.
+ *
+ * Where a call ends early, outcome->index texts are done, as after a call with these alone, and
+ * outcome->length is the length of their results:
+ *
+ * FLUENT_URI_FULL: the result of the text outcome->index does not fit OUT, or its end an offset.
+ * The caller goes on with that text, in a second column. Where there are not N + 1 offsets, or not
+ * (N + 7) / 8 bytes of VALID, none is done and nothing is written.
+ *
+ * FLUENT_URI_INVALID_ARGUMENT: the offsets fall at the text outcome->index, or lie outside DATA; or
+ * there is no such kind or component.
+ *
+ * FLUENT_URI_OUT_OF_MEMORY: memory was refused at the text outcome->index.
+ */
+uint32_t fluent_uri_normalize_batch(uint32_t kind, const uint8_t *data, size_t data_len,
+                                    const uint32_t *offsets, size_t offsets_len, uint8_t *out,
+                                    size_t out_len, uint32_t *out_offsets, size_t out_offsets_len,
+                                    uint8_t *valid, size_t valid_len, fluent_uri_outcome *outcome);
+/** The same with offsets of 64 bits. */
+uint32_t fluent_uri_normalize_batch64(uint32_t kind, const uint8_t *data, size_t data_len,
+                                      const uint64_t *offsets, size_t offsets_len, uint8_t *out,
+                                      size_t out_len, uint64_t *out_offsets, size_t out_offsets_len,
+                                      uint8_t *valid, size_t valid_len,
+                                      fluent_uri_outcome *outcome);
+
+/** Converts a column of IRIs, or of IRI references, as fluent_uri_to_uri does. */
+uint32_t fluent_uri_to_uri_batch(uint32_t kind, const uint8_t *data, size_t data_len,
+                                 const uint32_t *offsets, size_t offsets_len, uint8_t *out,
+                                 size_t out_len, uint32_t *out_offsets, size_t out_offsets_len,
+                                 uint8_t *valid, size_t valid_len, fluent_uri_outcome *outcome);
+/** The same with offsets of 64 bits. */
+uint32_t fluent_uri_to_uri_batch64(uint32_t kind, const uint8_t *data, size_t data_len,
+                                   const uint64_t *offsets, size_t offsets_len, uint8_t *out,
+                                   size_t out_len, uint64_t *out_offsets, size_t out_offsets_len,
+                                   uint8_t *valid, size_t valid_len, fluent_uri_outcome *outcome);
+
+/** Resolves a column of references against one base. */
+uint32_t fluent_uri_resolve_batch(uint32_t kind, const uint8_t *base, size_t base_len,
+                                  const uint8_t *data, size_t data_len, const uint32_t *offsets,
+                                  size_t offsets_len, uint8_t *out, size_t out_len,
+                                  uint32_t *out_offsets, size_t out_offsets_len, uint8_t *valid,
+                                  size_t valid_len, fluent_uri_outcome *outcome);
+/** The same with offsets of 64 bits. */
+uint32_t fluent_uri_resolve_batch64(uint32_t kind, const uint8_t *base, size_t base_len,
+                                    const uint8_t *data, size_t data_len, const uint64_t *offsets,
+                                    size_t offsets_len, uint8_t *out, size_t out_len,
+                                    uint64_t *out_offsets, size_t out_offsets_len, uint8_t *valid,
+                                    size_t valid_len, fluent_uri_outcome *outcome);
+
+/** Resolves a column of references against one base, and normalises the targets. */
+uint32_t fluent_uri_resolve_normalized_batch(uint32_t kind, const uint8_t *base, size_t base_len,
+                                             const uint8_t *data, size_t data_len,
+                                             const uint32_t *offsets, size_t offsets_len,
+                                             uint8_t *out, size_t out_len, uint32_t *out_offsets,
+                                             size_t out_offsets_len, uint8_t *valid,
+                                             size_t valid_len, fluent_uri_outcome *outcome);
+/** The same with offsets of 64 bits. */
+uint32_t fluent_uri_resolve_normalized_batch64(uint32_t kind, const uint8_t *base, size_t base_len,
+                                               const uint8_t *data, size_t data_len,
+                                               const uint64_t *offsets, size_t offsets_len,
+                                               uint8_t *out, size_t out_len, uint64_t *out_offsets,
+                                               size_t out_offsets_len, uint8_t *valid,
+                                               size_t valid_len, fluent_uri_outcome *outcome);
+
+/** Writes a component of each text; bit 0 also where the text has none. Takes no memory. */
+uint32_t fluent_uri_component_batch(uint32_t kind, uint32_t component, const uint8_t *data,
+                                    size_t data_len, const uint32_t *offsets, size_t offsets_len,
+                                    uint8_t *out, size_t out_len, uint32_t *out_offsets,
+                                    size_t out_offsets_len, uint8_t *valid, size_t valid_len,
+                                    fluent_uri_outcome *outcome);
+
+/** Parses each text; parts[i].error tells why one is rejected. Takes no memory. */
+uint32_t fluent_uri_parse_batch(uint32_t kind, const uint8_t *data, size_t data_len,
+                                const uint32_t *offsets, size_t offsets_len,
+                                fluent_uri_parts *parts, size_t parts_len,
+                                fluent_uri_outcome *outcome);
+
+/** Writes the normal form of each line, with a newline behind each. The line of a text that is
+ * rejected is empty, and errors[i] is the number of its error. N lines have N - 1 newlines between
+ * them. */
+uint32_t fluent_uri_normalize_lines(uint32_t kind, const uint8_t *lines, size_t lines_len,
+                                    uint8_t *out, size_t out_len, uint8_t *errors,
+                                    size_t errors_len, fluent_uri_outcome *outcome);
+
+#ifdef __cplusplus
+}
+#endif
+#endif

@@ -1,0 +1,145 @@
+/**
+ * @file fluent_uri.hpp
+ * The calls of fluent_uri.h on std::string_view, with results as std::string. C++17. Nothing throws
+ * but std::bad_alloc, where memory is refused.
+ */
+#ifndef FLUENT_URI_HPP
+#define FLUENT_URI_HPP
+
+#include <cstddef>
+#include <cstdint>
+#include <new>
+#include <optional>
+#include <string>
+#include <string_view>
+#include <utility>
+
+#include "fluent_uri.h"
+
+namespace fluent_uri {
+
+/** Why a text is rejected: an error of fluent_uri.h, in which text (1: the reference), and where. */
+struct rejection {
+    std::uint32_t error;
+    std::uint32_t which;
+    std::size_t index;
+};
+
+/** A text, or why there is none. */
+struct result {
+    std::optional<std::string> text;
+    rejection why;
+
+    explicit operator bool() const noexcept { return text.has_value(); }
+    const std::string &operator*() const noexcept { return *text; }
+    const std::string *operator->() const noexcept { return &*text; }
+};
+
+namespace detail {
+
+inline const std::uint8_t *bytes(std::string_view text) noexcept {
+    return reinterpret_cast<const std::uint8_t *>(text.data());
+}
+
+/** Makes a call twice at most: the first tells how long the result is, or has it. */
+template <typename Call> result make(std::size_t room, Call call) {
+    std::string made(room, '\0');
+    for (;;) {
+        fluent_uri_outcome told;
+        auto *out = reinterpret_cast<std::uint8_t *>(made.data());
+        if (call(out, made.size(), &told) == FLUENT_URI_OUT_OF_MEMORY) throw std::bad_alloc();
+        if (told.error) return {std::nullopt, {told.error, told.which, told.index}};
+        bool fits = told.length <= made.size();
+        made.resize(told.length);
+        if (fits) return {std::move(made), {0, 0, 0}};
+    }
+}
+
+} // namespace detail
+
+/** The components of a text, which has to outlive them, or why it is rejected. */
+class parts {
+  public:
+    parts(std::uint32_t kind, std::string_view text) noexcept : text_(text) {
+        fluent_uri_parse(kind, detail::bytes(text), text.size(), &told_);
+    }
+
+    explicit operator bool() const noexcept { return told_.error == 0; }
+    rejection why() const noexcept { return {told_.error, 0, told_.index}; }
+    std::uint32_t host_kind() const noexcept { return told_.host_kind; }
+
+    using component = std::optional<std::string_view>;
+    component scheme() const noexcept { return at(told_.scheme); }
+    component authority() const noexcept { return at(told_.authority); }
+    component userinfo() const noexcept { return at(told_.userinfo); }
+    component host() const noexcept { return at(told_.host); }
+    component port() const noexcept { return at(told_.port); }
+    component path() const noexcept { return at(told_.path); }
+    component query() const noexcept { return at(told_.query); }
+    component fragment() const noexcept { return at(told_.fragment); }
+
+  private:
+    component at(fluent_uri_span span) const noexcept {
+        if (span.start == SIZE_MAX) return std::nullopt;
+        return std::string_view(text_.data() + span.start, span.end - span.start);
+    }
+
+    std::string_view text_;
+    fluent_uri_parts told_;
+};
+
+inline parts parse(std::uint32_t kind, std::string_view text) noexcept {
+    return parts(kind, text);
+}
+
+/** The normal form (RFC 3986, section 6.2.2). */
+inline result normalize(std::uint32_t kind, std::string_view text) {
+    return detail::make(text.size(), [&](std::uint8_t *out, std::size_t room, auto *told) {
+        return fluent_uri_normalize(kind, detail::bytes(text), text.size(), out, room, told);
+    });
+}
+
+/** The target of a reference against a base of the kind (RFC 3986, section 5.2). */
+inline result resolve(std::uint32_t kind, std::string_view base, std::string_view reference) {
+    auto most = base.size() + reference.size() + 2;
+    return detail::make(most, [&](std::uint8_t *out, std::size_t room, auto *told) {
+        return fluent_uri_resolve(kind, detail::bytes(base), base.size(), detail::bytes(reference),
+                                  reference.size(), out, room, told);
+    });
+}
+
+/** The normal form of that target. */
+inline result resolve_normalized(std::uint32_t kind, std::string_view base,
+                                 std::string_view reference) {
+    auto most = base.size() + reference.size() + 2;
+    return detail::make(most, [&](std::uint8_t *out, std::size_t room, auto *told) {
+        return fluent_uri_resolve_normalized(kind, detail::bytes(base), base.size(),
+                                             detail::bytes(reference), reference.size(), out, room,
+                                             told);
+    });
+}
+
+/** An IRI or an IRI reference as a URI or a URI reference (RFC 3987, section 3.1). */
+inline result to_uri(std::uint32_t kind, std::string_view text) {
+    return detail::make(text.size(), [&](std::uint8_t *out, std::size_t room, auto *told) {
+        return fluent_uri_to_uri(kind, detail::bytes(text), text.size(), out, room, told);
+    });
+}
+
+/** The bytes that a component stands for. */
+inline result decode(std::uint32_t component, std::string_view text) {
+    return detail::make(text.size(), [&](std::uint8_t *out, std::size_t room, auto *told) {
+        return fluent_uri_decode(component, detail::bytes(text), text.size(), out, room, told);
+    });
+}
+
+/** Bytes, encoded as data of a component. */
+inline result encode(std::uint32_t component, std::string_view data) {
+    return detail::make(data.size(), [&](std::uint8_t *out, std::size_t room, auto *told) {
+        return fluent_uri_encode(component, detail::bytes(data), data.size(), out, room, told);
+    });
+}
+
+} // namespace fluent_uri
+
+#endif

@@ -1,0 +1,114 @@
+/* The batches: each result is the single call's, and a batch that ends early loses nothing. */
+#include "test.h"
+
+static fluent_uri_outcome outcome;
+static uint8_t out[512];
+static const char *const data = "HTTP://A/a bx:/%7e/.";
+static const uint32_t offsets[] = {0, 9, 12, 20};
+
+static void normalizes(void) {
+    uint32_t ends[4] = {7, 7, 7, 7};
+    uint8_t valid = 0xf8;
+    CHECK(fluent_uri_normalize_batch(0, TEXT(data), offsets, 4, out, sizeof out, ends, 4, &valid, 1,
+                                     &outcome) == 0);
+    CHECK(ends[0] == 0 && ends[1] == 9 && ends[2] == 9 && ends[3] == 14 && outcome.length == 14);
+    CHECK(valid == 0xfd && !memcmp(out, "http://a/x:/~/", 14) && outcome.index == 3);
+    /* Two fit: the third is left, with its offset and its bit. */
+    memset(out, '#', sizeof out);
+    ends[3] = 7, valid = 0xff;
+    CHECK(fluent_uri_normalize_batch(0, TEXT(data), offsets, 4, out, 13, ends, 4, &valid, 1,
+                                     &outcome) == FLUENT_URI_FULL);
+    CHECK(outcome.index == 2 && outcome.length == 9 && ends[2] == 9 && ends[3] == 7);
+    CHECK(valid == 0xfd && !memcmp(out, "http://a/#", 10));
+    /* No room for the offsets, or for the bits: nothing is done. */
+    CHECK(fluent_uri_normalize_batch(0, TEXT(data), offsets, 4, out, sizeof out, ends, 3, &valid, 1,
+                                     &outcome) == FLUENT_URI_FULL && outcome.index == 0);
+    CHECK(fluent_uri_normalize_batch(0, TEXT(data), offsets, 4, out, sizeof out, ends, 4, NULL, 0,
+                                     &outcome) == FLUENT_URI_FULL && outcome.index == 0);
+    /* Offsets that fall, or that lie outside. */
+    const uint32_t falling[] = {0, 3, 2}, outside[] = {0, 3, 99};
+    CHECK(fluent_uri_normalize_batch(1, TEXT("a:b"), falling, 3, out, 10, ends, 4, &valid, 1,
+                                     &outcome) == FLUENT_URI_INVALID_ARGUMENT && outcome.index == 1);
+    CHECK(fluent_uri_normalize_batch(1, TEXT("a:b"), outside, 3, out, 10, ends, 4, &valid, 1,
+                                     &outcome) == FLUENT_URI_INVALID_ARGUMENT && outcome.index == 1);
+    CHECK(outcome.length == 3 && ends[1] == 3);
+    CHECK(fluent_uri_normalize_batch(7, TEXT("a:b"), offsets, 2, out, 10, ends, 4, &valid, 1,
+                                     &outcome) == FLUENT_URI_INVALID_ARGUMENT && outcome.index == 0);
+    /* No text, by one offset and by none. */
+    CHECK(fluent_uri_normalize_batch(0, NULL, 0, offsets, 1, NULL, 0, ends, 1, NULL, 0, &outcome) == 0);
+    CHECK(fluent_uri_normalize_batch(0, NULL, 0, NULL, 0, NULL, 0, ends, 1, NULL, 0, &outcome) == 0);
+    CHECK(ends[0] == 0 && outcome.index == 0 && outcome.length == 0);
+}
+
+static void others(void) {
+    const char *base = "http://a/b/c/d;p?q";
+    const uint64_t wide[] = {0, 9, 12, 20};
+    uint64_t wide_ends[4];
+    uint32_t ends[4];
+    uint8_t valid = 0;
+    CHECK(fluent_uri_normalize_batch64(0, TEXT(data), wide, 4, out, sizeof out, wide_ends, 4, &valid,
+                                       1, &outcome) == 0);
+    CHECK(wide_ends[1] == 9 && wide_ends[2] == 9 && wide_ends[3] == 14 && valid == 5);
+    const uint32_t links[] = {0, 4, 5, 7};
+    CHECK(fluent_uri_resolve_batch(0, TEXT(base), TEXT("../g /x"), links, 4, out, sizeof out, ends, 4,
+                                   &valid, 1, &outcome) == 0);
+    CHECK(ends[1] == 12 && ends[2] == 12 && ends[3] == 22);
+    CHECK(!memcmp(out, "http://a/b/ghttp://a/x", 22) && valid == 5);
+    CHECK(fluent_uri_resolve_normalized_batch(0, TEXT(base), TEXT("../g /x"), links, 4, out,
+                                              sizeof out, ends, 4, &valid, 1, &outcome) == 0);
+    CHECK(ends[3] == 22);
+    const uint32_t accents[] = {0, 4, 6};
+    CHECK(fluent_uri_to_uri_batch(FLUENT_URI_IRI, TEXT("a:\xc3\xa9" "b:"), accents, 3, out,
+                                  sizeof out, ends, 3, &valid, 1, &outcome) == 0);
+    CHECK(ends[1] == 8 && ends[2] == 10 && !memcmp(out, "a:%C3%A9b:", 10));
+    CHECK(fluent_uri_component_batch(0, FLUENT_URI_HOST, TEXT(data), offsets, 4, out, sizeof out,
+                                     ends, 4, &valid, 1, &outcome) == 0);
+    CHECK((valid & 7) == 1 && ends[1] == 1 && ends[3] == 1 && out[0] == 'A');
+    fluent_uri_parts each[3];
+    CHECK(fluent_uri_parse_batch(0, TEXT(data), offsets, 4, each, 3, &outcome) == 0);
+    CHECK(each[0].error == 0 && each[1].error == 2 && each[1].index == 1 && each[2].path.end == 8);
+    CHECK(fluent_uri_parse_batch(0, TEXT(data), offsets, 4, each, 2, &outcome) == FLUENT_URI_FULL);
+    uint8_t errors[3];
+    CHECK(fluent_uri_normalize_lines(0, TEXT("A:\n \nB:"), out, sizeof out, errors, 3, &outcome) == 0);
+    CHECK(is_text(out, outcome.length, "a:\n\nb:\n") && outcome.index == 3);
+    CHECK(errors[0] == 0 && errors[1] == 2 && errors[2] == 0);
+    CHECK(fluent_uri_normalize_lines(0, TEXT("A:\n \nB:"), out, sizeof out, errors, 2, &outcome) ==
+          FLUENT_URI_FULL && outcome.index == 2);
+}
+
+/* Many texts, in rooms of every size: after FULL the caller goes on with the text that is told. */
+static void goes_on(void) {
+    enum { COUNT = 40 };
+    uint8_t texts[COUNT * 24];
+    uint32_t starts[COUNT + 1] = {0}, ends[COUNT + 1];
+    for (int i = 0; i < COUNT; i++)
+        starts[i + 1] = starts[i] + (uint32_t)sprintf((char *)texts + starts[i],
+            i % 5 == 3 ? "a b%d" : "HTTP://H%d/%%7e/./%d", i, i * i);
+    for (size_t room = 24; room < 200; room++) {
+        size_t done = 0;
+        while (done < COUNT) {
+            uint8_t valid[5] = {0};
+            uint32_t error = fluent_uri_normalize_batch(0, texts, starts[COUNT], starts + done,
+                COUNT + 1 - done, out, room, ends, COUNT + 1, valid, sizeof valid, &outcome);
+            CHECK(error == 0 || (error == FLUENT_URI_FULL && outcome.index > 0));
+            if (failed) return;
+            for (size_t i = 0; i < outcome.index; i++) {
+                uint8_t single[64];
+                fluent_uri_outcome told;
+                const uint8_t *text = texts + starts[done + i];
+                size_t length = starts[done + i + 1] - starts[done + i];
+                uint32_t why = fluent_uri_normalize(0, text, length, single, sizeof single, &told);
+                CHECK((why == 0) == (valid[i / 8] >> i % 8 & 1) && ends[i + 1] - ends[i] == told.length);
+                CHECK(!memcmp(out + ends[i], single, told.length));
+            }
+            done += outcome.index;
+        }
+    }
+}
+
+int main(void) {
+    normalizes();
+    others();
+    goes_on();
+    return ended("columns");
+}

@@ -1,0 +1,47 @@
+// From C++: the C header in C++11, and fluent_uri.hpp in C++17.
+#include <cstdint>
+#include <cstdio>
+#include <cstring>
+#include <fluent_uri.h>
+#if __cplusplus >= 201703L
+#include <fluent_uri.hpp>
+#endif
+
+static bool by_the_c_header() {
+    const char *text = "HTTP://A/%61";
+    std::uint8_t out[32];
+    fluent_uri_outcome outcome;
+    return fluent_uri_normalize(FLUENT_URI_URI, reinterpret_cast<const std::uint8_t *>(text),
+                                std::strlen(text), out, sizeof out, &outcome) == 0 &&
+           outcome.length == 10 && std::memcmp(out, "http://a/a", 10) == 0;
+}
+
+#if __cplusplus >= 201703L
+static bool by_strings() {
+    using namespace fluent_uri;
+    auto p = parse(FLUENT_URI_URI, "http://u@h:80/p?q#f");
+    auto no = parse(FLUENT_URI_URI, "a b");
+    auto rejected = resolve(FLUENT_URI_URI, "http://a/", "a b");
+    // Longer than the first buffer: a zone's worth of octets.
+    auto longer = to_uri(FLUENT_URI_IRI_REF, "\u00e9\u00e9\u00e9\u00e9");
+    return p && p.scheme() == "http" && p.userinfo() == "u" && p.host() == "h" && p.port() == "80" &&
+           p.path() == "/p" && p.query() == "q" && p.fragment() == "f" &&
+           p.host_kind() == FLUENT_URI_REG_NAME && !no && no.why().index == 1 &&
+           !no.scheme() && !rejected && rejected.why.which == 1 && rejected.why.index == 1 &&
+           *normalize(FLUENT_URI_URI, "HTTP://A/%61") == "http://a/a" &&
+           *normalize(FLUENT_URI_URI_REF, std::string_view()) == "" &&
+           *resolve(FLUENT_URI_URI, "http://a/b/c", "../d") == "http://a/d" &&
+           *resolve_normalized(FLUENT_URI_URI, "http://a/", "//B:80") == "http://b" &&
+           longer && *longer == "%C3%A9%C3%A9%C3%A9%C3%A9" &&
+           *decode(FLUENT_URI_PATH, "a%20b") == "a b" && *encode(FLUENT_URI_DATA, "a b") == "a%20b";
+}
+#endif
+
+int main() {
+    bool ok = by_the_c_header();
+#if __cplusplus >= 201703L
+    ok = ok && by_strings();
+#endif
+    if (!ok) std::puts("cplusplus: failed");
+    return !ok;
+}

@@ -1,0 +1,153 @@
+/* Runs the rows of crates/vectors/data that the calls of the header can try: rows FILE..; README.txt
+ * there has the format. */
+#include "test.h"
+
+enum { MOST = 1 << 20, FIELDS = 8 };
+static char line[MOST], made[MOST], words[FIELDS][MOST / 4];
+static uint8_t out[MOST];
+static size_t lengths[FIELDS], tried;
+static fluent_uri_outcome told;
+
+static const char *const kinds[] = {"uri", "uri-ref", "iri", "iri-ref"};
+static const char *const messages[] = {"", "invalid percent-encoded octet", "unexpected character",
+    "invalid IPv6 address"};
+static const char *const names[] = {"", "InvalidPctEncodedOctet", "UnexpectedChar",
+    "InvalidIpv6Addr"};
+
+static size_t utf8(unsigned long c, char *to) {
+    if (c < 0x80) return (size_t)sprintf(to, "%c", (int)c) + (c == 0);
+    int more = c < 0x800 ? 1 : c < 0x10000 ? 2 : 3;
+    to[0] = (char)(c >> (6 * more) | (more == 1 ? 0xc0 : more == 2 ? 0xe0 : 0xf0));
+    for (int i = 1; i <= more; i++) to[i] = (char)(0x80 | (c >> (6 * (more - i)) & 0x3f));
+    return (size_t)more + 1;
+}
+
+/* Reads a word up to a space, or what is left of the line, without its escapes. */
+static size_t read_word(const char **from, char *to, int whole) {
+    const char *at = *from;
+    size_t length = 0;
+    while (*at && (whole || *at != ' ')) {
+        if (at[0] == '"' && at[1] == '"') {
+            at += 2;
+        } else if (at[0] != '\\') {
+            to[length++] = *at++;
+        } else if (at[1] == 's') {
+            to[length++] = ' ', at += 2;
+        } else if (at[1] == 'u') {
+            length += utf8(strtoul(at + 3, (char **)&at, 16), to + length);
+            at++;
+        } else {
+            size_t times = strtoul(at + 1, (char **)&at, 10), long_ = strcspn(at + 1, "}");
+            while (times--) memcpy(to + length, at + 1, long_), length += long_;
+            at += long_ + 2;
+        }
+    }
+    while (*at == ' ') at++;
+    *from = at;
+    return length;
+}
+
+static size_t put(size_t at, const char *name, const void *text, size_t length) {
+    if (at) made[at++] = ' ';
+    at += (size_t)sprintf(made + at, "%s", name);
+    memcpy(made + at, text, length);
+    return at + length;
+}
+
+static size_t span(size_t at, const char *name, fluent_uri_span it, const char *text) {
+    return it.start == SIZE_MAX ? at : put(at, name, text + it.start, it.end - it.start);
+}
+
+static int kind_of(const char *word, size_t length) {
+    for (int i = 0; i < 4; i++)
+        if (strlen(kinds[i]) == length && !memcmp(kinds[i], word, length)) return i;
+    return -1;
+}
+
+static const uint8_t *bytes(int i) { return (const uint8_t *)words[i]; }
+
+/* What a call wrote, or the message of its error. */
+static long written(uint32_t error) {
+    if (error == FLUENT_URI_BASE_WITH_FRAGMENT)
+        return sprintf(made, "error BaseWithFragment");
+    if (error == FLUENT_URI_INVALID_REFERENCE_AGAINST_OPAQUE_BASE)
+        return sprintf(made, "error InvalidReferenceAgainstOpaqueBase");
+    if (error) return sprintf(made, "error %u", error);
+    memcpy(made, out, told.length);
+    return (long)told.length;
+}
+
+/* What the row's call gives, or a negative number where the header has no such call. */
+static long run(const char *op, int count) {
+    int kind = count > 1 ? kind_of(words[0], lengths[0]) : -1;
+    fluent_uri_parts p;
+    const char *text = words[1];
+    size_t at = 0;
+    if (kind >= 0) fluent_uri_parse((uint32_t)kind, bytes(1), lengths[1], &p);
+    if (!strcmp(op, "parse")) {
+        if (p.error) return sprintf(made, "error: %s at index %zu", messages[p.error], p.index);
+        at = span(at, "scheme=", p.scheme, text);
+        at = span(at, "authority=", p.authority, text);
+        at = span(at, "path=", p.path, text);
+        at = span(at, "query=", p.query, text);
+        return (long)span(at, "fragment=", p.fragment, text);
+    }
+    if (!strcmp(op, "error") && p.error)
+        return sprintf(made, "%s %zu", names[p.error], p.index);
+    if (!strcmp(op, "authority") && !p.error && p.authority.start != SIZE_MAX) {
+        at = span(at, "userinfo=", p.userinfo, text);
+        at = span(at, "host=", p.host, text);
+        return (long)span(at, "port=", p.port, text);
+    }
+    if (!strcmp(op, "host") && p.host_kind == FLUENT_URI_REG_NAME)
+        return (long)put(sprintf(made, "name") > 0 ? 4 : 0, "", text + p.host.start,
+                         p.host.end - p.host.start);
+    if (!strcmp(op, "normalize"))
+        return written(fluent_uri_normalize((uint32_t)kind, bytes(1), lengths[1], out, MOST, &told));
+    if (!strcmp(op, "resolve"))
+        return written(fluent_uri_resolve((uint32_t)kind, bytes(1), lengths[1], bytes(2), lengths[2],
+                                          out, MOST, &told));
+    if (!strcmp(op, "resolve-normalized"))
+        return written(fluent_uri_resolve_normalized((uint32_t)kind, bytes(1), lengths[1], bytes(2),
+                                                     lengths[2], out, MOST, &told));
+    if (!strcmp(op, "encode-as-uri"))
+        return written(fluent_uri_to_uri((uint32_t)kind, bytes(1), lengths[1], out, MOST, &told));
+    if (!strcmp(op, "encode") && lengths[0] == 4 && !memcmp(words[0], "path", 4))
+        return written(fluent_uri_encode(FLUENT_URI_PATH, bytes(1), lengths[1], out, MOST, &told));
+    if (!strcmp(op, "encode") && lengths[0] == 4 && !memcmp(words[0], "data", 4))
+        return written(fluent_uri_encode(FLUENT_URI_DATA, bytes(1), lengths[1], out, MOST, &told));
+    return -1;
+}
+
+int main(int argc, char **argv) {
+    for (int i = 1; i < argc; i++) {
+        FILE *file = fopen(argv[i], "r");
+        CHECK(file != NULL);
+        for (int number = 1; file && fgets(line, MOST, file); number++) {
+            line[strcspn(line, "\n")] = 0;
+            char *arrow = strstr(line, " -> ");
+            if (line[0] == '#' || !arrow) continue;
+            static char op[64], wanted[MOST];
+            *arrow = 0;
+            const char *at = line, *expected = arrow + 4;
+            op[read_word(&at, op, 0)] = 0;
+            int count = 0;
+            while (*at && count < FIELDS) {
+                lengths[count] = read_word(&at, words[count], 0);
+                count++;
+            }
+            size_t length = read_word(&expected, wanted, 1);
+            long got = run(op, count);
+            if (got < 0) continue;
+            tried++;
+            if ((size_t)got != length || memcmp(made, wanted, length)) {
+                failed++;
+                printf("fail %s:%d: %.*s\n", argv[i], number, (int)got, made);
+            }
+        }
+        if (file) fclose(file);
+    }
+    printf("rows: %zu tried\n", tried);
+    CHECK(tried > 700);
+    return ended("rows");
+}

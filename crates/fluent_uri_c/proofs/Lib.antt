@@ -1,0 +1,7 @@
+mod Batches
+mod Bits
+mod PartColumns
+mod Places
+mod Rejected
+mod Targets
+mod ValidBytes

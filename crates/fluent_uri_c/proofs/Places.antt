@@ -1,0 +1,280 @@
+-- The components of a text, and the parts of its authority, at the offsets that callers are told.
+use Rattle.std.proofs.Common.{◌≡◌, ℕ, ◌+◌, ◌-◌, ◌<◌, ◌≤◌, List, [], ◌∷◌, ◌++◌, length, take}
+use Rattle.std.proofs.Common.{drop, refl, sym, ap, subst, ◌∙◌, arith, append_assoc}
+use Rattle.std.proofs.Common.{length-append, zero-add}
+use Rattle.std.specs.Prelude.{Option, Some, None, option_map, codes, slice_range}
+use Rattle.std.proofs.lemmas.List.{drop-drop, take-take}
+use Rattle.std.proofs.lemmas.Option.{none-some, same_Some}
+use Rattle.std.proofs.lemmas.Slice.{between_is}
+use Rattle.uri_parts.specs.declared.positions.Positions.{Positions}
+use Rattle.uri_parts.specs.declared.positions.AuthorityPositions.{AuthorityPositions}
+use Rattle.uri_parts.specs.Authority.{AuthorityParts, authority_parts, recompose_authority}
+use Rattle.uri_parts.specs.Components.{components, marked}
+use Rattle.uri_parts.specs.Grammar.{Kind, IsOfKind}
+use Rattle.uri_parts.specs.Positions.{AreAt, authority_at, marked_length, host_start_of}
+use Rattle.uri_parts.specs.Positions.{host_end_of}
+use Rattle.uri_parts.proofs.Authorities.AuthorityPlaces.{holds}
+use Rattle.uri_parts.proofs.Splitting.Places.{LiesAt, range-between}
+use Rattle.uri_parts.proofs.TextKinds.ComponentRules.{authority_valid}
+use Rattle.fluent_uri_c.specs.declared.parts.Span.{Span}
+use Rattle.fluent_uri_c.specs.Spans.{IsSpan, absent, userinfo_of, host_of, port_of}
+
+pub span_at : (text : List ℕ) (start end : ℕ) (part : Option (List ℕ))
+    → LiesAt text start end part → IsSpan text part (record { start = start; end = end })
+span_at text start end None lies = absurd (none-some _ (sym lies.holds))
+span_at text start end (Some part) lies =
+    (lies.ordered, lies.ends.0, same_Some _ _ lies.holds)
+
+pub span_absent : (text : List ℕ) (part : Option (List ℕ)) → part ≡ None
+    → IsSpan text part absent
+span_absent text None e = refl
+span_absent text (Some part) e = absurd (none-some _ (sym e))
+
+-- what stands between two offsets of a part stands in the text at that distance from its start
+within : (text part : List ℕ) (start end : ℕ) → slice_range text start end ≡ part
+    → end ≡ start + length part → (i j : ℕ) → j ≤ length part
+    → slice_range text (start + i) (start + j) ≡ slice_range part i j
+within text part start end at ends i j inside =
+    let rest : List ℕ = drop start text in
+    let n : (start + j) - (start + i) ≡ j - i = omega arith in
+    let m : end - start ≡ length part = omega arith in
+    let whole : take (length part) rest ≡ part = ap (λ k. take k rest) (sym m) ∙ at in
+    ap (λ k. take k (drop (start + i) text)) n
+    ∙ ap (take (j - i)) (sym (drop-drop i start text))
+    ∙ between_is rest i j
+    ∙ ap (drop i) (sym (take-take j (length part) rest inside))
+    ∙ sym (between_is (take (length part) rest) i j)
+    ∙ ap (λ p. slice_range p i j) whole
+
+abbrev user_text : Option (List ℕ) → List ℕ
+user_text userinfo = marked [] userinfo (codes "@")
+
+abbrev port_text : Option (List ℕ) → List ℕ
+port_text port = marked (codes ":") port []
+
+length-user_text : (userinfo : Option (List ℕ))
+    → length (user_text userinfo) ≡ marked_length 1 userinfo
+length-user_text None = refl
+length-user_text (Some user) = omega (arith, length-append user (codes "@"))
+
+-- the parts of an authority at their offsets in it
+user_range : (user rest authority : List ℕ) → user_text (Some user) ++ rest ≡ authority
+    → slice_range authority 0 (length user) ≡ user
+user_range user rest authority whole =
+    let e : authority ≡ user ++ (64 ∷ rest) = sym whole ∙ append_assoc user (codes "@") rest in
+    ap (λ a. slice_range a 0 (length user)) e
+    ∙ ap (slice_range (user ++ (64 ∷ rest)) 0) (sym (zero-add (length user)))
+    ∙ range-between [] user (64 ∷ rest)
+
+host_range : (userinfo : Option (List ℕ)) (host rest authority : List ℕ)
+    → user_text userinfo ++ (host ++ rest) ≡ authority
+    → slice_range authority (marked_length 1 userinfo) (marked_length 1 userinfo + length host)
+    ≡ host
+host_range userinfo host rest authority whole =
+    ap (λ a. slice_range a (marked_length 1 userinfo) (marked_length 1 userinfo + length host))
+    (sym whole)
+    ∙ ap (λ k. slice_range (user_text userinfo ++ (host ++ rest)) k (k + length host))
+    (sym (length-user_text userinfo))
+    ∙ range-between (user_text userinfo) host rest
+
+port_range : (front digits authority : List ℕ) → front ++ port_text (Some digits) ≡ authority
+    → slice_range authority (length front + 1) (length front + 1 + length digits) ≡ digits
+port_range front digits authority whole =
+    let n : length (front ++ codes ":") ≡ length front + 1 =
+    omega (arith, length-append front (codes ":")) in
+    let e : authority ≡ (front ++ codes ":") ++ (digits ++ []) =
+    sym whole ∙ sym (append_assoc front (codes ":") (digits ++ [])) in
+    ap (λ a. slice_range a (length front + 1) (length front + 1 + length digits)) e
+    ∙ ap (λ k. slice_range ((front ++ codes ":") ++ (digits ++ [])) k (k + length digits)) (sym n)
+    ∙ range-between (front ++ codes ":") digits []
+
+-- of an authority that lies at an offset, by its parts
+module _ (text authority : List ℕ) (start end : ℕ) (at : slice_range text start end ≡ authority)
+    (ends : end ≡ start + length authority) (inside : end ≤ length text) where
+  part_span : (i j from to : ℕ) (part : List ℕ) → from ≡ start + i → to ≡ start + j → i ≤ j
+      → j ≤ length authority → slice_range authority i j ≡ part
+      → IsSpan text (Some part) (record { start = from; end = to })
+  part_span i j from to part e f ordered short holds = (
+    omega arith,
+    omega arith,
+    ap (λ k. slice_range text k to) e
+        ∙ ap (slice_range text (start + i)) f
+        ∙ within text authority start end at ends i j short ∙ holds,
+  )
+
+  user_span : (userinfo : Option (List ℕ)) (rest : List ℕ) (to : ℕ)
+      → user_text userinfo ++ rest ≡ authority → to + 1 ≡ start + marked_length 1 userinfo
+      → 0 < marked_length 1 userinfo → IsSpan text userinfo (record { start = start; end = to })
+  user_span None rest to whole e some = absurd (omega arith)
+  user_span (Some user) rest to whole e some =
+      let m : length authority ≡ length user + 1 + length rest =
+      omega (
+        arith,
+        ap length whole,
+        length-append (user_text (Some user)) rest,
+        length-append user (codes "@"),
+      ) in
+      part_span 0 (length user) start to user (omega arith) (omega arith) (omega arith)
+      (omega arith) (user_range user rest authority whole)
+
+  no_user : (userinfo : Option (List ℕ)) → marked_length 1 userinfo ≡ 0
+      → IsSpan text userinfo absent
+  no_user None e = refl
+  no_user (Some user) e = absurd (omega arith)
+
+  host_span : (userinfo : Option (List ℕ)) (host rest : List ℕ) (from to : ℕ)
+      → user_text userinfo ++ (host ++ rest) ≡ authority
+      → from ≡ start + marked_length 1 userinfo
+      → to ≡ start + (marked_length 1 userinfo + length host)
+      → IsSpan text (Some host) (record { start = from; end = to })
+  host_span userinfo host rest from to whole e f =
+      let m : length authority ≡ marked_length 1 userinfo + (length host + length rest) =
+      omega (
+        arith,
+        ap length whole,
+        length-append (user_text userinfo) (host ++ rest),
+        length-append host rest,
+        length-user_text userinfo,
+      ) in
+      part_span (marked_length 1 userinfo) (marked_length 1 userinfo + length host) from to host e f
+      (omega arith) (omega arith) (host_range userinfo host rest authority whole)
+
+  port_span : (front : List ℕ) (port : Option (List ℕ)) (host_end : ℕ)
+      → front ++ port_text port ≡ authority → host_end ≡ start + length front → host_end < end
+      → IsSpan text port (record { start = host_end + 1; end = end })
+  port_span front None host_end whole e less =
+      absurd (omega (arith, ap length whole, length-append front []))
+  port_span front (Some digits) host_end whole e less =
+      let m : length authority ≡ length front + (1 + length digits) =
+      omega (
+        arith,
+        ap length whole,
+        length-append front (port_text (Some digits)),
+        length-append digits [],
+      ) in
+      part_span (length front + 1) (length front + 1 + length digits) (host_end + 1) end digits
+      (omega arith) (omega arith) (omega arith) (omega arith)
+      (port_range front digits authority whole)
+
+  no_port : (front : List ℕ) (port : Option (List ℕ)) (host_end : ℕ)
+      → front ++ port_text port ≡ authority → host_end ≡ start + length front → end ≤ host_end
+      → IsSpan text port absent
+  no_port front None host_end whole e more = refl
+  no_port front (Some digits) host_end whole e more =
+      absurd (omega (
+        arith,
+        ap length whole,
+        length-append front (port_text (Some digits)),
+        length-append digits [],
+      ))
+
+-- an authority of a text, with its positions
+record Inside (text : List ℕ) (a : AuthorityPositions) : Type 0 where
+  authority : List ℕ
+  is : (components text).authority ≡ Some authority
+  at : slice_range text a.start a.end ≡ authority
+  ends : a.end ≡ a.start + length authority
+  host_start : a.host_start ≡ a.start + host_start_of authority
+  host_end : a.host_end ≡ a.start + host_end_of authority
+  inside : a.end ≤ length text
+  whole : recompose_authority (authority_parts authority) ≡ authority
+
+inside_of : (kind : Kind) (text : List ℕ) (a : AuthorityPositions) (part : Option (List ℕ)) (n : ℕ)
+    → (components text).authority ≡ part → IsOfKind kind text
+    → option_map (authority_at n) part ≡ Some a → LiesAt text a.start a.end part → Inside text a
+inside_of kind text a None n e h found lies = absurd (none-some _ found)
+inside_of kind text a (Some authority) n e h found lies =
+    let same : authority_at n authority ≡ a = same_Some _ _ found in
+    let valid = authority_valid kind kind.userinfo kind.reg_name text authority h refl refl e in
+    record {
+      authority = authority;
+      is = e;
+      at = same_Some _ _ lies.holds;
+      ends = subst (λ (b : AuthorityPositions). b.end ≡ b.start + length authority) same refl;
+      host_start = subst (λ (b : AuthorityPositions). b.host_start
+          ≡ b.start + host_start_of authority) same refl;
+      host_end = subst (λ (b : AuthorityPositions). b.host_end
+          ≡ b.start + host_end_of authority) same refl;
+      inside = lies.ends.0;
+      whole = (holds kind.userinfo kind.reg_name authority valid).whole;
+    }
+
+module _ (kind : Kind) (text : List ℕ) (p : Positions) (a : AuthorityPositions)
+    (at : AreAt text p) (of_kind : IsOfKind kind text) (here : p.authority ≡ Some a)
+    (lies : LiesAt text a.start a.end (components text).authority) where
+  inside : Inside text a
+  inside =
+      inside_of kind text a (components text).authority
+      (marked_length 1 (components text).scheme + 2) refl of_kind
+      (sym (ap (λ (q : Positions). q.authority) at) ∙ here) lies
+
+  -- in front of the host
+  pub userinfo_there : a.start < a.host_start
+      → IsSpan text (userinfo_of (components text).authority)
+      (record { start = a.start; end = a.host_start - 1 })
+  userinfo_there less =
+      let i = inside in
+      let parts = authority_parts i.authority in
+      let some : 0 < marked_length 1 parts.userinfo = omega (arith, i.host_start) in
+      let to : a.host_start - 1 + 1 ≡ a.start + marked_length 1 parts.userinfo =
+      omega (arith, i.host_start) in
+      subst (λ (o : Option (List ℕ)). IsSpan text (userinfo_of o)
+      (record { start = a.start; end = a.host_start - 1 })) (sym i.is)
+      (user_span text i.authority a.start a.end i.at i.ends i.inside parts.userinfo
+      (parts.host ++ port_text parts.port) (a.host_start - 1) i.whole to some)
+
+  pub userinfo_absent : a.host_start ≤ a.start
+      → IsSpan text (userinfo_of (components text).authority) absent
+  userinfo_absent more =
+      let i = inside in
+      let parts = authority_parts i.authority in
+      subst (λ (o : Option (List ℕ)). IsSpan text (userinfo_of o) absent) (sym i.is)
+      (no_user text i.authority a.start a.end i.at i.ends i.inside parts.userinfo
+      (omega (arith, i.host_start)))
+
+  pub host_there : IsSpan text (host_of (components text).authority)
+      (record { start = a.host_start; end = a.host_end })
+  host_there =
+      let i = inside in
+      let parts = authority_parts i.authority in
+      subst (λ (o : Option (List ℕ)). IsSpan text (host_of o)
+      (record { start = a.host_start; end = a.host_end })) (sym i.is)
+      (host_span text i.authority a.start a.end i.at i.ends i.inside parts.userinfo parts.host
+      (port_text parts.port) a.host_start a.host_end i.whole i.host_start i.host_end)
+
+  -- behind the host
+  abbrev front_of : AuthorityParts → List ℕ
+  front_of parts = user_text parts.userinfo ++ parts.host
+
+  length-front : (parts : AuthorityParts)
+      → length (front_of parts) ≡ marked_length 1 parts.userinfo + length parts.host
+  length-front parts = omega (
+    arith,
+    length-append (user_text parts.userinfo) parts.host,
+    length-user_text parts.userinfo,
+  )
+
+  pub port_there : a.host_end < a.end → IsSpan text (port_of (components text).authority)
+      (record { start = a.host_end + 1; end = a.end })
+  port_there less =
+      let i = inside in
+      let parts = authority_parts i.authority in
+      subst (λ (o : Option (List ℕ)). IsSpan text (port_of o)
+      (record { start = a.host_end + 1; end = a.end })) (sym i.is)
+      (port_span text i.authority a.start a.end i.at i.ends i.inside (front_of parts) parts.port
+      a.host_end (append_assoc (user_text parts.userinfo) parts.host (port_text parts.port)
+      ∙ i.whole) (i.host_end ∙ ap (λ n. a.start + n) (sym (length-front parts))) less)
+
+  pub port_absent : a.end ≤ a.host_end → IsSpan text (port_of (components text).authority) absent
+  port_absent more =
+      let i = inside in
+      let parts = authority_parts i.authority in
+      subst (λ (o : Option (List ℕ)). IsSpan text (port_of o) absent) (sym i.is)
+      (no_port text i.authority a.start a.end i.at i.ends i.inside (front_of parts) parts.port
+      a.host_end (append_assoc (user_text parts.userinfo) parts.host (port_text parts.port)
+      ∙ i.whole) (i.host_end ∙ ap (λ n. a.start + n) (sym (length-front parts))) more)
+
+-- a span that is that of what is absent
+pub absent_is : (text : List ℕ) (part : Option (List ℕ)) (span : Span) → span ≡ absent
+    → IsSpan text part absent → IsSpan text part span
+absent_is text part span e h = subst (λ (s : Span). IsSpan text part s) (sym e) h

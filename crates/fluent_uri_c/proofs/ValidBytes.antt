@@ -1,0 +1,13 @@
+-- Bytes that are UTF-8 have no error.
+use Rattle.std.proofs.Common.{◌≡◌, ℕ, List, length, sym, arith}
+use Rattle.std.specs.Prelude.{None}
+use Rattle.std.specs.Str.{IsUtf8}
+use Rattle.std.specs.Str.Lossy.{utf8_valid_len}
+use Rattle.std.proofs.lemmas.Bool.{cond-false, le-ltb}
+use Rattle.std.proofs.lemmas.Str.{utf8_valid_len-IsUtf8}
+use Rattle.fluent_uri_c.specs.Results.{utf8_error}
+
+pub valid_bytes : (bytes : List ℕ) → IsUtf8 bytes → None ≡ utf8_error bytes
+valid_bytes bytes utf8 =
+    let n = utf8_valid_len-IsUtf8 bytes utf8 in
+    sym (cond-false _ _ _ (le-ltb (utf8_valid_len bytes) (length bytes) (omega (arith, n))))

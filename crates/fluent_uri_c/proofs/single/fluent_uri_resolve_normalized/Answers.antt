@@ -1,0 +1,5 @@
+use Rattle.fluent_uri_c.specs.Results.{resolve_normalized_result}
+use Rattle.fluent_uri_c.proofs.single.fluent_uri_resolve_normalized.Goals as goal
+
+pub returns : goal.returns
+returns c = c.leave.ensures (resolve_normalized_result c.args.kind c.args.base.now c.args.reference.now) c.normal_target.ensures

@@ -1,0 +1,26 @@
+use Rattle.std.proofs.Common.{◌∙◌, ap, sym, subst, ℕ, List}
+use Rattle.std.specs.Prelude.{Ok}
+use Rattle.uri_ops.specs.NormalTargets.{IsNormalTarget}
+use Rattle.uri_ops.specs.Resolving.{IsRefusalFor}
+use Rattle.uri_parts.specs.Components.{components}
+use Rattle.uri_parts.specs.SchemePorts.{default_port}
+use Rattle.fluent_uri.specs.References.{reference_text}
+use Rattle.fluent_uri_c.proofs.Targets.{normal_resolved_is, normal_refused_is, refused_as}
+use Rattle.fluent_uri_c.proofs.texts.resolved_normalized.Goals as goal
+
+pub returns-in-Ok : goal.returns-in-Ok
+returns-in-Ok g c =
+    let same = ap reference_text c.with_base-resolver.ensures.base in
+    normal_resolved_is _ _ _ _ _ (subst (λ (b : List ℕ). IsNormalTarget g.K.Base.Kind.kind
+    g.K.Kind.kind default_port b (reference_text c.args.reference.now)
+    (reference_text c.in-Ok.target)) same
+    c.in-Ok.ensures.normal)
+    ∙ ap Ok (sym c.into_string.ensures)
+
+pub returns-in-Err : goal.returns-in-Err
+returns-in-Err g c =
+    let same = ap reference_text c.with_base-resolver.ensures.base in
+    refused_as _ _ c.in-Err.error c.from.ensures (normal_refused_is _ _ _ _
+    (subst (λ (b : List ℕ). IsRefusalFor (components b)
+    (components (reference_text c.args.reference.now)) c.in-Err.error) same
+    c.in-Err.ensures.refusal.refusal))

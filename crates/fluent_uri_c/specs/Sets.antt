@@ -1,0 +1,23 @@
+-- The components by the numbers of the header, with their characters: RFC 3986, appendix A, and RFC
+-- 3987, section 2.2.
+use Rattle.std.specs.Prelude.{ℕ, ◌==◌, Option, Some, None, if◌then◌else◌}
+use Rattle.fluent_uri.specs.Sets.{TableSet, userinfo_set, reg_name_set, path_set, query_set}
+use Rattle.fluent_uri.specs.Sets.{fragment_set, data_set, iuserinfo_set, ireg_name_set, ipath_set}
+use Rattle.fluent_uri.specs.Sets.{iquery_set, ifragment_set}
+
+-- what a component of a URI is encoded by, if the number has one
+abbrev pub encoding_set : ℕ → Option TableSet
+encoding_set n =
+    if n == 0 then Some userinfo_set
+    else (if n == 1 then Some reg_name_set
+    else (if n == 2 then Some path_set
+    else (if n == 3 then Some query_set
+    else (if n == 4 then Some fragment_set else (if n == 8 then Some data_set else None)))))
+
+-- what a component of an IRI consists of that is decoded, if the number has one
+abbrev pub decoding_set : ℕ → Option TableSet
+decoding_set n =
+    if n == 0 then Some iuserinfo_set
+    else (if n == 1 then Some ireg_name_set
+    else (if n == 2 then Some ipath_set
+    else (if n == 3 then Some iquery_set else (if n == 4 then Some ifragment_set else None))))

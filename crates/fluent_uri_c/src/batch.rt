@@ -1,0 +1,163 @@
+//! What a batch does with the texts of a column.
+ghost use Rattle.std.specs.Prelude.{◌≡◌, ◌⊎◌, ◌+◌, ◌-◌, ◌<◌, ◌≤◌, ◌++◌, ◌↔◌, length, drop, take};
+ghost use Rattle.std.specs.Prelude.{IfNone, IfSome, IsTrue, OnSome, option_map, slice_set};
+ghost use Rattle.fluent_uri_c.specs.Columns.{HasRoom, IsColumn, IsFull, LeavesColumn, bytes_of, joined};
+ghost use Rattle.fluent_uri_c.specs.Columns.{made_bytes, result_at};
+
+use crate::columns::{Offset, mark, text_at};
+use crate::errors::Error;
+use crate::outcome::Outcome;
+use std::alloc::Global;
+
+/// The result of a call on a text: a part of that text, or a text of its own.
+#[derive(Drop)]
+pub enum Made<'a> {
+    Part(&'a [u8]),
+    Text(String),
+}
+
+/// A call on one text, which a batch makes for each text of a column.
+pub trait Call {
+    ghost use Rattle.std.specs.Prelude.{◌≡◌, ℕ, IfOk, IfErr, List, Option, option_map};
+    ghost use Rattle.fluent_uri_c.specs.Columns.{EndsBatch, made_bytes};
+
+    ghost result_of: { Self → List ℕ → Option (List ℕ) };
+
+    /// Returns the result of a text, if it has one, or the error that ends a batch.
+    fn call<'a>(&self, alloc: Global, text: &'a [u8]) -> Result<Option<Made<'a>>, Error>
+        ensures made { IfOk result (λ made.
+            option_map made_bytes made ≡ result_of self.now text.now) }
+        ensures error { IfErr result EndsBatch };
+}
+
+/// Returns the bytes of a result: none where there is none.
+fn bytes_of<'a>(made: &'a Option<Made<'a>>) -> &'a [u8]
+    ensures { result.now ≡ bytes_of (option_map made_bytes made.now) }
+{
+    match made {
+        Some(Made::Part(bytes)) => bytes,
+        Some(Made::Text(text)) => text.as_bytes(),
+        None => &[],
+    }
+}
+
+/// Appends the result of the text at an index, and where it ends, if both fit.
+fn append<O: Offset>(
+    bytes: &[u8],
+    index: usize,
+    at: usize,
+    out: &mut [u8],
+    ends: &mut [O],
+) -> Option<usize>
+    requires at { at ≤ length out.old }
+    requires index { index + 1 < length ends.old }
+    ensures end { IfSome result (λ end. end ≡ at + length bytes.now) }
+    ensures inside { IfSome result (λ end. end ≤ length out.new) }
+    ensures written { OnSome result (out.new
+        ≡ take at out.old ++ (bytes.now ++ drop (at + length bytes.now) out.old)) }
+    ensures offset { IfSome result (λ end. (offset : O) × ((O.value offset ≡ end)
+        × (ends.new ≡ slice_set ends.old (index + 1) offset))) }
+    ensures full { IfNone result ((length out.old < at + length bytes.now)
+        ⊎ (O.limit ≤ at + length bytes.now)) }
+    ensures kept { IfNone result (out.new ≡ out.old) }
+    ensures kept_ends { IfNone result (ends.new ≡ ends.old) }
+{
+    let end = at.checked_add(bytes.len())?;
+    if end > out.len() {
+        return None;
+    }
+    let offset = O::of(end)?;
+    out[at..end].copy_from_slice(bytes);
+    ends[index + 1] = offset;
+    Some(end)
+}
+
+/// Tells how many texts are done, and how long their results are.
+pub fn ended(error: u32, done: usize, length: usize, outcome: &mut Outcome) -> u32
+    ensures number { result ≡ error }
+    ensures outcome { outcome.new
+        ≡ record { error = error; which = 0; index = done; length = length } }
+{
+    outcome.error = error;
+    outcome.which = 0;
+    outcome.index = done;
+    outcome.length = length;
+    error
+}
+
+/// Returns whether there is room for the ends of so many results, and for a bit of each.
+fn has_room<O: Offset>(count: usize, ends: &[O], valid: &[u8]) -> bool
+    ensures { IsTrue result ↔ HasRoom count ends.now valid.now }
+{
+    let bytes = count / 8 + usize::from(count % 8 != 0);
+    count < ends.len() && bytes <= valid.len()
+}
+
+/// Makes the call for each text of a column, where there is room for the ends and the bits.
+fn fill<O: Offset, C: Call>(
+    alloc: Global,
+    call: &C,
+    texts: &[u8],
+    offsets: &[O],
+    out: &mut [u8],
+    ends: &mut [O],
+    valid: &mut [u8],
+    outcome: &mut Outcome,
+) -> u32
+    requires { HasRoom (length offsets.now - 1) ends.old valid.old }
+    ensures told { outcome.new.error ≡ result }
+    ensures count { outcome.new.index ≤ length offsets.now - 1 }
+    ensures all { result ≡ 0 → outcome.new.index ≡ length offsets.now - 1 }
+    ensures length { outcome.new.length
+        ≡ length (joined (result_at O.value (C.result_of call.now) texts.now offsets.now)
+        outcome.new.index) }
+    ensures column { IsColumn O.value
+        (result_at O.value (C.result_of call.now) texts.now offsets.now)
+        outcome.new.index out.old out.new ends.old ends.new valid.old valid.new }
+    ensures full { result ≡ 10 → IsFull O.limit
+        (result_at O.value (C.result_of call.now) texts.now offsets.now)
+        outcome.new.index out.old }
+{
+    let count = offsets.len().saturating_sub(1);
+    let mut at = 0;
+    ends[0] = O::zero();
+    for index in 0..count {
+        let Some(text) = text_at(texts, offsets, index) else {
+            return ended(9, index, at, outcome);
+        };
+        let made = match call.call(alloc, text) {
+            Ok(made) => made,
+            Err(error) => return ended(error.number(), index, at, outcome),
+        };
+        let Some(end) = append(bytes_of(&made), index, at, out, ends) else {
+            return ended(10, index, at, outcome);
+        };
+        mark(valid, index, made.is_some());
+        at = end;
+    }
+    ended(0, count, at, outcome)
+}
+
+/// Makes the call for each text of a column.
+pub fn column<O: Offset, C: Call>(
+    alloc: Global,
+    call: &C,
+    texts: &[u8],
+    offsets: &[O],
+    out: &mut [u8],
+    ends: &mut [O],
+    valid: &mut [u8],
+    outcome: &mut Outcome,
+) -> u32
+    ensures { LeavesColumn O.value O.limit
+        (result_at O.value (C.result_of call.now) texts.now offsets.now)
+        (length offsets.now - 1) out.old out.new ends.old ends.new valid.old valid.new
+        outcome.new result }
+{
+    let count = offsets.len().saturating_sub(1);
+    if has_room(count, ends, valid) {
+        fill(alloc, call, texts, offsets, out, ends, valid, outcome)
+    } else {
+        ended(10, 0, 0, outcome)
+    }
+}

@@ -1,0 +1,70 @@
+//! Percent-encoding and decoding (RFC 3986, section 2.1).
+ghost use Rattle.std.specs.Prelude.{IsTrue};
+ghost use Rattle.fluent_uri.specs.Cows.{cow_items};
+ghost use Rattle.fluent_uri.specs.Encoding.{encode_bytes};
+ghost use Rattle.fluent_uri.specs.Tokens.{print};
+ghost use Rattle.fluent_uri_c.specs.Results.{IsReturned, IsReturnedAs, decode_result};
+ghost use Rattle.fluent_uri_c.specs.Results.{decoded_result, encode_result};
+
+use crate::errors::{Error, Rejection};
+use crate::texts::text_of;
+use fluent_uri::pct_enc::encoder::{
+    Data, Encoder, Fragment, IFragment, IPath, IQuery, IRegName, IUserinfo, Path, Query, RegName,
+    Userinfo,
+};
+use fluent_uri::pct_enc::{CowSlice, EStr, EString};
+use std::alloc::Global;
+
+/// Returns the bytes that a component stands for which the encoder's set spells.
+fn decoded_as<'a, E: Encoder>(alloc: Global, bytes: &'a [u8]) -> Result<CowSlice<'a, u8>, Rejection>
+    requires { IsTrue (E.set).pct_encoded }
+    ensures { IsReturnedAs cow_items (decoded_result E.set bytes.now) result }
+{
+    match EStr::<E>::new(text_of(bytes)?) {
+        Some(text) => Ok(text.decode().to_bytes(alloc)?),
+        None => Err(Rejection::of(Error::UnexpectedChar)),
+    }
+}
+
+/// Returns the bytes that the component of a number stands for.
+pub fn decoded<'a>(
+    alloc: Global,
+    component: u32,
+    bytes: &'a [u8],
+) -> Result<CowSlice<'a, u8>, Rejection>
+    ensures { IsReturnedAs cow_items (decode_result component bytes.now) result }
+{
+    match component {
+        0 => decoded_as::<IUserinfo>(alloc, bytes),
+        1 => decoded_as::<IRegName>(alloc, bytes),
+        2 => decoded_as::<IPath>(alloc, bytes),
+        3 => decoded_as::<IQuery>(alloc, bytes),
+        4 => decoded_as::<IFragment>(alloc, bytes),
+        _ => Err(Rejection::of(Error::InvalidArgument)),
+    }
+}
+
+/// Returns the bytes, encoded by the encoder's set.
+fn encoded_as<E: Encoder>(alloc: Global, bytes: &[u8]) -> Result<String, Rejection>
+    requires { IsTrue (E.set).pct_encoded }
+    ensures { IsReturned (Ok (print (encode_bytes E.set bytes.now))) result }
+{
+    let mut text = EString::<E>::new(alloc);
+    text.encode_bytes::<E>(bytes)?;
+    Ok(text.into_string())
+}
+
+/// Returns the bytes, encoded as data of the component of a number.
+pub fn encoded(alloc: Global, component: u32, bytes: &[u8]) -> Result<String, Rejection>
+    ensures { IsReturned (encode_result component bytes.now) result }
+{
+    match component {
+        0 => encoded_as::<Userinfo>(alloc, bytes),
+        1 => encoded_as::<RegName>(alloc, bytes),
+        2 => encoded_as::<Path>(alloc, bytes),
+        3 => encoded_as::<Query>(alloc, bytes),
+        4 => encoded_as::<Fragment>(alloc, bytes),
+        8 => encoded_as::<Data>(alloc, bytes),
+        _ => Err(Rejection::of(Error::InvalidArgument)),
+    }
+}

@@ -1,0 +1,94 @@
+//! Columns of texts as data and offsets, as data engines hold them.
+ghost use Rattle.std.specs.Prelude.{◌≡◌, ◌≢◌, ◌+◌, ◌/◌, ◌<◌, ◌≤◌, ◌++◌, length, drop, take};
+ghost use Rattle.std.specs.Prelude.{IfSome, IfNone, OnSome};
+ghost use Rattle.std.specs.Prelude.{option_copied, ℕ};
+ghost use Rattle.fluent_uri_c.specs.Columns.{bit_of, number_of_bool, text_at};
+
+/// An offset of a column: one of 32 bits or of 64.
+pub trait Offset: Copy {
+    ghost use Rattle.std.specs.Prelude.{◌≡◌, ◌≤◌, ◌^◌, ℕ, IfNone, IfSome};
+
+    ghost value: { Self → ℕ };
+
+    ghost limit: { ℕ };
+
+    /// Returns the position that it is.
+    fn position(self) -> usize
+        ensures { result ≡ value self };
+
+    /// Returns the offset of the beginning.
+    fn zero() -> Self
+        ensures { value result ≡ 0 };
+
+    /// Returns the offset of a position, if it can be one.
+    fn of(position: usize) -> Option<Self>
+        ensures value { IfSome result (λ offset. value offset ≡ position) }
+        ensures limit { IfNone result (limit ≤ position) };
+}
+
+impl Offset for u32 {
+    ghost use Rattle.std.specs.Prelude.{◌^◌};
+
+    ghost value = { λ offset. offset };
+
+    ghost limit = { 2 ^ 32 };
+
+    fn position(self) -> usize {
+        self as usize
+    }
+
+    fn zero() -> u32 {
+        0
+    }
+
+    fn of(position: usize) -> Option<u32> {
+        u32::try_from(position).ok()
+    }
+}
+
+impl Offset for u64 {
+    ghost use Rattle.std.specs.Prelude.{◌^◌};
+
+    ghost value = { λ offset. offset };
+
+    ghost limit = { 2 ^ 64 };
+
+    fn position(self) -> usize {
+        self as usize
+    }
+
+    fn zero() -> u64 {
+        0
+    }
+
+    fn of(position: usize) -> Option<u64> {
+        Some(position as u64)
+    }
+}
+
+/// Returns the text at an index of a column.
+pub fn text_at<'a, O: Offset>(texts: &'a [u8], offsets: &[O], index: usize) -> Option<&'a [u8]>
+    ensures { option_copied result ≡ text_at O.value texts.now offsets.now index }
+{
+    let start = offsets.get(index)?.position();
+    let end = offsets.get(index.checked_add(1)?)?.position();
+    if start <= end && end <= texts.len() {
+        Some(&texts[start..end])
+    } else {
+        None
+    }
+}
+
+/// Writes whether the text at an index has a result.
+pub fn mark(valid: &mut [u8], index: usize, is_valid: bool)
+    requires { index / 8 < length valid.old }
+    ensures marked { bit_of valid.new index ≡ number_of_bool is_valid }
+    ensures others { (i : ℕ) → i ≢ index → bit_of valid.new i ≡ bit_of valid.old i }
+{
+    let mask = 1u8 << (index % 8);
+    if is_valid {
+        valid[index / 8] |= mask;
+    } else {
+        valid[index / 8] &= !mask;
+    }
+}

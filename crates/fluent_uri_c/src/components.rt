@@ -1,0 +1,139 @@
+//! The batch that writes a component of each text.
+ghost use Rattle.std.specs.Prelude.{◌≡◌, ◌-◌, Some, length, option_copied};
+ghost use Rattle.fluent_uri.specs.AuthorityTexts.{authority_text};
+ghost use Rattle.fluent_uri.specs.References.{reference_text};
+ghost use Rattle.fluent_uri_c.specs.Columns.{LeavesColumn, result_at};
+ghost use Rattle.fluent_uri_c.specs.Kinds.{kind_numbered};
+ghost use Rattle.fluent_uri_c.specs.PartColumns.{authority_part, component_numbered};
+ghost use Rattle.fluent_uri_c.specs.PartColumns.{component_result};
+
+use crate::batch::{Call, Made, column};
+use crate::columns::Offset;
+use crate::errors::Error;
+use crate::outcome::Outcome;
+use crate::texts::parsed;
+use fluent_uri::Reference;
+use fluent_uri::component::Authority;
+use fluent_uri::pct_enc::Encoder;
+use std::alloc::Global;
+use uri_parts::kind::{IriKind, IriRefKind, Kind, UriKind, UriRefKind};
+
+/// Returns a part of an authority, or the whole of it.
+fn part_of<'a, U: Encoder, R: Encoder>(
+    authority: Authority<'a, U, R>,
+    component: u32,
+) -> Option<&'a str>
+    ensures { option_copied result
+        ≡ authority_part component (authority_text authority.entry) }
+{
+    match component {
+        0 => match authority.userinfo() {
+            Some(userinfo) => Some(userinfo.as_str()),
+            None => None,
+        },
+        1 => Some(authority.host()),
+        6 => Some(authority.as_str()),
+        7 => match authority.port() {
+            Some(port) => Some(port.as_str()),
+            None => None,
+        },
+        _ => None,
+    }
+}
+
+/// Returns the component of a number of a value, if there is one.
+fn part_in<'a, K: Kind>(value: Reference<K, &'a str>, component: u32) -> Option<&'a str>
+    ensures { option_copied result
+        ≡ component_numbered component (reference_text value.entry) }
+{
+    match component {
+        2 => Some(value.path().as_str()),
+        3 => match value.query() {
+            Some(query) => Some(query.as_str()),
+            None => None,
+        },
+        4 => match value.fragment() {
+            Some(fragment) => Some(fragment.as_str()),
+            None => None,
+        },
+        5 => match value.into_core().scheme() {
+            Some(scheme) => Some(scheme.as_str()),
+            None => None,
+        },
+        _ => match value.authority() {
+            Some(authority) => part_of(authority, component),
+            None => None,
+        },
+    }
+}
+
+/// Returns the component of a number of bytes that are a text of the kind, if there is one.
+fn component_as<'a, K: Kind>(bytes: &'a [u8], component: u32) -> Option<&'a [u8]>
+    ensures { option_copied result ≡ component_result (Some K.kind) component bytes.now }
+{
+    match parsed::<K>(bytes) {
+        Ok(value) => match part_in(value, component) {
+            Some(part) => Some(part.as_bytes()),
+            None => None,
+        },
+        Err(_) => None,
+    }
+}
+
+/// Returns the component of a number of a text of the kind of a number, if there is one.
+fn component_of<'a>(kind: u32, component: u32, bytes: &'a [u8]) -> Option<&'a [u8]>
+    ensures { option_copied result ≡ component_result (kind_numbered kind) component bytes.now }
+{
+    match kind {
+        0 => component_as::<UriKind>(bytes, component),
+        1 => component_as::<UriRefKind>(bytes, component),
+        2 => component_as::<IriKind>(bytes, component),
+        3 => component_as::<IriRefKind>(bytes, component),
+        _ => None,
+    }
+}
+
+/// Takes a component of texts of a kind.
+#[derive(Clone, Copy)]
+struct Component {
+    kind: u32,
+    component: u32,
+}
+
+impl Call for Component {
+    ghost result_of = { λ call text.
+        component_result (kind_numbered call.kind) call.component text };
+
+    fn call<'a>(&self, _alloc: Global, text: &'a [u8]) -> Result<Option<Made<'a>>, Error> {
+        if self.kind > 3 || self.component > 7 {
+            return Err(Error::InvalidArgument);
+        }
+        match component_of(self.kind, self.component, text) {
+            Some(part) => Ok(Some(Made::Part(part))),
+            None => Ok(None),
+        }
+    }
+}
+
+/// Writes a component of each text of a column.
+#[unsafe(no_mangle)]
+pub extern "C" fn fluent_uri_component_batch(
+    alloc: Global,
+    kind: u32,
+    component: u32,
+    texts: &[u8],
+    offsets: &[u32],
+    out: &mut [u8],
+    ends: &mut [u32],
+    valid: &mut [u8],
+    outcome: &mut Outcome,
+) -> u32
+    ensures { LeavesColumn ⟦<u32 as Offset>⟧.value ⟦<u32 as Offset>⟧.limit
+        (result_at ⟦<u32 as Offset>⟧.value
+        (component_result (kind_numbered kind) component) texts.now offsets.now)
+        (length offsets.now - 1) out.old out.new ends.old ends.new valid.old valid.new
+        outcome.new result }
+{
+    let call = Component { kind, component };
+    column(alloc, &call, texts, offsets, out, ends, valid, outcome)
+}

@@ -1,0 +1,121 @@
+//! Why a call rejects its arguments.
+ghost use Rattle.std.specs.Prelude.{◌≡◌, ◌≢◌};
+ghost use Rattle.fluent_uri_c.specs.Errors.{number_of, in_reference, rejected};
+
+use fluent_uri::resolve::ResolveError;
+use fluent_uri::{ParseError, ParseErrorKind};
+use std::alloc::AllocError;
+
+/// What is wrong: the errors of the header.
+#[derive(Clone, Copy)]
+pub enum Error {
+    InvalidPctEncodedOctet,
+    UnexpectedChar,
+    InvalidIpv6Addr,
+    NotUtf8,
+    BaseWithFragment,
+    InvalidReferenceAgainstOpaqueBase,
+    PathUnderflow,
+    OutOfMemory,
+    InvalidArgument,
+    Full,
+}
+
+impl Error {
+    /// Returns its number in the header, which is not 0.
+    pub fn number(self) -> u32
+        ensures number { result ≡ number_of self }
+        ensures error { result ≢ 0 }
+    {
+        match self {
+            Error::InvalidPctEncodedOctet => 1,
+            Error::UnexpectedChar => 2,
+            Error::InvalidIpv6Addr => 3,
+            Error::NotUtf8 => 4,
+            Error::BaseWithFragment => 5,
+            Error::InvalidReferenceAgainstOpaqueBase => 6,
+            Error::PathUnderflow => 7,
+            Error::OutOfMemory => 8,
+            Error::InvalidArgument => 9,
+            Error::Full => 10,
+        }
+    }
+}
+
+/// Why a call rejects its arguments: what is wrong, in which of its texts, and where in that text.
+#[derive(Clone, Copy)]
+pub struct Rejection {
+    pub error: Error,
+    pub which: u32,
+    pub index: usize,
+}
+
+impl Rejection {
+    /// Returns the rejection for an error that is at no index of a text.
+    pub fn of(error: Error) -> Rejection
+        ensures { result ≡ rejected error }
+    {
+        Rejection {
+            error,
+            which: 0,
+            index: 0,
+        }
+    }
+
+    /// Returns the same in the reference, which is the second text.
+    pub fn in_reference(self) -> Rejection
+        ensures { result ≡ in_reference self }
+    {
+        Rejection {
+            error: self.error,
+            which: 1,
+            index: self.index,
+        }
+    }
+}
+
+impl From<ParseError> for Rejection {
+    ghost use Rattle.fluent_uri_c.specs.Errors.{parse_rejection};
+
+    ghost from_gives = { λ error why. why ≡ parse_rejection error };
+
+    fn from(error: ParseError) -> Rejection {
+        let number = match error.kind() {
+            ParseErrorKind::InvalidPctEncodedOctet => Error::InvalidPctEncodedOctet,
+            ParseErrorKind::UnexpectedChar => Error::UnexpectedChar,
+            ParseErrorKind::InvalidIpv6Addr => Error::InvalidIpv6Addr,
+        };
+        Rejection {
+            error: number,
+            which: 0,
+            index: error.index(),
+        }
+    }
+}
+
+impl From<ResolveError> for Rejection {
+    ghost use Rattle.fluent_uri_c.specs.Errors.{resolve_rejection};
+
+    ghost from_gives = { λ error why. why ≡ resolve_rejection error };
+
+    fn from(error: ResolveError) -> Rejection {
+        Rejection::of(match error {
+            ResolveError::BaseWithFragment => Error::BaseWithFragment,
+            ResolveError::InvalidReferenceAgainstOpaqueBase => {
+                Error::InvalidReferenceAgainstOpaqueBase
+            }
+            ResolveError::PathUnderflow => Error::PathUnderflow,
+            ResolveError::OutOfMemory => Error::OutOfMemory,
+        })
+    }
+}
+
+impl From<AllocError> for Rejection {
+    ghost use Rattle.fluent_uri_c.specs.declared.errors.Error.TheVariants.{OutOfMemory};
+
+    ghost from_gives = { λ _ why. why ≡ rejected OutOfMemory };
+
+    fn from(_: AllocError) -> Rejection {
+        Rejection::of(Error::OutOfMemory)
+    }
+}

@@ -1,0 +1,34 @@
+//! The batches that take no memory: the parts of each text of a column, or one of its components.
+ghost use Rattle.std.specs.Prelude.{◌-◌, length};
+ghost use Rattle.fluent_uri_c.specs.Kinds.{kind_numbered};
+ghost use Rattle.fluent_uri_c.specs.PartColumns.{LeavesParts};
+
+use crate::batch::ended;
+use crate::columns::{Offset, text_at};
+use crate::outcome::Outcome;
+use crate::parts::{Parts, parts_of_bytes};
+
+/// Parses each text of a column.
+#[unsafe(no_mangle)]
+pub extern "C" fn fluent_uri_parse_batch(
+    kind: u32,
+    texts: &[u8],
+    offsets: &[u32],
+    parts: &mut [Parts],
+    outcome: &mut Outcome,
+) -> u32
+    ensures { LeavesParts ⟦<u32 as Offset>⟧.value (kind_numbered kind) texts.now offsets.now
+        parts.old parts.new outcome.new result }
+{
+    let count = offsets.len().saturating_sub(1);
+    if parts.len() < count {
+        return ended(10, 0, 0, outcome);
+    }
+    for index in 0..count {
+        let Some(text) = text_at(texts, offsets, index) else {
+            return ended(9, index, 0, outcome);
+        };
+        parts[index] = parts_of_bytes(kind, text);
+    }
+    ended(0, count, 0, outcome)
+}

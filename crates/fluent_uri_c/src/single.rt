@@ -1,0 +1,121 @@
+//! The calls on one text.
+ghost use Rattle.std.specs.Prelude.{◌≡◌};
+ghost use Rattle.fluent_uri_c.specs.Kinds.{kind_numbered};
+ghost use Rattle.fluent_uri_c.specs.Outcomes.{Leaves};
+ghost use Rattle.fluent_uri_c.specs.Results.{decode_result, encode_result, normalize_result};
+ghost use Rattle.fluent_uri_c.specs.Results.{resolve_normalized_result, resolve_result};
+ghost use Rattle.fluent_uri_c.specs.Results.{to_uri_result};
+ghost use Rattle.fluent_uri_c.specs.Spans.{ArePartsOf};
+
+use crate::outcome::{Outcome, leave, put, tell};
+use crate::parts::{Parts, parts_of_bytes};
+use crate::{codes, numbered};
+use std::alloc::Global;
+
+/// Parses a text as the kind, and tells where its components lie. Takes no memory.
+#[unsafe(no_mangle)]
+pub extern "C" fn fluent_uri_parse(kind: u32, text: &[u8], parts: &mut Parts) -> u32
+    ensures told { parts.new.error ≡ result }
+    ensures parts { ArePartsOf (kind_numbered kind) text.now parts.new }
+{
+    *parts = parts_of_bytes(kind, text);
+    parts.error
+}
+
+/// Writes the normal form of a text of the kind.
+#[unsafe(no_mangle)]
+pub extern "C" fn fluent_uri_normalize(
+    alloc: Global,
+    kind: u32,
+    text: &[u8],
+    out: &mut [u8],
+    outcome: &mut Outcome,
+) -> u32
+    ensures { Leaves (normalize_result kind text.now) out.old out.new outcome.new result }
+{
+    leave(numbered::normal_form(alloc, kind, text), out, outcome)
+}
+
+/// Writes the target of a reference against a base of the kind.
+#[unsafe(no_mangle)]
+pub extern "C" fn fluent_uri_resolve(
+    alloc: Global,
+    kind: u32,
+    base: &[u8],
+    reference: &[u8],
+    out: &mut [u8],
+    outcome: &mut Outcome,
+) -> u32
+    ensures { Leaves (resolve_result kind base.now reference.now)
+        out.old out.new outcome.new result }
+{
+    leave(numbered::target(alloc, kind, base, reference), out, outcome)
+}
+
+/// Writes the normal form of the target of a reference against a base of the kind.
+#[unsafe(no_mangle)]
+pub extern "C" fn fluent_uri_resolve_normalized(
+    alloc: Global,
+    kind: u32,
+    base: &[u8],
+    reference: &[u8],
+    out: &mut [u8],
+    outcome: &mut Outcome,
+) -> u32
+    ensures { Leaves (resolve_normalized_result kind base.now reference.now)
+        out.old out.new outcome.new result }
+{
+    leave(
+        numbered::normal_target(alloc, kind, base, reference),
+        out,
+        outcome,
+    )
+}
+
+/// Writes a text of a kind of IRIs as a URI or a URI reference.
+#[unsafe(no_mangle)]
+pub extern "C" fn fluent_uri_to_uri(
+    alloc: Global,
+    kind: u32,
+    text: &[u8],
+    out: &mut [u8],
+    outcome: &mut Outcome,
+) -> u32
+    ensures { Leaves (to_uri_result kind text.now) out.old out.new outcome.new result }
+{
+    leave(numbered::uri_text(alloc, kind, text), out, outcome)
+}
+
+/// Writes the bytes that a component stands for.
+#[unsafe(no_mangle)]
+pub extern "C" fn fluent_uri_decode(
+    alloc: Global,
+    component: u32,
+    text: &[u8],
+    out: &mut [u8],
+    outcome: &mut Outcome,
+) -> u32
+    ensures { Leaves (decode_result component text.now) out.old out.new outcome.new result }
+{
+    match codes::decoded(alloc, component, text) {
+        Ok(bytes) => {
+            put(bytes.as_slice(), out, outcome);
+            0
+        }
+        Err(why) => tell(why, outcome),
+    }
+}
+
+/// Writes bytes, encoded as data of a component.
+#[unsafe(no_mangle)]
+pub extern "C" fn fluent_uri_encode(
+    alloc: Global,
+    component: u32,
+    bytes: &[u8],
+    out: &mut [u8],
+    outcome: &mut Outcome,
+) -> u32
+    ensures { Leaves (encode_result component bytes.now) out.old out.new outcome.new result }
+{
+    leave(codes::encoded(alloc, component, bytes), out, outcome)
+}
