@@ -1,0 +1,105 @@
+"""What a call raises, and how the numbers of the shared library become exceptions."""
+
+from __future__ import annotations
+
+import enum
+
+OUT_OF_MEMORY, INVALID_ARGUMENT = 8, 9
+
+
+class ParseErrorKind(enum.IntEnum):
+    """What is wrong with a text."""
+
+    INVALID_PCT_ENCODED_OCTET = 1
+    UNEXPECTED_CHAR = 2
+    INVALID_IPV6_ADDR = 3
+    NOT_UTF8 = 4
+
+
+class ResolveErrorKind(enum.IntEnum):
+    """Why a reference has no target against a base."""
+
+    BASE_WITH_FRAGMENT = 5
+    INVALID_REFERENCE_AGAINST_OPAQUE_BASE = 6
+    PATH_UNDERFLOW = 7
+
+
+_MESSAGES = {
+    1: "invalid percent-encoded octet",
+    2: "unexpected character",
+    3: "invalid IPv6 address",
+    4: "not Unicode text",
+    5: "base should not have fragment",
+    6: "when base has a rootless path and no authority, reference should either have scheme, "
+    "be empty or start with '#'",
+    7: "underflow occurred in path resolution",
+}
+
+
+class ParseError(ValueError):
+    """A text is not of the kind.
+
+    >>> from fluent_uri import Iri
+    >>> try:
+    ...     Iri.parse("http://é/ ")
+    ... except ParseError as error:
+    ...     error.kind.name, error.index, error.char_index
+    ('UNEXPECTED_CHAR', 10, 9)
+
+    `kind` says what is wrong, `index` at which byte of its UTF-8, and `char_index` at which
+    character of the `str`. Where the text ends too early, they are its length.
+    """
+
+    kind: ParseErrorKind
+    index: int
+    char_index: int
+
+    def __init__(self, kind: int, index: int, char_index: int) -> None:
+        self.kind = ParseErrorKind(kind)
+        self.index = index
+        self.char_index = char_index
+        super().__init__(self.kind, index, char_index)
+
+    def __str__(self) -> str:
+        said = f"{_MESSAGES[self.kind]} at index {self.index}"
+        if self.index != self.char_index:
+            said += f" (character {self.char_index})"
+        return said
+
+
+class ResolveError(ValueError):
+    """A reference has no target against a base: `kind` says why."""
+
+    kind: ResolveErrorKind
+
+    def __init__(self, kind: int) -> None:
+        self.kind = ResolveErrorKind(kind)
+        super().__init__(self.kind)
+
+    def __str__(self) -> str:
+        return _MESSAGES[self.kind]
+
+
+def utf8_of(text: str) -> bytes:
+    """The text in UTF-8. A surrogate is three bytes, which the library reports as not UTF-8."""
+    try:
+        return str.encode(text)
+    except UnicodeEncodeError:
+        return str.encode(text, "utf-8", "surrogatepass")
+
+
+def error_of(number: int, index: int, data: bytes) -> Exception:
+    """The exception for a number of the library, with the index of a byte of the text."""
+    if number in _PARSING:
+        return ParseError(number, index, len(data[:index].decode("utf-8", "surrogatepass")))
+    if number in _RESOLVING:
+        return ResolveError(number)
+    if number == OUT_OF_MEMORY:
+        return MemoryError()
+    if number == INVALID_ARGUMENT:
+        return ValueError("the call has no such component")
+    return SystemError(f"fluent_uri: error {number} at {index}")
+
+
+_PARSING = frozenset(ParseErrorKind)
+_RESOLVING = frozenset(ResolveErrorKind)
