@@ -1,0 +1,12 @@
+pub mod Climbs
+pub mod Fronts
+pub mod Ways
+pub mod Lengths
+pub mod References
+pub mod Settled
+pub mod PlainPaths
+pub mod Slices
+pub mod Forms
+pub mod Shrinking
+pub mod Leading
+pub mod Returning

@@ -1,0 +1,10 @@
+use Rattle.std.proofs.Common.{◌++◌, ap, string_bytes, ◌∙◌}
+use Rattle.uri_relative.proofs.reference.push_reference.Goals as goal
+
+pub returns-in_ok-push_str-in-Some : goal.returns-in_ok-push_str-in-Some
+returns-in_ok-push_str-in-Some g c =
+    let found = c.in-Some.ensures.some in (
+      found.0,
+      c.in_ok-push_str-in-Some.ensures.bytes ∙ ap (λ t. string_bytes c.args.out.now ++ t) found.1,
+      found.2 c.args.prefers_relative,
+    )

@@ -1,0 +1,66 @@
+use Rattle.std.proofs.Common.{sym, ap, ◌∙◌}
+use Rattle.std.proofs.lemmas.Bool.{both_ways}
+use Rattle.uri_pct.specs.Delimiters.{slash}
+use Rattle.uri_parts.specs.Components.{components, starts}
+use Rattle.uri_parts.specs.CoreTexts.{core_text}
+use Rattle.uri_parts.proofs.Splitting.Recompose.{recompose-components}
+use Rattle.uri_relative.specs.Forms.{from_authority}
+use Rattle.uri_relative.proofs.Forms.{from_authority_form, needs_it, whole}
+use Rattle.uri_relative.proofs.Leading.{target_of_text}
+use Rattle.uri_relative.proofs.reference.with_authority.Goals as goal
+
+pub returns-then-is_opaque-clause-some : goal.returns-then-is_opaque-clause-some
+returns-then-is_opaque-clause-some g c =
+    let b = components (core_text c.args.base) in
+    let text = core_text c.args.target in
+    let t = components text in (
+      t,
+      c.as_str.ensures.text ∙ sym (recompose-components text),
+      λ prefers. whole g.K.Kind.kind prefers b t
+          (target_of_text g.K.Kind.kind text g.met.K.BaseKind.needs_scheme c.args.target.of_kind
+          c.requires.settled)
+          (λ _ _ opaque _. absurd
+          (both_ways _ opaque (sym c.is_opaque.ensures ∙ c.if-is_opaque.true))),
+    )
+
+pub returns-then-not-have_same_authority-clause-some : goal.returns-then-not-have_same_authority-clause-some
+returns-then-not-have_same_authority-clause-some g c =
+    let b = components (core_text c.args.base) in
+    let text = core_text c.args.target in
+    let t = components text in (
+      from_authority t,
+      c.from_authority.ensures,
+      λ prefers. from_authority_form g.K.Kind.kind prefers b t
+          (target_of_text g.K.Kind.kind text g.met.K.BaseKind.needs_scheme c.args.target.of_kind
+          c.requires.settled) c.requires.scheme
+          (sym c.is_opaque.ensures ∙ c.if-is_opaque.false)
+          (λ a. absurd (both_ways _ c.if-not-have_same_authority.true
+          (c.have_same_authority.ensures.1 a))),
+    )
+
+pub returns-then-begins_with_slash-clause-none : goal.returns-then-begins_with_slash-clause-none
+returns-then-begins_with_slash-clause-none g c = λ _. record {
+  scheme = c.requires.scheme;
+  authority = c.have_same_authority.ensures.0 c.if-not-have_same_authority.false;
+  opaque = sym c.is_opaque.ensures ∙ c.if-is_opaque.false;
+  absolute = sym (c.begins_with_slash.ensures
+      ∙ ap (starts slash) (c.as_bytes.ensures.value ∙ c.path.ensures))
+      ∙ c.if-begins_with_slash.true;
+}
+
+pub returns-clause-some : goal.returns-clause-some
+returns-clause-some g c =
+    let b = components (core_text c.args.base) in
+    let text = core_text c.args.target in
+    let t = components text in
+    let w = target_of_text g.K.Kind.kind text g.met.K.BaseKind.needs_scheme
+    c.args.target.of_kind c.requires.settled in
+    let opaque = sym c.is_opaque.ensures ∙ c.if-is_opaque.false in (
+      from_authority t,
+      c.from_authority-2.ensures,
+      λ prefers. from_authority_form g.K.Kind.kind prefers b t w c.requires.scheme opaque
+          (λ a. needs_it g.K.Kind.kind b t w c.requires.path a opaque
+          (sym (c.begins_with_slash.ensures
+          ∙ ap (starts slash) (c.as_bytes.ensures.value ∙ c.path.ensures))
+          ∙ c.if-begins_with_slash.false)),
+    )

@@ -1,0 +1,60 @@
+-- The forms of references: RFC 3986, section 4.2.
+use Rattle.std.specs.Prelude.{◌≡◌, ◌≢◌, ◌≤◌, ℕ, Bool, true, false, List, [], ◌++◌, codes, length, None}
+use Rattle.std.specs.Prelude.{◌==◌, ◌&&◌, if◌then◌else◌, is_none, is_some, slice_index}
+use Rattle.uri_pct.specs.Delimiters.{full_stop, slash}
+use Rattle.uri_parts.specs.Components.{Components, IsSplitOf, marked, recompose, starts}
+use Rattle.uri_parts.specs.Grammar.{Kind, are_components}
+use Rattle.uri_ops.specs.Dots.{IsAbsolute, lacks_dot_segments}
+use Rattle.uri_ops.specs.NormalTargets.{reference_kind}
+use Rattle.uri_ops.specs.Target.{guarded, is_opaque, is_refused_as_opaque, target_of}
+use Rattle.uri_ops.specs.Target.{target_underflows}
+use Rattle.uri_relative.specs.Leading.{IsRelativeTo}
+
+-- what stands behind the path, with the marks
+abbrev pub after_path : Components → List ℕ
+after_path p = marked (codes "?") p.query [] ++ marked (codes "#") p.fragment []
+
+-- what stands behind the scheme and its mark
+abbrev pub after_scheme : Components → List ℕ
+after_scheme p = marked (codes "//") p.authority [] ++ (p.path ++ after_path p)
+
+-- the target without its scheme, if it has an authority
+abbrev pub from_authority : Components → Components
+from_authority p = if is_some p.authority then record p { scheme = None } else p
+
+-- the components of a reference of the kind that leads from the base to the target, of which no
+-- dot segment is removed. Where paths from the root are not left for longer ones, it is no longer.
+pub record IsReferenceTo (kind : Kind) (prefers : Bool) (base target r : Components) : Type 0 where
+  pub split : IsSplitOf (recompose r) r
+  pub meets : are_components (reference_kind kind) r ≡ true
+  pub leads : target_of base r ≡ target
+  pub taken : is_refused_as_opaque base r ≡ false
+  pub below : target_underflows base r ≡ false
+  pub relative : IsRelativeTo base target r
+  pub short : prefers ≡ false → length (recompose r) ≤ length (recompose target)
+
+-- no reference without a path leads to the target
+pub record NeedsPath (base target : Components) : Type 0 where
+  pub other_query : base.authority ≡ target.authority → base.path ≡ target.path
+      → base.query ≢ target.query
+  pub no_query : base.authority ≡ target.authority → base.path ≡ target.path
+      → is_opaque base ≡ false → is_none target.query ≡ true
+
+-- the reference has a path that leads from the base's to the target's
+pub record IsPathNeeded (base target : Components) : Type 0 where
+  pub scheme : base.scheme ≡ target.scheme
+  pub authority : base.authority ≡ target.authority
+  pub opaque : is_opaque base ≡ false
+  pub absolute : starts slash target.path ≡ true
+
+-- the path before `/.` was put before it: section 5.2.2
+pub record IsUnguarded (target : Components) (path : List ℕ) : Type 0 where
+  pub absolute : IsAbsolute path
+  pub plain : lacks_dot_segments path ≡ true
+  pub guards : guarded target.authority path ≡ target.path
+
+-- the path begins with `/.//`
+abbrev pub is_guarded : List ℕ → Bool
+is_guarded path =
+    slice_index path 0 == slash && slice_index path 1 == full_stop
+    && slice_index path 2 == slash && slice_index path 3 == slash

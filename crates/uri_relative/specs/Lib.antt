@@ -1,0 +1,4 @@
+pub mod Relative
+pub mod Leading
+pub mod Forms
+pub mod Relativizers

@@ -1,0 +1,13 @@
+//! References that lead from a base to a target: the inverse of resolving (RFC 3986, section 5.2).
+#![tactic(auto)]
+
+mod dots;
+pub mod laws;
+mod paths;
+mod pieces;
+mod reference;
+#[doc(hidden)]
+pub mod relative;
+pub mod relativize;
+
+pub use relativize::{Relativize, Relativizer};

@@ -1,0 +1,179 @@
+//! The text of a reference that leads from a base to a target (RFC 3986, sections 4.2 and 5.2).
+ghost use Rattle.std.specs.Prelude.{◌≡◌, Bool, IfSome, IsNone, OnOk, false, true};
+ghost use Rattle.uri_pct.specs.Delimiters.{slash};
+ghost use Rattle.uri_pct.specs.Texts.{Pushes};
+ghost use Rattle.uri_parts.specs.Components.{Components, components, recompose, starts};
+ghost use Rattle.uri_parts.specs.CoreTexts.{core_text};
+ghost use Rattle.uri_ops.specs.Resolving.{finished};
+ghost use Rattle.uri_relative.specs.Forms.{IsPathNeeded, IsReferenceTo, IsUnguarded, NeedsPath};
+ghost use Rattle.uri_relative.specs.Forms.{from_authority, is_guarded};
+
+use crate::paths::push_path;
+use crate::pieces::{
+    after_path, after_scheme, have_same_authority, have_same_path, have_same_query,
+    have_same_scheme, is_opaque, marked_fragment, path,
+};
+use fluent_uri::roles::BaseKind;
+use std::alloc::AllocError;
+use uri_ops::slashes::begins_with_slash;
+use uri_parts::core_text::Core;
+
+/// Whether the authorities are the same, and the paths.
+fn have_same_place<K: BaseKind>(base: Core<K, &str>, target: Core<K, &str>) -> bool
+    ensures same { result ≡ true → ((components (core_text base.entry)).authority
+        ≡ (components (core_text target.entry)).authority)
+        × ((components (core_text base.entry)).path ≡ (components (core_text target.entry)).path) }
+    ensures other { result ≡ false
+        → (components (core_text base.entry)).authority
+        ≡ (components (core_text target.entry)).authority
+        → (components (core_text base.entry)).path ≡ (components (core_text target.entry)).path
+        → ⊥ }
+{
+    if !have_same_authority(base, target) {
+        return false;
+    }
+    have_same_path(base, target)
+}
+
+/// The reference that has no path: the end of the target's text, if it leads there.
+fn without_path<'a, K: BaseKind>(base: Core<K, &str>, target: Core<K, &'a str>) -> Option<&'a str>
+    requires settled { let t = components (core_text target) in finished t ≡ t }
+    requires scheme { (components (core_text base)).scheme
+        ≡ (components (core_text target)).scheme }
+    ensures some { IfSome result (λ text. (r : Components) × (text.now ≡ recompose r)
+        × ((prefers : Bool) → IsReferenceTo K.kind prefers (components (core_text base.entry))
+        (components (core_text target.entry)) r)) }
+    ensures none { IsNone result → NeedsPath (components (core_text base.entry))
+        (components (core_text target.entry)) }
+{
+    if !have_same_place(base, target) {
+        return None;
+    }
+    if have_same_query(base, target) {
+        return Some(marked_fragment(target));
+    }
+    if !target.has_query() {
+        return None;
+    }
+    if is_opaque(base) {
+        return None;
+    }
+    Some(after_path(target))
+}
+
+/// The target without its scheme, if it has an authority, and else as it stands.
+fn from_authority<'a, K: BaseKind>(target: Core<K, &'a str>) -> &'a str
+    ensures { result.now ≡ recompose (from_authority (components (core_text target.entry))) }
+{
+    if target.has_authority() {
+        return after_scheme(target);
+    }
+    target.as_str()
+}
+
+/// The reference from the scheme or the authority on, unless it has a path that leads from the
+/// base's.
+fn with_authority<'a, K: BaseKind>(base: Core<K, &str>, target: Core<K, &'a str>) -> Option<&'a str>
+    requires settled { let t = components (core_text target) in finished t ≡ t }
+    requires scheme { (components (core_text base)).scheme
+        ≡ (components (core_text target)).scheme }
+    requires path { NeedsPath (components (core_text base)) (components (core_text target)) }
+    ensures some { IfSome result (λ text. (r : Components) × (text.now ≡ recompose r)
+        × ((prefers : Bool) → IsReferenceTo K.kind prefers (components (core_text base.entry))
+        (components (core_text target.entry)) r)) }
+    ensures none { IsNone result → IsPathNeeded (components (core_text base.entry))
+        (components (core_text target.entry)) }
+{
+    if is_opaque(base) {
+        return Some(target.as_str());
+    }
+    if !have_same_authority(base, target) {
+        return Some(from_authority(target));
+    }
+    if begins_with_slash(path(target).as_bytes()) {
+        return None;
+    }
+    Some(from_authority(target))
+}
+
+/// The reference that is the end of the target's text, unless it has a path that leads from the
+/// base's.
+fn target_end<'a, K: BaseKind>(base: Core<K, &str>, target: Core<K, &'a str>) -> Option<&'a str>
+    requires { let t = components (core_text target) in finished t ≡ t }
+    ensures some { IfSome result (λ text. (r : Components) × (text.now ≡ recompose r)
+        × ((prefers : Bool) → IsReferenceTo K.kind prefers (components (core_text base.entry))
+        (components (core_text target.entry)) r)) }
+    ensures none { IsNone result → IsPathNeeded (components (core_text base.entry))
+        (components (core_text target.entry)) }
+{
+    if !have_same_scheme(base, target) {
+        return Some(target.as_str());
+    }
+    match without_path(base, target) {
+        Some(text) => Some(text),
+        None => with_authority(base, target),
+    }
+}
+
+/// Whether a path begins with `/.//`.
+fn is_guarded(path: &[u8]) -> bool
+    ensures { result ≡ is_guarded path.now }
+{
+    matches!(path, [b'/', b'.', b'/', b'/', ..])
+}
+
+/// A path as it stood before `/.` was put before it (RFC 3986, section 5.2.2).
+fn without_guard<'a, K: BaseKind>(target: Core<K, &'a str>) -> &'a str
+    requires settled { let t = components (core_text target) in finished t ≡ t }
+    requires absolute { starts slash (components (core_text target)).path ≡ true }
+    ensures { IsUnguarded (components (core_text target.entry)) result.now }
+{
+    let path = path(target);
+    if target.has_authority() {
+        return path;
+    }
+    if is_guarded(path.as_bytes()) {
+        return &path[2..];
+    }
+    path
+}
+
+/// Appends a reference that has a path, which leads from the base's to the target's.
+fn push_from_path<K: BaseKind>(
+    base: Core<K, &str>,
+    target: Core<K, &str>,
+    prefers_relative: bool,
+    out: &mut String,
+) -> Result<(), AllocError>
+    requires settled { let t = components (core_text target) in finished t ≡ t }
+    requires path { IsPathNeeded (components (core_text base)) (components (core_text target)) }
+    ensures { OnOk result ((r : Components) × Pushes out.old out.new (recompose r)
+        × IsReferenceTo K.kind prefers_relative (components (core_text base.entry))
+        (components (core_text target.entry)) r) }
+{
+    push_path(path(base), without_guard(target), prefers_relative, out)?;
+    out.push_str(after_path(target))?;
+    Ok(())
+}
+
+/// Appends a reference that leads from the base to the target, of which no dot segment is removed.
+/// The base's fragment counts for nothing.
+pub(crate) fn push_reference<K: BaseKind>(
+    base: Core<K, &str>,
+    target: Core<K, &str>,
+    prefers_relative: bool,
+    out: &mut String,
+) -> Result<(), AllocError>
+    requires { let t = components (core_text target) in finished t ≡ t }
+    ensures { OnOk result ((r : Components) × Pushes out.old out.new (recompose r)
+        × IsReferenceTo K.kind prefers_relative (components (core_text base.entry))
+        (components (core_text target.entry)) r) }
+{
+    match target_end(base, target) {
+        Some(text) => {
+            out.push_str(text)?;
+            Ok(())
+        }
+        None => push_from_path(base, target, prefers_relative, out),
+    }
+}

@@ -1,0 +1,155 @@
+//! References that lead from a base to a target (RFC 3986, sections 4.2 and 5.2).
+ghost use Rattle.std.specs.Prelude.{◌≡◌, ◌++◌, IfOk, OnOk, drop, false, string_bytes, take, true};
+ghost use Rattle.std.specs.Prelude.{None};
+ghost use Rattle.std.specs.Str.{IsCharBoundary};
+ghost use Rattle.uri_pct.specs.Texts.{Pushes};
+ghost use Rattle.uri_parts.specs.Components.{components, recompose};
+ghost use Rattle.uri_parts.specs.CoreTexts.{core_text};
+ghost use Rattle.uri_parts.specs.Grammar.{IsOfKind};
+ghost use Rattle.uri_ops.specs.Dots.{IsAbsolute};
+ghost use Rattle.uri_ops.specs.Models.Places.{before_path};
+ghost use Rattle.uri_ops.specs.Resolving.{finished};
+ghost use Rattle.uri_ops.specs.Target.{guarded};
+ghost use Rattle.uri_relative.specs.Forms.{IsReferenceTo};
+ghost use Rattle.uri_relative.specs.Leading.{LeadsTo, settled};
+
+use crate::dots::has_dot_segments;
+use crate::pieces::{after_path, before_path, path};
+use crate::reference::push_reference;
+use fluent_uri::roles::BaseKind;
+use std::alloc::{AllocError, Global};
+use uri_ops::dot_segments::push_without_dot_segments;
+use uri_ops::slashes::{begins_with_slash, begins_with_two_slashes};
+use uri_parts::core_text::Core;
+use uri_parts::kind::{IriKind, IriRefKind, Kind, UriKind, UriRefKind};
+
+/// A kind whose texts have a scheme, with the kind of the references that are resolved against it.
+#[doc(hidden)]
+pub trait RelativeKind: BaseKind {
+    ghost use Rattle.std.specs.Prelude.{false};
+
+    type Ref: Kind;
+
+    ghost same_tables: { Self.Ref.kind ≡ record Self.kind { needs_scheme = false } };
+}
+
+impl RelativeKind for UriKind {
+    ghost use Rattle.std.specs.Prelude.{refl};
+
+    type Ref = UriRefKind;
+
+    ghost same_tables = { refl };
+}
+
+impl RelativeKind for IriKind {
+    ghost use Rattle.std.specs.Prelude.{refl};
+
+    type Ref = IriRefKind;
+
+    ghost same_tables = { refl };
+}
+
+/// Puts `/.` before the path that stands in `out` from `start` on, where it would be read as an
+/// authority.
+fn guard_path(start: usize, out: &mut String) -> Result<(), AllocError>
+    requires { IsCharBoundary (string_bytes out.old) start }
+    ensures { OnOk result (string_bytes out.new
+        ≡ take start (string_bytes out.old) ++ guarded None (drop start (string_bytes out.old))) }
+{
+    if begins_with_two_slashes(&out.as_bytes()[start..]) {
+        return out.insert_str(start, "/.");
+    }
+    Ok(())
+}
+
+/// Appends the path of a target as resolving leaves it.
+fn push_settled_path<K: BaseKind>(target: Core<K, &str>, out: &mut String) -> Result<(), AllocError>
+    requires { IsAbsolute (components (core_text target)).path }
+    ensures { OnOk result (Pushes out.old out.new (settled (core_text target.entry)).path) }
+{
+    let start = out.len();
+    let _underflowed = push_without_dot_segments(path(target), out)?;
+    if target.has_authority() {
+        return Ok(());
+    }
+    guard_path(start, out)?;
+    Ok(())
+}
+
+/// The text of a target as resolving leaves it: without its dot segments.
+fn settled_text<K: BaseKind>(alloc: Global, target: Core<K, &str>) -> Result<String, AllocError>
+    requires { IsAbsolute (components (core_text target)).path }
+    ensures text { IfOk result (λ text.
+        string_bytes text ≡ recompose (settled (core_text target.entry))) }
+    ensures of_kind { IfOk result (λ text. IsOfKind K.kind (string_bytes text)) }
+{
+    let mut text = String::with_capacity(alloc, target.as_str().len())?;
+    text.push_str(before_path(target))?;
+    push_settled_path(target, &mut text)?;
+    text.push_str(after_path(target))?;
+    Ok(text)
+}
+
+/// A reference that leads from the base to the target, of which no dot segment is removed.
+fn reference<K: BaseKind>(
+    alloc: Global,
+    base: Core<K, &str>,
+    target: Core<K, &str>,
+    prefers_relative: bool,
+) -> Result<String, AllocError>
+    requires { let t = components (core_text target) in finished t ≡ t }
+    ensures { IfOk result (λ text. IsReferenceTo K.kind prefers_relative
+        (components (core_text base.entry)) (components (core_text target.entry))
+        (components (string_bytes text))) }
+{
+    let mut text = String::with_capacity(alloc, target.as_str().len())?;
+    push_reference(base, target, prefers_relative, &mut text)?;
+    Ok(text)
+}
+
+/// Whether no dot segment of a target is removed when it is resolved.
+fn is_settled<K: BaseKind>(target: Core<K, &str>) -> bool
+    ensures settled { result ≡ true → let t = components (core_text target.entry) in
+        finished t ≡ t }
+    ensures absolute { result ≡ false → IsAbsolute (components (core_text target.entry)).path }
+{
+    let path = path(target);
+    if !begins_with_slash(path.as_bytes()) {
+        return true;
+    }
+    !has_dot_segments(path)
+}
+
+/// A reference that leads from the base to the target as resolving leaves it.
+fn reference_to_settled<K: BaseKind>(
+    alloc: Global,
+    base: Core<K, &str>,
+    target: Core<K, &str>,
+    prefers_relative: bool,
+) -> Result<String, AllocError>
+    requires { IsAbsolute (components (core_text target)).path }
+    ensures { IfOk result (λ text. IsReferenceTo K.kind prefers_relative
+        (components (core_text base.entry)) (settled (core_text target.entry))
+        (components (string_bytes text))) }
+{
+    let text = settled_text(alloc, target)?;
+    let settled = Core::<K, String>::of_text(text);
+    reference(alloc, base, settled.borrow(), prefers_relative)
+}
+
+/// A reference that leads from the base, whose fragment counts for nothing, to the target.
+pub(crate) fn relative<K: BaseKind>(
+    alloc: Global,
+    base: Core<K, &str>,
+    target: Core<K, &str>,
+    prefers_relative: bool,
+) -> Result<String, AllocError>
+    ensures { IfOk result (λ text. IsReferenceTo K.kind prefers_relative
+        (components (core_text base.entry)) (settled (core_text target.entry))
+        (components (string_bytes text))) }
+{
+    if is_settled(target) {
+        return reference(alloc, base, target, prefers_relative);
+    }
+    reference_to_settled(alloc, base, target, prefers_relative)
+}

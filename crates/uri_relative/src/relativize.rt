@@ -1,0 +1,160 @@
+//! The inverse of resolving (RFC 3986, section 5.2).
+ghost use Rattle.std.specs.Prelude.{◌≡◌, IfOk, false};
+ghost use Rattle.uri_parts.specs.Components.{components};
+ghost use Rattle.fluent_uri.specs.References.{reference_text};
+ghost use Rattle.uri_relative.specs.Leading.{IsNoLonger, IsRelativeTo, LeadsTo, settled};
+
+use crate::relative::{RelativeKind, relative};
+use fluent_uri::{Reference, RiMaybeRef};
+use std::alloc::{AllocError, Global};
+use std::convert::AsStr;
+use uri_parts::core_text::Core;
+
+/// A reference that leads from the base to the target.
+fn relativized<K: RelativeKind, B: AsStr, T: AsStr>(
+    alloc: Global,
+    base: &Reference<K, B>,
+    target: &Reference<K, T>,
+    prefers_relative_path: bool,
+) -> Result<Reference<K::Ref, String>, AllocError>
+    ensures leads { IfOk result (λ reference.
+        LeadsTo (reference_text base.now) (reference_text target.now)
+        (reference_text reference)) }
+    ensures short { prefers_relative_path ≡ false → IfOk result (λ reference.
+        IsNoLonger (reference_text target.now) (reference_text reference)) }
+    ensures relative { IfOk result (λ reference.
+        IsRelativeTo (components (reference_text base.now))
+        (settled (reference_text target.now)) (components (reference_text reference))) }
+{
+    let text = relative(alloc, base.core(), target.core(), prefers_relative_path)?;
+    Ok(Reference::of_core(Core::of_text(text)))
+}
+
+/// Makes references that lead from a base to targets, by its setting: whether a relative path is
+/// preferred.
+///
+/// # Examples
+///
+/// `Relativizer::with_base(base).relativize(alloc, &target)` returns `../x/y` for `http://a/b/c/d`
+/// and `http://a/b/x/y`.
+#[derive(Drop)]
+pub struct Relativizer<R> {
+    base: R,
+    prefers_relative_path: bool,
+}
+
+impl<R> Relativizer<R> {
+    ghost use Rattle.uri_relative.specs.Relativizers.{base_of, prefers_relative_path};
+
+    /// Makes references that lead from this base, with the path from the root where that is
+    /// shorter than a relative path.
+    ///
+    /// # Examples
+    ///
+    /// From `http://a/b/c/d/` to `http://a/x` it makes `/x`.
+    pub fn with_base(base: R) -> Relativizer<R>
+        ensures base { base_of result ≡ base }
+        ensures prefers { prefers_relative_path result ≡ false }
+    {
+        Relativizer {
+            base,
+            prefers_relative_path: false,
+        }
+    }
+
+    /// Sets whether a path that is relative to the base's is taken where the path from the root is
+    /// shorter, as for pages that are read from a disk.
+    ///
+    /// # Examples
+    ///
+    /// From `http://a/b/c/d/` to `http://a/x` it makes `../../../x` with `true`.
+    pub fn prefer_relative_path(self, value: bool) -> Relativizer<R>
+        ensures base { base_of result ≡ base_of self }
+        ensures prefers { prefers_relative_path result ≡ value }
+    {
+        Relativizer {
+            base: self.base,
+            prefers_relative_path: value,
+        }
+    }
+}
+
+impl<K: RelativeKind, B: AsStr> Relativizer<Reference<K, B>> {
+    ghost use Rattle.uri_relative.specs.Relativizers.{base_of, prefers_relative_path};
+
+    /// Returns a reference that leads from the base to the target: resolved against the base
+    /// without its fragment, it is what the target itself resolves to (RFC 3986, section 5.2).
+    ///
+    /// # Errors
+    ///
+    /// Only if memory is refused.
+    ///
+    /// # Examples
+    ///
+    /// From `http://a/b/c/d` to `http://a/b/x/y` it is `../x/y`.
+    pub fn relativize<T: AsStr>(
+        &self,
+        alloc: Global,
+        target: &Reference<K, T>,
+    ) -> Result<Reference<K::Ref, String>, AllocError>
+        ensures leads { IfOk result (λ reference.
+            LeadsTo (reference_text (base_of self.now)) (reference_text target.now)
+            (reference_text reference)) }
+        ensures short { prefers_relative_path self.now ≡ false → IfOk result (λ reference.
+            IsNoLonger (reference_text target.now) (reference_text reference)) }
+        ensures relative { IfOk result (λ reference.
+            IsRelativeTo (components (reference_text (base_of self.now)))
+            (settled (reference_text target.now)) (components (reference_text reference))) }
+    {
+        relativized(alloc, &self.base, target, self.prefers_relative_path)
+    }
+}
+
+/// A base, a URI or an IRI, from which references lead to targets.
+///
+/// It is implemented for `Uri` and `Iri` alone, over borrowed and owned text.
+///
+/// # Examples
+///
+/// With it, `base.relativize(alloc, &target)` may be called on a `Uri<&str>`.
+pub trait Relativize<K: RelativeKind> {
+    ghost use Rattle.std.specs.Prelude.{List, ℕ};
+
+    ghost base_text: { Self → List ℕ };
+
+    /// Returns a short reference that leads from this base to the target, as
+    /// `Relativizer::with_base` makes it.
+    ///
+    /// # Errors
+    ///
+    /// Only if memory is refused.
+    ///
+    /// # Examples
+    ///
+    /// From `http://a/b/c/d` to `http://a/b/x/y` it is `../x/y`.
+    fn relativize<T: AsStr>(
+        &self,
+        alloc: Global,
+        target: &Reference<K, T>,
+    ) -> Result<Reference<K::Ref, String>, AllocError>
+        ensures leads { IfOk result (λ reference.
+            LeadsTo (base_text self.now) (reference_text target.now)
+            (reference_text reference)) }
+        ensures short { IfOk result (λ reference.
+            IsNoLonger (reference_text target.now) (reference_text reference)) }
+        ensures relative { IfOk result (λ reference.
+            IsRelativeTo (components (base_text self.now))
+            (settled (reference_text target.now)) (components (reference_text reference))) };
+}
+
+impl<K: RelativeKind, B: AsStr> Relativize<K> for Reference<K, B> {
+    ghost base_text = { reference_text };
+
+    fn relativize<T: AsStr>(
+        &self,
+        alloc: Global,
+        target: &Reference<K, T>,
+    ) -> Result<Reference<K::Ref, String>, AllocError> {
+        relativized(alloc, self, target, false)
+    }
+}
