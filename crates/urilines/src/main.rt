@@ -1,0 +1,77 @@
+//! Each line of standard input as a URI, an IRI or a reference: `urilines normalize KIND`,
+//! `urilines resolve uri|iri BASE`, `urilines check KIND` and `urilines parse KIND`.
+#![tactic(auto)]
+
+mod options;
+
+use options::{command, job};
+use std::alloc::Global;
+use std::env;
+use std::io::{self, BufReader, BufWriter, ErrorKind};
+use std::process::ExitCode;
+use uri_streams::failure::Failure;
+use uri_streams::job::Job;
+use uri_streams::run::run;
+
+/// Of each buffer.
+const CAPACITY: usize = 64 * 1024;
+
+fn main(rt: HostRuntime) -> ExitCode {
+    let alloc = rt.alloc();
+    let words = match words(&rt, alloc) {
+        Ok(words) => words,
+        Err(error) if error.kind() == ErrorKind::OutOfMemory => return failed(&rt, "out of memory"),
+        Err(_) => return failed(&rt, "arguments"),
+    };
+    let Ok(command) = command(alloc) else {
+        return failed(&rt, "out of memory");
+    };
+    let matches = match command.try_get_matches_from(words.as_slice()) {
+        Ok(matches) => matches,
+        Err(error) => {
+            return match error.print(&rt) {
+                Ok(()) => ExitCode::from(error.exit_code() as u8),
+                Err(_) => ExitCode::from(1),
+            };
+        }
+    };
+    match job(&matches) {
+        Ok(job) => answer(&rt, alloc, &job),
+        Err(refusal) => {
+            let _ = eprintln!(rt; "error: {refusal}");
+            ExitCode::from(2)
+        }
+    }
+}
+
+/// Answers the lines of standard input.
+fn answer(rt: &HostRuntime, alloc: Global, job: &Job<'_>) -> ExitCode {
+    let Ok(mut reader) = BufReader::with_capacity(alloc, CAPACITY, rt.stdin()) else {
+        return failed(rt, "out of memory");
+    };
+    let Ok(mut writer) = BufWriter::with_capacity(alloc, CAPACITY, rt.stdout()) else {
+        return failed(rt, "out of memory");
+    };
+    match run(alloc, job, &mut reader, &mut writer, &mut rt.stderr()) {
+        Ok(tally) if tally.errors > 0 => ExitCode::from(1),
+        Ok(_) => ExitCode::SUCCESS,
+        Err(Failure::Output(error)) if error.kind() == ErrorKind::BrokenPipe => ExitCode::SUCCESS,
+        Err(Failure::Output(_)) => failed(rt, "output failed"),
+        Err(Failure::Input(_)) => failed(rt, "input failed"),
+        Err(Failure::OutOfMemory) => failed(rt, "out of memory"),
+    }
+}
+
+/// Tells why a run ended early.
+fn failed(rt: &HostRuntime, why: &str) -> ExitCode {
+    let _ = eprintln!(rt; "error: {why}");
+    ExitCode::from(1)
+}
+
+fn words(rt: &HostRuntime, alloc: Global) -> io::Result<Vec<String>> {
+    let mut words = Vec::new(alloc);
+    for word in env::args(rt)? {
+        words.push(word)?;
+    }
+    Ok(words)
+}
