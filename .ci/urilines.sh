@@ -64,7 +64,7 @@ is wrong-base 2 '' '' resolve uri a
 tells wrong-base 'error: base: unexpected character at index 1'
 is two-commands 2 '' '' normalize uri check
 "$URILINES" --version > "$work/out" 2> "$work/err"
-holds version "$? $(cat "$work/out")" '0 urilines 0.1.0'
+holds version "$? $(cat "$work/out")" "0 urilines $(sed -n 's/^## \([0-9.]*\).*/\1/p' "$root/CHANGELOG.md" | head -n 1)"
 "$URILINES" --help > "$work/out" 2> "$work/err"
 holds help "$? $(grep -c -e normalize -e --errors "$work/out")" '0 2'
 

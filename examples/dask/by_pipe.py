@@ -1,3 +1,4 @@
+#!/usr/bin/env python3
 """Distinct URLs by their meaning, over the workers of a Dask cluster that each pipe lines through
 `urilines`, and again through one `urilines`.
 
