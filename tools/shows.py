@@ -12,6 +12,7 @@ The words are a command of `uritool` (parse, normalize, resolve, links), or one 
     value, set, text, decode, decode-by, table, address, build
                                     what the calls of a reference, a normaliser or a resolver, a
                                     percent-encoded text, a table, an authority or a builder return
+    relativize, relativize-path     the reference that leads from a URI to another
     run WORD.., run-failing WORD..  the status of `uritool`, and what its outputs get, or its error
                                     output where the output fails
 
@@ -36,7 +37,7 @@ from typing import NamedTuple
 from chosen import LIBRARY, Chosen
 
 PROGRAM = "shows"
-DEPS = ("uri_commands", "uri_rows", "fluent_uri", "uri_parts", "uri_pct")
+DEPS = ("uri_commands", "uri_rows", "uri_relative", "fluent_uri", "uri_parts", "uri_pct")
 MARK = "\n= shown\n"
 NOTHING = "nothing"
 LIMITS = ("--steps", "1000", "--seconds", "5")

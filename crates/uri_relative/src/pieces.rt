@@ -11,6 +11,7 @@ use uri_parts::core_text::Core;
 use uri_parts::kind::Kind;
 
 /// The path.
+#[inline(always)]
 pub(crate) fn path<'a, K: Kind>(core: Core<K, &'a str>) -> &'a str
     ensures { result.now ≡ (components (core_text core.entry)).path }
 {
@@ -18,6 +19,7 @@ pub(crate) fn path<'a, K: Kind>(core: Core<K, &'a str>) -> &'a str
 }
 
 /// What stands behind the scheme and its `:`, or all if there is none.
+#[inline(always)]
 pub(crate) fn after_scheme<'a, K: Kind>(core: Core<K, &'a str>) -> &'a str
     ensures { result.now ≡ after_scheme (components (core_text core.entry)) }
 {
@@ -29,6 +31,7 @@ pub(crate) fn after_scheme<'a, K: Kind>(core: Core<K, &'a str>) -> &'a str
 }
 
 /// The query and the fragment with their marks: what stands behind the path.
+#[inline(always)]
 pub(crate) fn after_path<'a, K: Kind>(core: Core<K, &'a str>) -> &'a str
     ensures { result.now ≡ after_path (components (core_text core.entry)) }
 {
@@ -37,6 +40,7 @@ pub(crate) fn after_path<'a, K: Kind>(core: Core<K, &'a str>) -> &'a str
 }
 
 /// The fragment with its `#`, or no text.
+#[inline(always)]
 pub(crate) fn marked_fragment<'a, K: Kind>(core: Core<K, &'a str>) -> &'a str
     ensures { result.now ≡ marked (codes "#") (components (core_text core.entry)).fragment [] }
 {
@@ -45,6 +49,7 @@ pub(crate) fn marked_fragment<'a, K: Kind>(core: Core<K, &'a str>) -> &'a str
 }
 
 /// Whether a base takes no reference without a scheme but fragments.
+#[inline(always)]
 pub(crate) fn is_opaque<K: Kind>(base: Core<K, &str>) -> bool
     ensures { result ≡ is_opaque (components (core_text base.entry)) }
 {
@@ -52,6 +57,7 @@ pub(crate) fn is_opaque<K: Kind>(base: Core<K, &str>) -> bool
 }
 
 /// Whether two components are the same, or both are absent.
+#[inline(always)]
 fn are_same(one: Option<&str>, other: Option<&str>) -> bool
     ensures { (result ≡ true)
         ↔ (option_map (λ s. s.now) one.entry ≡ option_map (λ s. s.now) other.entry) }
@@ -64,6 +70,7 @@ fn are_same(one: Option<&str>, other: Option<&str>) -> bool
 }
 
 /// Whether the schemes are the same.
+#[inline(always)]
 pub(crate) fn have_same_scheme<K: Kind>(base: Core<K, &str>, target: Core<K, &str>) -> bool
     ensures { (result ≡ true) ↔ ((components (core_text base.entry)).scheme
         ≡ (components (core_text target.entry)).scheme) }
@@ -75,6 +82,7 @@ pub(crate) fn have_same_scheme<K: Kind>(base: Core<K, &str>, target: Core<K, &st
 }
 
 /// Whether the authorities are the same, or both are absent.
+#[inline(always)]
 pub(crate) fn have_same_authority<K: Kind>(base: Core<K, &str>, target: Core<K, &str>) -> bool
     ensures { (result ≡ true) ↔ ((components (core_text base.entry)).authority
         ≡ (components (core_text target.entry)).authority) }
@@ -86,6 +94,7 @@ pub(crate) fn have_same_authority<K: Kind>(base: Core<K, &str>, target: Core<K, 
 }
 
 /// Whether the paths are the same.
+#[inline(always)]
 pub(crate) fn have_same_path<K: Kind>(base: Core<K, &str>, target: Core<K, &str>) -> bool
     ensures { (result ≡ true) ↔ ((components (core_text base.entry)).path
         ≡ (components (core_text target.entry)).path) }
@@ -94,6 +103,7 @@ pub(crate) fn have_same_path<K: Kind>(base: Core<K, &str>, target: Core<K, &str>
 }
 
 /// Whether the queries are the same, or both are absent.
+#[inline(always)]
 pub(crate) fn have_same_query<K: Kind>(base: Core<K, &str>, target: Core<K, &str>) -> bool
     ensures { (result ≡ true) ↔ ((components (core_text base.entry)).query
         ≡ (components (core_text target.entry)).query) }
@@ -105,6 +115,7 @@ pub(crate) fn have_same_query<K: Kind>(base: Core<K, &str>, target: Core<K, &str
 }
 
 /// The scheme and the authority with their marks: what stands before the path.
+#[inline(always)]
 pub(crate) fn before_path<'a, K: Kind>(core: Core<K, &'a str>) -> &'a str
     ensures { result.now ≡ before_path (components (core_text core.entry)) }
 {

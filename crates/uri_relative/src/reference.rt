@@ -19,6 +19,7 @@ use uri_ops::slashes::begins_with_slash;
 use uri_parts::core_text::Core;
 
 /// Whether the authorities are the same, and the paths.
+#[inline(always)]
 fn have_same_place<K: BaseKind>(base: Core<K, &str>, target: Core<K, &str>) -> bool
     ensures same { result ≡ true → ((components (core_text base.entry)).authority
         ≡ (components (core_text target.entry)).authority)
@@ -36,6 +37,7 @@ fn have_same_place<K: BaseKind>(base: Core<K, &str>, target: Core<K, &str>) -> b
 }
 
 /// The reference that has no path: the end of the target's text, if it leads there.
+#[inline(always)]
 fn without_path<'a, K: BaseKind>(base: Core<K, &str>, target: Core<K, &'a str>) -> Option<&'a str>
     requires settled { let t = components (core_text target) in finished t ≡ t }
     requires scheme { (components (core_text base)).scheme
@@ -62,6 +64,7 @@ fn without_path<'a, K: BaseKind>(base: Core<K, &str>, target: Core<K, &'a str>) 
 }
 
 /// The target without its scheme, if it has an authority, and else as it stands.
+#[inline(always)]
 fn from_authority<'a, K: BaseKind>(target: Core<K, &'a str>) -> &'a str
     ensures { result.now ≡ recompose (from_authority (components (core_text target.entry))) }
 {
@@ -73,6 +76,7 @@ fn from_authority<'a, K: BaseKind>(target: Core<K, &'a str>) -> &'a str
 
 /// The reference from the scheme or the authority on, unless it has a path that leads from the
 /// base's.
+#[inline(always)]
 fn with_authority<'a, K: BaseKind>(base: Core<K, &str>, target: Core<K, &'a str>) -> Option<&'a str>
     requires settled { let t = components (core_text target) in finished t ≡ t }
     requires scheme { (components (core_text base)).scheme
@@ -98,6 +102,7 @@ fn with_authority<'a, K: BaseKind>(base: Core<K, &str>, target: Core<K, &'a str>
 
 /// The reference that is the end of the target's text, unless it has a path that leads from the
 /// base's.
+#[inline(always)]
 fn target_end<'a, K: BaseKind>(base: Core<K, &str>, target: Core<K, &'a str>) -> Option<&'a str>
     requires { let t = components (core_text target) in finished t ≡ t }
     ensures some { IfSome result (λ text. (r : Components) × (text.now ≡ recompose r)
@@ -116,6 +121,7 @@ fn target_end<'a, K: BaseKind>(base: Core<K, &str>, target: Core<K, &'a str>) ->
 }
 
 /// Whether a path begins with `/.//`.
+#[inline(always)]
 fn is_guarded(path: &[u8]) -> bool
     ensures { result ≡ is_guarded path.now }
 {
@@ -123,6 +129,7 @@ fn is_guarded(path: &[u8]) -> bool
 }
 
 /// A path as it stood before `/.` was put before it (RFC 3986, section 5.2.2).
+#[inline(always)]
 fn without_guard<'a, K: BaseKind>(target: Core<K, &'a str>) -> &'a str
     requires settled { let t = components (core_text target) in finished t ≡ t }
     requires absolute { starts slash (components (core_text target)).path ≡ true }
@@ -139,6 +146,7 @@ fn without_guard<'a, K: BaseKind>(target: Core<K, &'a str>) -> &'a str
 }
 
 /// Appends a reference that has a path, which leads from the base's to the target's.
+#[inline(always)]
 fn push_from_path<K: BaseKind>(
     base: Core<K, &str>,
     target: Core<K, &str>,
@@ -158,6 +166,7 @@ fn push_from_path<K: BaseKind>(
 
 /// Appends a reference that leads from the base to the target, of which no dot segment is removed.
 /// The base's fragment counts for nothing.
+#[inline(always)]
 pub(crate) fn push_reference<K: BaseKind>(
     base: Core<K, &str>,
     target: Core<K, &str>,

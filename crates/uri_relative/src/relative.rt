@@ -91,6 +91,7 @@ fn settled_text<K: BaseKind>(alloc: Global, target: Core<K, &str>) -> Result<Str
 }
 
 /// A reference that leads from the base to the target, of which no dot segment is removed.
+#[inline(always)]
 fn reference<K: BaseKind>(
     alloc: Global,
     base: Core<K, &str>,
@@ -108,6 +109,7 @@ fn reference<K: BaseKind>(
 }
 
 /// Whether no dot segment of a target is removed when it is resolved.
+#[inline(always)]
 fn is_settled<K: BaseKind>(target: Core<K, &str>) -> bool
     ensures settled { result ≡ true → let t = components (core_text target.entry) in
         finished t ≡ t }
@@ -138,6 +140,7 @@ fn reference_to_settled<K: BaseKind>(
 }
 
 /// A reference that leads from the base, whose fragment counts for nothing, to the target.
+#[inline(always)]
 pub(crate) fn relative<K: BaseKind>(
     alloc: Global,
     base: Core<K, &str>,

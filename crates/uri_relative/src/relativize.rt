@@ -11,6 +11,7 @@ use std::convert::AsStr;
 use uri_parts::core_text::Core;
 
 /// A reference that leads from the base to the target.
+#[inline(always)]
 fn relativized<K: RelativeKind, B: AsStr, T: AsStr>(
     alloc: Global,
     base: &Reference<K, B>,
