@@ -1,0 +1,5 @@
+//! What `uri_streams` writes, whatever the sizes of reads, and where a read or a write fails.
+#![tactic(auto)]
+
+#[cfg(test)]
+mod streams;

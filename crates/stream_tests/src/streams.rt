@@ -1,0 +1,194 @@
+//! The tests.
+use checks::equal;
+use fluent_uri::Uri;
+use std::alloc::{AllocError, Global};
+use std::io::{self, BufReader, ErrorKind, Read, Write};
+use std::process::Abort;
+use uri_streams::command::{Base, Command, KindName};
+use uri_streams::failure::Failure;
+use uri_streams::job::{Job, OnError};
+use uri_streams::run::{Tally, run};
+
+const CAPACITY: usize = 64;
+
+/// The command, with the options that are there where none is given.
+fn plain(command: Command<'_>) -> Job<'_> {
+    Job {
+        command,
+        is_null: false,
+        max_line: 40,
+        errors: OnError::Line,
+    }
+}
+
+/// What is written for the input, with a tally, or why the run ended.
+fn written<R: Read + Drop>(
+    alloc: Global,
+    job: &Job<'_>,
+    input: R,
+) -> Result<(Tally, Vec<u8>), Failure> {
+    let mut reader = BufReader::with_capacity(alloc, CAPACITY, input).map_err(Failure::Input)?;
+    let mut out = Vec::new(alloc);
+    let mut err = Vec::new(alloc);
+    let tally = run(alloc, job, &mut reader, &mut out, &mut err)?;
+    Ok((tally, out))
+}
+
+/// The same, with the error output.
+fn told(alloc: Global, job: &Job<'_>, input: &[u8]) -> Result<(Vec<u8>, Vec<u8>), Failure> {
+    let mut reader = BufReader::with_capacity(alloc, CAPACITY, input).map_err(Failure::Input)?;
+    let mut out = Vec::new(alloc);
+    let mut err = Vec::new(alloc);
+    run(alloc, job, &mut reader, &mut out, &mut err)?;
+    Ok((out, err))
+}
+
+/// Each piece, one of them, or none: an input is three of these.
+const PIECES: [&[u8]; 6] = [
+    b"HTTP://a:80/%7e\r\n",
+    b"a b\n",
+    b"\n\n",
+    b"http://h/\xff",
+    b"\r",
+    b"x:y?0123456789012345678901234567890123456789\r\n",
+];
+
+fn input(alloc: Global, number: usize) -> Result<Vec<u8>, AllocError> {
+    let mut bytes = Vec::new(alloc);
+    let mut rest = number;
+    for _ in 0..3 {
+        bytes.extend_from_slice(PIECES[rest % 6])?;
+        rest /= 6;
+    }
+    Ok(bytes)
+}
+
+#[test]
+fn reads_may_end_anywhere(rt: HostRuntime) {
+    let alloc = rt.alloc();
+    let job = plain(Command::Normalize(KindName::Uri));
+    for number in 0..216 {
+        let input = input(alloc, number).expect(&rt, "memory");
+        let bytes = input.as_slice();
+        let whole = written(alloc, &job, bytes).ok().expect(&rt, "whole");
+        for at in 0..bytes.len() {
+            let (first, second) = bytes.split_at(at);
+            let parts = first.chain(second);
+            let parts = written(alloc, &job, parts).ok().expect(&rt, "parts");
+            equal(parts.1.as_slice(), whole.1.as_slice()).expect(&rt, "output");
+            equal(parts.0.errors, whole.0.errors).expect(&rt, "errors");
+        }
+    }
+}
+
+/// Inputs with the outputs of `normalize uri`.
+const NORMALIZED: &[(&[u8], &[u8])] = &[
+    (b"", b""),
+    (b"HTTP://a/%7e", b"http://a/~\n"),
+    (
+        b"HTTP://a/\r\n\nx:",
+        b"http://a/\r\nerror: unexpected character at index 0\nx:\n",
+    ),
+    (b"x:\r", b"error: unexpected character at index 2\n"),
+    (
+        b"x:a\xff\n\xc3",
+        b"error: not UTF-8 at index 3\nerror: not UTF-8 at index 0\n",
+    ),
+    (
+        b"x:34567890123456789012345678901234567890\r\nx:345678901234567890123456789012345678901\r\n\n",
+        b"x:34567890123456789012345678901234567890\r\nerror: line over 40 bytes\nerror: unexpected character at index 0\n",
+    ),
+];
+
+#[test]
+fn writes_a_line_for_each(rt: HostRuntime) {
+    let alloc = rt.alloc();
+    let job = plain(Command::Normalize(KindName::Uri));
+    for &(input, output) in NORMALIZED {
+        let got = written(alloc, &job, input).ok().expect(&rt, "run");
+        equal(got.1.as_slice(), output).expect(&rt, "output");
+    }
+}
+
+#[test]
+fn each_command_and_option_has_its_output(rt: HostRuntime) {
+    let alloc = rt.alloc();
+    let base = Uri::<&str>::parse("http://a/b/c/d;p?q").expect(&rt, "base");
+    let resolve = plain(Command::Resolve(Base::Uri(base)));
+    let got = told(alloc, &resolve, b"../g\r\na b\n")
+        .ok()
+        .expect(&rt, "run");
+    equal(
+        got.0.as_slice(),
+        b"http://a/b/g\r\nerror: reference: unexpected character at index 1\n".as_slice(),
+    )
+    .expect(&rt, "resolve");
+    let mut check = plain(Command::Check(KindName::UriRef, true));
+    check.is_null = true;
+    let got = told(alloc, &check, b"a\0a b\0c").ok().expect(&rt, "run");
+    equal(got.0.as_slice(), b"a b\0".as_slice()).expect(&rt, "check");
+    let mut parse = plain(Command::Parse(KindName::Iri));
+    parse.errors = OnError::Stop;
+    let got = told(alloc, &parse, "x://u@[::1]:8/é?q#f\na b\ny:\n".as_bytes());
+    let got = got.ok().expect(&rt, "run");
+    equal(
+        got.0.as_slice(),
+        "{\"scheme\":\"x\",\"authority\":\"u@[::1]:8\",\"userinfo\":\"u\",\"host\":\"[::1]\",\"host_kind\":\"ipv6\",\"port\":\"8\",\"path\":\"/é\",\"query\":\"q\",\"fragment\":\"f\"}\n".as_bytes(),
+    )
+    .expect(&rt, "parse");
+    equal(
+        got.1.as_slice(),
+        b"error: line 2: unexpected character at index 1\n".as_slice(),
+    )
+    .expect(&rt, "message");
+}
+
+/// Takes so many writes, and rejects those after them.
+#[derive(Drop)]
+struct Takes(usize);
+
+impl Write for Takes {
+    fn write(&mut self, buf: &[u8]) -> io::Result<usize> {
+        if self.0 == 0 {
+            return Err(io::Error::from(ErrorKind::BrokenPipe));
+        }
+        self.0 -= 1;
+        Ok(buf.len())
+    }
+
+    fn flush(&mut self) -> io::Result<()> {
+        Ok(())
+    }
+}
+
+/// A reader that fails at once.
+#[derive(Drop)]
+struct Fails;
+
+impl Read for Fails {
+    fn read(&mut self, _: &mut [u8]) -> io::Result<usize> {
+        Err(io::Error::from(ErrorKind::BrokenPipe))
+    }
+}
+
+#[test]
+fn a_failed_read_and_a_failed_write_end_the_run(rt: HostRuntime) {
+    let alloc = rt.alloc();
+    let job = plain(Command::Normalize(KindName::Uri));
+    let input: &[u8] = b"HTTP://a/\nHTTP://b/\nx";
+    for at in 0..input.len() {
+        let reader = BufReader::with_capacity(alloc, CAPACITY, input[..at].chain(Fails));
+        let mut reader = reader.expect(&rt, "memory");
+        let (mut out, mut err) = (Vec::new(alloc), Vec::new(alloc));
+        let got = run(alloc, &job, &mut reader, &mut out, &mut err);
+        equal(matches!(got, Err(Failure::Input(_))), true).expect(&rt, "read");
+        let whole = input[..at].iter().filter(|&&byte| byte == b'\n').count();
+        equal(out.len(), 10 * whole).expect(&rt, "lines before it");
+    }
+    for takes in 0..4 {
+        let mut reader = BufReader::with_capacity(alloc, CAPACITY, input).expect(&rt, "memory");
+        let (mut out, mut err) = (Takes(takes), Vec::new(alloc));
+        let got = run(alloc, &job, &mut reader, &mut out, &mut err);
+        equal(matches!(got, Err(Failure::Output(_))), true).expect(&rt, "write");
+    }
+}
