@@ -1,5 +1,5 @@
 //! What the steps of a builder append to its text.
-ghost use Rattle.std.specs.Prelude.{◌≡◌, ◌+◌, ◌-◌, ◌≤◌, IfSome, false, option_map, string_bytes, true};
+ghost use Rattle.std.specs.Prelude.{◌≡◌, ◌+◌, ◌-◌, ◌≤◌, IfSome, false, option_map, true};
 ghost use Rattle.uri_pct.specs.Sets.{digit_set};
 ghost use Rattle.uri_pct.specs.Texts.{Pushes};
 ghost use Rattle.uri_ops.specs.BuilderParts.{is_text_for};
@@ -7,26 +7,14 @@ ghost use Rattle.uri_ops.specs.HostParts.{IsHostText};
 
 use crate::build::draft::Lengths;
 use crate::build::host_port::{AsPort, WithEncoder};
-use std::alloc::AllocError;
 use uri_pct::encoder::Encoder;
-
-// What a builder requests for its first piece, so that most texts take one request.
-const FIRST_REQUEST: usize = 120;
 
 /// Appends to a text, unless it has failed, and returns whether it has failed now.
 pub(crate) fn append(text: &mut String, failed: bool, piece: &str) -> bool
     ensures kept { result ≡ false → failed ≡ false }
     ensures text { result ≡ false → Pushes text.old text.new piece.now }
 {
-    failed || (text.is_empty() && make_room(text).is_err()) || text.push_str(piece).is_err()
-}
-
-/// Makes room in an empty text for most references.
-#[cold]
-fn make_room(text: &mut String) -> Result<(), AllocError>
-    ensures { string_bytes text.new ≡ string_bytes text.old }
-{
-    text.reserve(FIRST_REQUEST)
+    failed || text.push_str(piece).is_err()
 }
 
 /// As `append`, with a host.
