@@ -1,10 +1,9 @@
--- What a `Reference` holds: a text of its kind (RFC 3986, sections 3 and 4.1; RFC 3987, section
--- 2.2).
+-- The text of a `Reference` (RFC 3986, sections 3 and 4.1; RFC 3987, section 2.2).
 use Rattle.std.specs.Prelude.{ℕ, List}
 use Rattle.uri_parts.specs.CoreTexts.{core_text}
 use Rattle.fluent_uri.specs.declared.reference.Reference.{Reference}
 
--- the text of a value; its type names, of its kind, the encoders and what holds of them
+-- the text of a value, whose type has the encoders of its kind as parameters, and facts about them
 abbrev pub reference_text : {K T U N P Q F : _} {k u n p q f t : _}
     → Reference K T U N P Q F k u n p q f t → List ℕ
 reference_text value = core_text value.core

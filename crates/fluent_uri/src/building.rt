@@ -12,11 +12,21 @@ use uri_parts::core_text::Core;
 use uri_parts::kind::{IriKind, IriRefKind, UriKind, UriRefKind};
 
 impl Reference<UriKind, String> {
-    /// Returns a builder of a URI, which holds nothing yet and takes its memory from the allocator.
+    /// Returns an empty builder of a URI, with `alloc` as its allocator.
     ///
     /// # Examples
     ///
-    /// With the scheme `http` and the path `a` it builds `http:a`.
+    /// The scheme `http` and the path `a` make `http:a`.
+    ///
+    /// ```
+    /// let made = Uri::<String>::builder(alloc)
+    ///     .scheme(Scheme::new_or_panic("https"))
+    ///     .authority(authority)
+    ///     .path(path)
+    ///     .query(query)
+    ///     .build()?;
+    /// Ok(made)
+    /// ```
     pub fn builder(alloc: Global) -> Builder<Reference<UriKind, String>, NonRefStart>
         ensures { parts_at (held_of result) ≡ no_parts }
     {
@@ -25,12 +35,18 @@ impl Reference<UriKind, String> {
 }
 
 impl Reference<IriKind, String> {
-    /// Returns a builder of an IRI, which holds nothing yet and takes its memory from the
-    /// allocator.
+    /// Returns an empty builder of an IRI, with `alloc` as its allocator.
     ///
     /// # Examples
     ///
-    /// With the scheme `http` and the path `é` it builds `http:é`.
+    /// The scheme `http` and the path `é` make `http:é`.
+    ///
+    /// ```
+    /// Iri::<String>::builder(alloc)
+    ///     .scheme(scheme)
+    ///     .path(path)
+    ///     .build()
+    /// ```
     pub fn builder(alloc: Global) -> Builder<Reference<IriKind, String>, NonRefStart>
         ensures { parts_at (held_of result) ≡ no_parts }
     {
@@ -39,12 +55,18 @@ impl Reference<IriKind, String> {
 }
 
 impl Reference<UriRefKind, String> {
-    /// Returns a builder of a URI reference, which holds nothing yet and takes its memory from the
-    /// allocator.
+    /// Returns an empty builder of a URI reference, with `alloc` as its allocator.
     ///
     /// # Examples
     ///
-    /// With the path `a` alone it builds `a`.
+    /// The path `a` alone makes `a`.
+    ///
+    /// ```
+    /// UriRef::<String>::builder(alloc)
+    ///     .path(path)
+    ///     .optional(Builder::query, query)
+    ///     .build()
+    /// ```
     pub fn builder(alloc: Global) -> Builder<Reference<UriRefKind, String>, Start>
         ensures { parts_at (held_of result) ≡ no_parts }
     {
@@ -53,12 +75,11 @@ impl Reference<UriRefKind, String> {
 }
 
 impl Reference<IriRefKind, String> {
-    /// Returns a builder of an IRI reference, which holds nothing yet and takes its memory from the
-    /// allocator.
+    /// Returns an empty builder of an IRI reference, with `alloc` as its allocator.
     ///
     /// # Examples
     ///
-    /// With the path `é` alone it builds `é`.
+    /// The path `é` alone makes `é`.
     pub fn builder(alloc: Global) -> Builder<Reference<IriRefKind, String>, Start>
         ensures { parts_at (held_of result) ≡ no_parts }
     {
@@ -73,7 +94,7 @@ impl<'a, K: RefKind> Default for Reference<K, &'a str> {
 
     ghost is_default = { λ value. reference_text value ≡ [] };
 
-    /// The empty text, a reference to the base itself (RFC 3986, section 4.4).
+    /// Returns the empty text, a same-document reference (RFC 3986, section 4.4).
     fn default() -> Self {
         Reference::of_core(Core::empty())
     }

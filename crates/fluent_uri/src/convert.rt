@@ -1,4 +1,4 @@
-//! Values of one kind from those of another (RFC 3986, sections 3 and 4.1; RFC 3987, section 3.1).
+//! Conversions between the kinds (RFC 3986, sections 3 and 4.1; RFC 3987, section 3.1).
 ghost use Rattle.std.specs.Prelude.{◌≡◌, IfOk};
 ghost use Rattle.uri_parts.specs.Grammar.{iri, iri_ref, uri, uri_ref};
 ghost use Rattle.uri_ops.specs.Conversions.{Converts, ConvertsOwned, scheme_refusal, ascii_refusal};
@@ -21,7 +21,7 @@ use uri_parts::core_text::Core;
 impl<T: AsStr> From<Uri<T>> for UriRef<T> {
     ghost from_gives = { λ value reference. reference_text reference ≡ reference_text value };
 
-    /// Returns the same text, as a reference.
+    /// Returns the same text, as a URI reference.
     fn from(value: Uri<T>) -> UriRef<T> {
         Reference::of_core(value.into_core().into_kind())
     }
@@ -39,7 +39,7 @@ impl<'a> TryFrom<UriRef<&'a str>> for Uri<&'a str> {
     ///
     /// # Errors
     ///
-    /// `NoScheme`, exactly if the reference has no scheme.
+    /// Returns `NoScheme` exactly if the reference has no scheme.
     fn try_from(value: UriRef<&'a str>) -> Result<Uri<&'a str>, ConvertError> {
         convert::needs_scheme(value.core())?;
         Ok(Reference::of_core(value.into_core().into_kind()))
@@ -58,7 +58,8 @@ impl TryFrom<UriRef<String>> for Uri<String> {
     ///
     /// # Errors
     ///
-    /// `NoScheme`, exactly if the reference has no scheme; the reference is returned beside it.
+    /// Returns `NoScheme` exactly if the reference has no scheme. The reference is returned with
+    /// the error.
     fn try_from(value: UriRef<String>) -> Result<Uri<String>, (ConvertError, UriRef<String>)> {
         if let Err(error) = convert::needs_scheme(value.core()) {
             return Err((error, value));
@@ -119,7 +120,7 @@ impl<'a> TryFrom<IriRef<&'a str>> for Iri<&'a str> {
     ///
     /// # Errors
     ///
-    /// `NoScheme`, exactly if the reference has no scheme.
+    /// Returns `NoScheme` exactly if the reference has no scheme.
     fn try_from(value: IriRef<&'a str>) -> Result<Iri<&'a str>, ConvertError> {
         convert::needs_scheme(value.core())?;
         Ok(Reference::of_core(value.into_core().into_kind()))
@@ -138,7 +139,8 @@ impl TryFrom<IriRef<String>> for Iri<String> {
     ///
     /// # Errors
     ///
-    /// `NoScheme`, exactly if the reference has no scheme; the reference is returned beside it.
+    /// Returns `NoScheme` exactly if the reference has no scheme. The reference is returned with
+    /// the error.
     fn try_from(value: IriRef<String>) -> Result<Iri<String>, (ConvertError, IriRef<String>)> {
         if let Err(error) = convert::needs_scheme(value.core()) {
             return Err((error, value));
@@ -159,7 +161,7 @@ impl<'a> TryFrom<Iri<&'a str>> for Uri<&'a str> {
     ///
     /// # Errors
     ///
-    /// `NotAscii`, exactly if the IRI has a character past ASCII.
+    /// Returns `NotAscii` exactly if the IRI has a character past ASCII.
     fn try_from(value: Iri<&'a str>) -> Result<Uri<&'a str>, ConvertError> {
         convert::needs_ascii(value.as_str())?;
         Ok(Reference::of_core(value.into_core().into_kind()))
@@ -178,7 +180,8 @@ impl TryFrom<Iri<String>> for Uri<String> {
     ///
     /// # Errors
     ///
-    /// `NotAscii`, exactly if the IRI has a character past ASCII; the IRI is returned beside it.
+    /// Returns `NotAscii` exactly if the IRI has a character past ASCII. The IRI is returned with
+    /// the error.
     fn try_from(value: Iri<String>) -> Result<Uri<String>, (ConvertError, Iri<String>)> {
         if let Err(error) = convert::needs_ascii(value.as_str()) {
             return Err((error, value));
@@ -199,7 +202,7 @@ impl<'a> TryFrom<IriRef<&'a str>> for UriRef<&'a str> {
     ///
     /// # Errors
     ///
-    /// `NotAscii`, exactly if the reference has a character past ASCII.
+    /// Returns `NotAscii` exactly if the reference has a character past ASCII.
     fn try_from(value: IriRef<&'a str>) -> Result<UriRef<&'a str>, ConvertError> {
         convert::needs_ascii(value.as_str())?;
         Ok(Reference::of_core(value.into_core().into_kind()))
@@ -218,8 +221,8 @@ impl TryFrom<IriRef<String>> for UriRef<String> {
     ///
     /// # Errors
     ///
-    /// `NotAscii`, exactly if the reference has a character past ASCII;
-    /// the reference is returned beside it.
+    /// Returns `NotAscii` exactly if the reference has a character past ASCII. The reference is
+    /// returned with the error.
     fn try_from(value: IriRef<String>) -> Result<UriRef<String>, (ConvertError, IriRef<String>)> {
         if let Err(error) = convert::needs_ascii(value.as_str()) {
             return Err((error, value));
@@ -240,8 +243,8 @@ impl<'a> TryFrom<IriRef<&'a str>> for Uri<&'a str> {
     ///
     /// # Errors
     ///
-    /// `NoScheme`, exactly if the reference has no scheme, and else `NotAscii`, exactly if it has a
-    /// character past ASCII.
+    /// Returns `NoScheme` exactly if the reference has no scheme, and otherwise `NotAscii` exactly
+    /// if it has a character past ASCII.
     fn try_from(value: IriRef<&'a str>) -> Result<Uri<&'a str>, ConvertError> {
         convert::needs_uri(value.as_str(), value.has_scheme())?;
         Ok(Reference::of_core(value.into_core().into_kind()))
@@ -260,8 +263,8 @@ impl TryFrom<IriRef<String>> for Uri<String> {
     ///
     /// # Errors
     ///
-    /// `NoScheme`, exactly if the reference has no scheme, and else `NotAscii`, exactly if it has a
-    /// character past ASCII; the reference is returned beside it.
+    /// Returns `NoScheme` exactly if the reference has no scheme, and otherwise `NotAscii` exactly
+    /// if it has a character past ASCII. The reference is returned with the error.
     fn try_from(value: IriRef<String>) -> Result<Uri<String>, (ConvertError, IriRef<String>)> {
         if let Err(error) = convert::needs_uri(value.as_str(), value.has_scheme()) {
             return Err((error, value));
@@ -272,19 +275,27 @@ impl TryFrom<IriRef<String>> for Uri<String> {
 
 #[tactic(auto, using(uri_ops::proofs::TextKinds::Conversions::iri_encoding))]
 impl<T: AsStr> Iri<T> {
-    /// Returns the IRI as a URI: each character past ASCII becomes the octets of its UTF-8, with
-    /// upper-case digits, and all else stays (RFC 3987, section 3.1). No name of a host is written
-    /// in Punycode.
+    /// Converts the IRI to a URI (RFC 3987, section 3.1).
     ///
-    /// Read as an IRI it means what the IRI means, whichever default ports there are.
+    /// Each character past ASCII is percent-encoded: each byte of its UTF-8 becomes `%XX`, with
+    /// upper-case digits. Everything else is unchanged. A host name is percent-encoded too, and not
+    /// written in Punycode.
+    ///
+    /// As an IRI, the URI is equivalent to this one, under any default ports.
     ///
     /// # Errors
     ///
-    /// Only if allocation fails.
+    /// Returns an error only if allocation fails.
     ///
     /// # Examples
     ///
     /// `http://example.com/é` becomes `http://example.com/%C3%A9`.
+    ///
+    /// ```
+    /// pub fn encoded(alloc: Global, value: &Iri<String>) -> Result<Uri<String>, AllocError> {
+    ///     value.to_uri(alloc)
+    /// }
+    /// ```
     pub fn to_uri(&self, alloc: Global) -> Result<Uri<String>, AllocError>
         ensures text { IfOk result (λ encoded.
             reference_text encoded ≡ encoded_text (reference_text self.now)) }
@@ -301,16 +312,17 @@ impl<T: AsStr> Iri<T> {
 
 #[tactic(auto, using(uri_ops::proofs::TextKinds::Conversions::iri_ref_encoding))]
 impl<T: AsStr> IriRef<T> {
-    /// Returns the IRI reference as a URI reference: each character past ASCII becomes the octets of
-    /// its UTF-8, with upper-case digits, and all else stays (RFC 3987, section 3.1). No name of a
-    /// host is written in Punycode.
+    /// Converts the IRI reference to a URI reference (RFC 3987, section 3.1).
     ///
-    /// Read as an IRI reference it means what the IRI reference means, whichever default ports
-    /// there are.
+    /// Each character past ASCII is percent-encoded: each byte of its UTF-8 becomes `%XX`, with
+    /// upper-case digits. Everything else is unchanged. A host name is percent-encoded too, and not
+    /// written in Punycode.
+    ///
+    /// As an IRI reference, the result is equivalent to this one, under any default ports.
     ///
     /// # Errors
     ///
-    /// Only if allocation fails.
+    /// Returns an error only if allocation fails.
     ///
     /// # Examples
     ///

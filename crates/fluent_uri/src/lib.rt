@@ -1,4 +1,5 @@
-//! Generic URIs (RFC 3986), IRIs (RFC 3987) and their references, read, taken apart and proved.
+//! URIs (RFC 3986), IRIs (RFC 3987) and references to them: parsing, components, building,
+//! resolving, normalising and converting. Every function is proved.
 //!
 //! `Uri`, `UriRef`, `Iri` and `IriRef` are one type, `Reference`, at four kinds.
 #![tactic(auto)]
@@ -17,20 +18,17 @@ pub use uri_ops::traits::{RefOf, Ri, RiMaybeRef, WithOwned};
 pub use uri_parts::error::{ParseError, ParseErrorKind};
 use uri_parts::kind::{IriKind, IriRefKind, UriKind, UriRefKind};
 
-/// A URI: a reference that has a scheme (RFC 3986, section 3).
-///
-/// A value holds a text of that grammar, over `&str` or over `String`.
+/// A URI: a text that begins with a scheme (RFC 3986, section 3), held as a `&str` or a `String`.
 ///
 /// # Examples
 ///
 /// `Uri::<&str>::parse("foo://example.com/over/there?name=ferret#nose")` has the scheme `foo`,
 /// the authority `example.com`, the path `/over/there`, the query `name=ferret` and the fragment
-/// `nose`. `Uri::<&str>::parse("foo")` returns an error at its end, where a `:` is missing.
+/// `nose`. `Uri::<&str>::parse("foo")` returns an error with index 3, where a `:` is missing.
 pub type Uri<T> = Reference<UriKind, T>;
 
-/// A URI reference: a URI, or a reference that is relative to one (RFC 3986, section 4.1).
-///
-/// A value holds a text of that grammar, over `&str` or over `String`.
+/// A URI reference: a URI, or a relative reference (RFC 3986, section 4.1), held as a `&str` or a
+/// `String`.
 ///
 /// # Examples
 ///
@@ -39,20 +37,18 @@ pub type Uri<T> = Reference<UriKind, T>;
 /// `nose`. `UriRef::<&str>::parse("../there")` has a path alone.
 pub type UriRef<T> = Reference<UriRefKind, T>;
 
-/// An IRI: a URI that may also have characters past ASCII (RFC 3987, section 2.2).
-///
-/// A value holds a text of that grammar, over `&str` or over `String`.
+/// An IRI: a URI that may have characters past ASCII (RFC 3987, section 2.2), held as a `&str` or a
+/// `String`.
 ///
 /// # Examples
 ///
 /// `Iri::<&str>::parse("http://résumé.example.org/?café")` has the scheme `http`, the authority
 /// `résumé.example.org`, the path `/` and the query `café`. `Iri::<&str>::parse("café")` returns an
-/// error after `caf`, where a `:` is missing.
+/// error with index 3, after `caf`, where a `:` is missing.
 pub type Iri<T> = Reference<IriKind, T>;
 
-/// An IRI reference: an IRI, or a reference that is relative to one (RFC 3987, section 2.2).
-///
-/// A value holds a text of that grammar, over `&str` or over `String`.
+/// An IRI reference: an IRI, or a relative reference that may have characters past ASCII (RFC 3987,
+/// section 2.2), held as a `&str` or a `String`.
 ///
 /// # Examples
 ///
@@ -67,7 +63,7 @@ pub mod build {
     pub use uri_ops::build::{BuildError, Builder, state};
 }
 
-/// The components of a reference that are more than percent-encoded texts.
+/// Schemes, authorities and hosts. The other components are percent-encoded texts (`pct_enc`).
 pub mod component {
     pub use uri_parts::component::{Authority, Host, HostOf, Scheme, SocketError, SocketTarget};
     use uri_pct::encoder::{IRegName, IUserinfo};
@@ -79,8 +75,8 @@ pub mod component {
     pub type IHost<'a> = Host<'a, IRegName>;
 }
 
-/// Laws of the definitions that contracts cite: a call does nothing, and its contract is the law. A
-/// caller whose proof needs one calls it.
+/// Laws of the definitions that contracts cite. A law is a function that does nothing, and its
+/// contract states the law. Code whose proof needs the law calls the function.
 pub mod laws {
     pub use error_laws::what_is_before_an_error_begins_a_text;
     pub use uri_ops::across::{
@@ -123,7 +119,7 @@ pub mod normalize {
     pub use uri_ops::normalize::{NormalizeError, Normalizer};
 }
 
-/// Texts that are percent-encoded over an encoder's set.
+/// Percent-encoded texts, each of them valid for the set of an encoder.
 pub mod pct_enc {
     pub use uri_pct::encoder::Encoder;
     pub use uri_pct::pct_enc::{
@@ -131,7 +127,7 @@ pub mod pct_enc {
     };
     pub use uri_pct::table::Table;
 
-    /// The encoders: which characters and octets each component consists of.
+    /// The encoders: for each component, the set of characters that it may have.
     pub mod encoder {
         pub use uri_pct::encoder::{
             Data, Encoder, Fragment, IData, IFragment, IPath, IQuery, IRegName, IUserinfo, Path,

@@ -1,4 +1,4 @@
-//! The values of the four kinds: texts of a kind (RFC 3986, sections 3 and 4.1; RFC 3987, section
+//! `Reference`: a text of one of the four kinds (RFC 3986, sections 3 and 4.1; RFC 3987, section
 //! 2.2).
 ghost use Rattle.std.specs.Prelude.{◌≡◌, Some, string_bytes};
 ghost use Rattle.std.specs.Str.{IsUtf8};
@@ -17,9 +17,9 @@ use uri_parts::error::ParseError;
 use uri_parts::kind::Kind;
 use uri_parts::positions::Positions;
 
-/// A text of the kind of `K`, over `&str` or over `String`.
+/// A text of the kind `K`, held as a `&str` or a `String`.
 ///
-/// `Uri`, `UriRef`, `Iri` and `IriRef` are this at the four kinds.
+/// `Uri`, `UriRef`, `Iri` and `IriRef` are the names of this type at the four kinds.
 #[derive(Drop)]
 #[derive_where(PartialEq, Eq, PartialOrd, Ord, Hash)]
 pub struct Reference<K: Kind, T: AsStr> {
@@ -98,7 +98,7 @@ impl<K: Kind, T: AsStr> Reference<K, T> {
     ghost use Rattle.uri_parts.specs.CoreTexts.{core_text};
     ghost use Rattle.fluent_uri.specs.References.{reference_text};
 
-    /// Returns the value that holds this.
+    /// Returns the reference that has this text and these positions.
     #[doc(hidden)]
     pub fn of_core(core: Core<K, T>) -> Self
         ensures { reference_text result ≡ core_text core }
@@ -106,7 +106,7 @@ impl<K: Kind, T: AsStr> Reference<K, T> {
         Reference { core }
     }
 
-    /// Returns what it holds.
+    /// Returns the text with the positions of its components.
     #[doc(hidden)]
     pub fn into_core(self) -> Core<K, T>
         ensures text { core_text result ≡ reference_text self }
@@ -126,7 +126,7 @@ impl<'a, K: Kind> TryFrom<&'a str> for Reference<K, &'a str> {
 
     ghost try_from_gives = { λ text result. Parses K.kind reference_text text.now result };
 
-    /// The same as `parse`.
+    /// Parses the text, as `parse` does.
     fn try_from(text: &'a str) -> Result<Self, ParseError> {
         Reference::<K, &'a str>::parse(text)
     }
@@ -141,7 +141,7 @@ impl<K: Kind> TryFrom<String> for Reference<K, String> {
     ghost try_from_gives = { λ text result.
         ParsesOwned K.kind reference_text (string_bytes text) result };
 
-    /// The same as `parse`.
+    /// Parses the text, as `parse` does.
     fn try_from(text: String) -> Result<Self, (ParseError, String)> {
         Reference::<K, String>::parse(text)
     }
@@ -152,7 +152,7 @@ impl<K: Kind> From<Reference<K, String>> for String {
 
     ghost from_gives = { λ value text. string_bytes text ≡ reference_text value };
 
-    /// The same as `into_string`.
+    /// Returns the text, as `into_string` does.
     fn from(value: Reference<K, String>) -> String {
         value.into_string()
     }
@@ -166,7 +166,7 @@ impl<K: Kind, T: AsStr> fmt::Display for Reference<K, T> {
 
     ghost styled_output = { λ value spec. Some (styled_text spec (reference_text value)) };
 
-    /// Prints the text as it is, padded and cut as the format asks.
+    /// Prints the text unchanged, padded and truncated as the format says.
     fn fmt<W: fmt::Write>(&self, f: &mut fmt::Formatter<W>) -> fmt::Result {
         f.pad(self.core().as_str())
     }

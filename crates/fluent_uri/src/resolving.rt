@@ -1,4 +1,4 @@
-//! References that are resolved against a base (RFC 3986, section 5.2; RFC 3987, section 6.5).
+//! Resolving references against a base (RFC 3986, section 5.2; RFC 3987, section 6.5).
 ghost use Rattle.std.specs.Prelude.{◌≡◌, IfErr, IfOk, Ok, true};
 ghost use Rattle.uri_parts.specs.Components.{components};
 ghost use Rattle.uri_ops.specs.NormalTargets.{IsErrorOfMeanings, IsTargetOfMeanings};
@@ -13,19 +13,30 @@ use std::convert::AsStr;
 use uri_ops::resolve::{self, ResolveError};
 
 impl<K: RefKind, T: AsStr> Reference<K, T> {
-    /// Returns the target of this reference against a base: what `Resolver::resolve` returns where
-    /// dot segments may underflow (RFC 3986, section 5.2; RFC 3987, section 6.5).
+    /// Resolves this reference against a base, and returns the target (RFC 3986, section 5.2; RFC
+    /// 3987, section 6.5).
+    ///
+    /// A `..` that has no segment before it is dropped. With `Resolver` it can be an error.
     ///
     /// # Errors
     ///
-    /// `BaseWithFragment` if the base has a fragment, and else `InvalidReferenceAgainstOpaqueBase`
-    /// if the base has no authority and its path doesn't begin with `/`, and this reference has no
-    /// scheme, is not empty and doesn't begin with `#`, both before memory is asked for;
-    /// `OutOfMemory` if allocation fails. Never `PathUnderflow`.
+    /// - `BaseWithFragment` if the base has a fragment.
+    /// - Otherwise `InvalidReferenceAgainstOpaqueBase`, if the base has no authority, its path
+    ///   doesn't begin with `/`, and this reference has no scheme, is not empty and doesn't begin
+    ///   with `#`.
+    /// - `OutOfMemory` if allocation fails.
+    ///
+    /// The first two come before any request for memory. `PathUnderflow` is never returned.
     ///
     /// # Examples
     ///
-    /// Of `../g` against `http://a/b/c/d;p?q` it is `http://a/b/g`.
+    /// `../g` against `http://a/b/c/d;p?q` has the target `http://a/b/g`.
+    ///
+    /// ```
+    /// let mut target = UriRef::<&str>::parse(link)?.resolve_against(alloc, base)?;
+    /// target.set_fragment(None)?;
+    /// Ok(target)
+    /// ```
     pub fn resolve_against<B: AsStr>(
         &self,
         alloc: Global,

@@ -1,3 +1,3 @@
-//! What differs between the kinds: the schemes of URIs and of IRIs, and by them `Debug`.
+//! `scheme`, `has_scheme` and `Debug`, which are written for each kind.
 mod iris;
 mod uris;

@@ -1,4 +1,4 @@
--- Which command the words are.
+-- Which command the words make.
 use Rattle.std.proofs.Common.{◌≡◌, ◌≢◌, ◌≤◌, ◌<◌, ◌-◌, take, ℕ, eqb, true, false, List, [], ◌∷◌}
 use Rattle.std.proofs.Common.{codes, drop, length, get_or, String, string_bytes, refl, sym, ap, ◌∙◌}
 use Rattle.std.proofs.Common.{arith}
@@ -32,7 +32,7 @@ before_rest (u ∷ []) a b c least x y z = absurd (omega arith)
 before_rest (u ∷ v ∷ []) a b c least x y z = absurd (omega arith)
 before_rest (u ∷ v ∷ w ∷ rest) a b c least x y z = cc
 
--- the bytes of three words and of those behind them
+-- the bytes of three words and of those after them
 pub texts_of_more : {Z : Type 0} (words : List (String Z)) (a b c : String Z) → 3 ≤ length words
     → a ≡ get_or words 0 a → b ≡ get_or words 1 b → c ≡ get_or words 2 c
     → texts words
@@ -56,7 +56,7 @@ texts_of_four (u ∷ v ∷ s ∷ []) a b c d least below x y z w = absurd (omega
 texts_of_four (u ∷ v ∷ s ∷ t ∷ []) a b c d least below x y z w = cc
 texts_of_four (u ∷ v ∷ s ∷ t ∷ p ∷ rest) a b c d least below x y z w = absurd (omega arith)
 
--- the kind and the command that words are, where they are one
+-- the kind and the command that words make, if they make one
 kind_named : List ℕ → KindName
 kind_named word =
     let short = eqb (length word) 3 in
@@ -95,7 +95,7 @@ pub words_of_injective : (a b : Command) → words_of a ≡ words_of b → a ≡
 words_of_injective a b same = sym (command_named-words_of a) ∙ ap command_named same
     ∙ command_named-words_of b
 
--- the same words ask for the same output
+-- commands with the same words have the same output
 pub output_of_words : (a b : Command) → words_of a ≡ words_of b → output_of a ≡ output_of b
 output_of_words a b same = ap output_of (words_of_injective a b same)
 
@@ -103,7 +103,7 @@ pub length_of_words : {Z : Type 0} (words : List (String Z)) (others : List (Lis
     → texts words ≡ others → length words ≡ length others
 length_of_words words others is = sym (length-map words string_bytes) ∙ ap length is
 
--- four words that begin with `resolve` and whose second is no kind of base are no command
+-- four words make no command if the first is `resolve` and the second is no kind of base
 pub not_a_base : (words : List (List ℕ)) (a b c d : List ℕ) → words ≡ a ∷ b ∷ c ∷ d ∷ []
     → a ≡ codes "resolve" → ((k : BaseName) → b ≢ word_of_base k) → Prim.¬◌ (IsCommand words)
 not_a_base words a b c d e first none (Parse name text, is) =
@@ -132,7 +132,7 @@ of_command words links parse normalize resolve (Resolve name base reference) =
 of_command words links parse normalize resolve (Links base reference others) =
     λ is. links (base, reference, others, is)
 
--- words that are `links` or nothing, where they are none of the others
+-- words make `links` or no command, if they make none of the others
 pub or_links : (words : List (List ℕ)) (result : Option Words)
     → MatchOption result (Prim.¬◌ (AreLinks words)) (λ c. words ≡ words_of (asked c))
     → ((name : KindName) (text : List ℕ) → words ≢ words_of (Parse name text))

@@ -1,4 +1,4 @@
--- The lines of what references come to.
+-- The lines of outcomes.
 use Rattle.std.proofs.Common.{◌≡◌, ◌+◌, ◌<◌, ◌++◌, ◌∷◌, ◌∙◌, ℕ, List, [], Option, length, take}
 use Rattle.std.proofs.Common.{get_or, sym, ap, subst, append-nil}
 use Rattle.std.proofs.KnownBytes.{Appends-trans}
@@ -11,7 +11,7 @@ use Rattle.uri_links.specs.Outcomes.{outcomes_of}
 use Rattle.uri_links.specs.declared.links.Outcome.{Outcome}
 use Rattle.uri_commands.specs.Links.{link_lines, outcome_line, outcome_lines}
 
--- the lines of what was noted are those of the references
+-- the lines of the outcomes are `link_lines` of the references
 pub lines_noted : (ports : PortFunction) (base word : List ℕ)
     (none references words : List (List ℕ)) (outcomes : List Outcome) (registered : List (List ℕ))
     → ports ≡ default_port → base ≡ word → none ≡ [] → references ≡ words

@@ -1,4 +1,4 @@
--- The normal form that a kind answers is the one that is printed.
+-- The normal form that `normalize` returns is the one that is printed.
 use Rattle.std.proofs.Common.{◌≡◌, ℕ, List}
 use Rattle.fluent_uri.specs.Grammar.{Kind}
 use Rattle.fluent_uri.specs.Normalizers.{IsNormalForm}

@@ -1,4 +1,4 @@
--- A command that has an answer, which the output does not take.
+-- A command that fails since its output cannot be written.
 use Rattle.std.proofs.Common.{◌≡◌, List, ◌∷◌, ◌++◌, ℕ, true, Some, None, Result, codes, ap}
 use Rattle.std.specs.Prelude.{IfErr, if◌then◌else◌}
 use Rattle.std.specs.Result.{IsErrAnd}

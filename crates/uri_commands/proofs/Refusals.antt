@@ -1,4 +1,4 @@
--- What is returned for a text that has an error.
+-- The error that is returned for a text that is not of its kind.
 use Rattle.std.proofs.Common.{◌≡◌, ◌↔◌, List, ℕ, Result, Ok, Err, Some, sym, ap, ◌∙◌, subst}
 use Rattle.std.specs.Prelude.{IsOk, IfErr, MatchResult, is_ok}
 use Rattle.std.specs.Result.{IsErrAnd}
@@ -13,8 +13,8 @@ pub refused_as : {A B : Type 0} (P : B → Type 0) (result : Result A B) (e : B)
 refused_as P (Ok a) e is p = tt
 refused_as P (Err x) e is p = subst P (sym is) p
 
--- The error of a text, in what is returned. The text was parsed as `kind`: if this is not the one
--- that was named, the two are compared, and not what they say of the text.
+-- the error of a text, as it is returned; `kind` is how the text was parsed and `named` what the
+-- words name, and an equation relates the two
 pub text_refused : {A B : Type 0} (P : B → Type 0) (told : ParseError → B)
     (named kind : Kind) (text : List ℕ) (result : Result A B) (e : ParseError)
     → ((x : ParseError) → IsErrorOf named text x → P (told x))
@@ -24,7 +24,7 @@ text_refused P told named kind text result e is same error given =
     refused_with P result (told e) given
     (is e (subst (λ k. IsErrorOf k text e) (sym same) error))
 
--- the same where `map_err` made it
+-- the same for an error that `map_err` made
 pub mapped_refused : {A B C : Type 0} (P : B → Type 0) (told : ParseError → B) (kind : Kind)
     (text : List ℕ) (parsed : Result A ParseError) (mapped : Result A B) (result : Result C B)
     (why : B)
@@ -39,7 +39,7 @@ mapped_refused P told kind text (Err e) mapped result why is error cases was giv
     refused_with P result why given
     (subst P (sym same) (is e error))
 
--- what was parsed before is of its kind
+-- a text that was parsed is of its kind
 pub mapped_parsed : {A B E : Type 0} (kind : Kind) (text : List ℕ) (parsed : Result A E)
     (mapped : Result A B) (value : A)
     → (IsOk parsed ↔ IsOfKind kind text) → is_ok mapped ≡ is_ok parsed → mapped ≡ Ok value

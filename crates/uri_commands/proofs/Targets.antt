@@ -1,4 +1,4 @@
--- The target that a kind answers is the one that is printed.
+-- The target that `resolve_against` returns is the one that is printed.
 use Rattle.std.proofs.Common.{◌≡◌, ℕ, List, Some, ap}
 use Rattle.std.specs.Prelude.{Result, Ok, Err, IfOk}
 use Rattle.std.specs.Result.{result_ok}

@@ -1,4 +1,4 @@
--- What the words of a command line ask for, and what is printed then.
+-- The commands that the words of a command line make, and the output of each.
 use Rattle.std.specs.Prelude.{◌≡◌, Bool, ℕ, ◌&&◌, List, [], ◌∷◌, ◌++◌, codes, map, String}
 use Rattle.std.specs.Prelude.{string_bytes, Option, Some, None, option_map, if◌then◌else◌}
 use Rattle.std.specs.Io.KnownBytes.{Appends}
@@ -50,14 +50,14 @@ pub data Command : Type 0 where
   Resolve : BaseName → List ℕ → List ℕ → Command
   Links : List ℕ → List ℕ → List (List ℕ) → Command
 
--- the words that ask for it
+-- the words of a command
 abbrev pub words_of : Command → List (List ℕ)
 words_of (Parse name text) = codes "parse" ∷ word_of_kind name ∷ text ∷ []
 words_of (Normalize name text) = codes "normalize" ∷ word_of_kind name ∷ text ∷ []
 words_of (Resolve name base reference) = codes "resolve" ∷ word_of_base name ∷ base ∷ reference ∷ []
 words_of (Links base reference others) = codes "links" ∷ base ∷ reference ∷ others
 
--- the normal form of a text of the kind, under the default ports of schemes
+-- the normal form of a text of the kind, under the default ports of the schemes
 unfoldable pub normal_form_of : Kind → List ℕ → List ℕ
 normal_form_of kind text = normal_text (meaning_of kind default_port text)
 
@@ -65,11 +65,11 @@ normal_form_of kind text = normal_text (meaning_of kind default_port text)
 unfoldable pub target_text : List ℕ → List ℕ → Option (List ℕ)
 target_text base reference = result_ok (resolution_of (components base) (components reference))
 
--- each of the texts is of the kind
+-- whether each of the texts is of the kind
 abbrev pub are_of_kind : Kind → List (List ℕ) → Bool
 are_of_kind kind texts = list_all (is_of_kind kind) texts
 
--- what is printed for it, or that it is refused
+-- the output of a command, or `None` if it fails
 abbrev pub output_of : Command → Option (List ℕ)
 output_of (Parse name text) =
     if is_of_kind (kind_named name) text then Some (component_lines (components text)) else None
@@ -91,12 +91,12 @@ texts words = map string_bytes words
 abbrev pub IsCommand : List (List ℕ) → Type 0
 IsCommand words = (command : Command) × (words ≡ words_of command)
 
--- the words of `links`
+-- the words are those of `links`
 abbrev pub AreLinks : List (List ℕ) → Type 0
 AreLinks words =
     (base : List ℕ) × (reference : List ℕ) × (others : List (List ℕ))
     × (words ≡ words_of (Links base reference others))
 
--- known bytes grow by what is printed for it
+-- known bytes grow by the output of the command
 abbrev pub Prints : Option (List ℕ) → Option (List ℕ) → Command → Type 0
 Prints old new command = (lines : List ℕ) × (output_of command ≡ Some lines) × Appends old new lines

@@ -1,4 +1,4 @@
--- What is printed for a reference.
+-- The output of `parse`.
 use Rattle.std.specs.Prelude.{ℕ, List, [], ◌++◌, codes, Option, Some, None}
 use Rattle.fluent_uri.specs.Components.{Components}
 
@@ -6,12 +6,12 @@ use Rattle.fluent_uri.specs.Components.{Components}
 abbrev pub line : List ℕ → List ℕ → List ℕ
 line name text = name ++ codes "=" ++ text ++ codes "\n"
 
--- its line where the component is present, and else nothing
+-- the line of a component if it is present, and otherwise nothing
 abbrev pub optional_line : List ℕ → Option (List ℕ) → List ℕ
 optional_line name None = []
 optional_line name (Some text) = line name text
 
--- the lines of the components that are present, in the order in which they stand in a text
+-- the lines of the components that are present, in the order of a text
 abbrev pub component_lines : Components → List ℕ
 component_lines p =
     optional_line (codes "scheme") p.scheme ++ optional_line (codes "authority") p.authority

@@ -1,4 +1,4 @@
--- The lines that tell what references come to, which are noted one after the other.
+-- The output of `links`.
 use Rattle.std.specs.Prelude.{ℕ, List, [], ◌++◌, codes, decimal, flat_map, slice_get, unwrap_or}
 use Rattle.fluent_uri.specs.SchemePorts.{default_port}
 use Rattle.uri_links.specs.Outcomes.{outcomes_of}
@@ -10,11 +10,11 @@ use Rattle.uri_commands.specs.Messages.{resolve_error_text}
 abbrev pub target_line : List ℕ → ℕ → List ℕ → List ℕ
 target_line word id text = word ++ codes " " ++ decimal id ++ codes " " ++ text ++ codes "\n"
 
--- the registered text at an id
+-- the registered text with this id
 abbrev pub text_at : List (List ℕ) → ℕ → List ℕ
 text_at registered id = unwrap_or (slice_get registered id) []
 
--- the line of an outcome, whose id is a place in the registered texts
+-- the line of an outcome, whose id is an index into the registered texts
 abbrev pub outcome_line : List (List ℕ) → Outcome → List ℕ
 outcome_line registered (New id) = target_line (codes "new") id (text_at registered id)
 outcome_line registered (Known id) = target_line (codes "known") id (text_at registered id)
@@ -23,7 +23,7 @@ outcome_line registered (Refused error) = codes "refused " ++ resolve_error_text
 abbrev pub outcome_lines : List (List ℕ) → List Outcome → List ℕ
 outcome_lines registered outcomes = flat_map (outcome_line registered) outcomes
 
--- the lines of the references, of which the register begins empty, under the default ports of
+-- the lines of the references, which are noted in an empty register under the default ports of the
 -- schemes
 unfoldable pub link_lines : List ℕ → List (List ℕ) → List ℕ
 link_lines base references =

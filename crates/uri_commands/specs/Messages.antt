@@ -1,4 +1,4 @@
--- What is said of a text that the parser refuses, and of a reference that has no target.
+-- The messages for a text that is not of its kind, and for a reference that has no target.
 use Rattle.std.specs.Prelude.{ℕ, List, ◌++◌, codes, decimal}
 use Rattle.fluent_uri.specs.Errors.{index_of, fault_of}
 use Rattle.fluent_uri.specs.declared.ParseError.{ParseError}

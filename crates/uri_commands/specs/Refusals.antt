@@ -1,4 +1,4 @@
--- Why a command is refused, and the line that tells it.
+-- Why a command fails, and the line that says so.
 use Rattle.std.specs.Prelude.{◌≡◌, ℕ, List, ◌∷◌, ◌++◌, codes, Some, true, slice_get, take}
 use Rattle.fluent_uri.specs.Components.{components}
 use Rattle.fluent_uri.specs.Grammar.{Kind, IsOfKind, uri, uri_ref}
@@ -23,22 +23,22 @@ message OutputFailed = codes "output failed"
 abbrev pub error_line : Refusal → List ℕ
 error_line why = codes "error: " ++ message why ++ codes "\n"
 
--- what is told where the words are no command
+-- the line for words that make no command
 abbrev pub usage_line : List ℕ
 usage_line = codes "usage: uritool parse KIND TEXT | normalize KIND TEXT | resolve uri|iri BASE REF | links BASE REF...\n"
 
--- the error of a text that is not of the kind
+-- this is the error of the text, which is not of the kind
 abbrev pub IsErrorOf : Kind → List ℕ → ParseError → Type 0
 IsErrorOf kind text e = refusal kind text ≡ Some e
 
--- the error of the first of the texts that is not of the kind
+-- this is the error of the first text that is not of the kind
 abbrev pub IsErrorOfFirst : Kind → List (List ℕ) → ParseError → Type 0
 IsErrorOfFirst kind texts e = (n : ℕ) × (text : List ℕ)
     × (slice_get texts n ≡ Some text) × (are_of_kind kind (take n texts) ≡ true)
     × IsErrorOf kind text e
 
--- Why a command has no answer. A base is parsed before its references, all of them before any is
--- resolved or noted.
+-- this is why the command fails: a base is parsed before its references, and all references are
+-- parsed before any is resolved or noted
 abbrev pub IsRefusalOf : Command → Refusal → Type 0
 IsRefusalOf (Parse name text) (Text e) = IsErrorOf (kind_named name) text e
 IsRefusalOf (Normalize name text) (Text e) = IsErrorOf (kind_named name) text e
@@ -54,6 +54,6 @@ IsRefusalOf (Links base reference others) (Reference e) =
     IsOfKind uri base × IsErrorOfFirst uri_ref (reference ∷ others) e
 IsRefusalOf (Links base reference others) OutOfMemory =
     IsOfKind uri base × (are_of_kind uri_ref (reference ∷ others) ≡ true)
--- it has one, which the output did not take
+-- the command has an output, and writing it failed
 IsRefusalOf command OutputFailed = (lines : List ℕ) × (output_of command ≡ Some lines)
 IsRefusalOf command why = ⊥

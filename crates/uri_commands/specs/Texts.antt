@@ -1,4 +1,4 @@
--- What contracts see of the texts that are printed.
+-- `Texts` as contracts see it: components.
 use Rattle.std.specs.Prelude.{option_map}
 use Rattle.fluent_uri.specs.Components.{Components}
 use Rattle.uri_commands.specs.declared.lines.Texts.{Texts}

@@ -1,4 +1,4 @@
-//! What the words of a command line ask for.
+//! The command that the words of a command line make.
 ghost use Rattle.std.specs.Prelude.{◌≡◌, ◌≢◌, MatchOption};
 ghost use Rattle.uri_commands.specs.Commands.{AreLinks, IsCommand, word_of_base, word_of_kind};
 ghost use Rattle.uri_commands.specs.Commands.{words_of, texts};
@@ -26,7 +26,7 @@ pub enum BaseName {
     Iri,
 }
 
-/// What is asked for.
+/// A command of the program.
 #[derive(Clone, Copy)]
 pub enum Command<'a> {
     /// `parse KIND TEXT`
@@ -35,12 +35,12 @@ pub enum Command<'a> {
     Normalize(KindName, &'a str),
     /// `resolve uri|iri BASE REF`
     Resolve(BaseName, &'a str, &'a str),
-    /// `links BASE REF...`, the first reference and those behind it
+    /// `links BASE REF...`: the base, the first reference and the others
     Links(&'a str, &'a str, &'a [String]),
 }
 
 impl<'a> Command<'a> {
-    /// The command that the words ask for, if they ask for one that there is.
+    /// Returns the command that the words make, or `None` exactly if they make none.
     pub fn from_words(words: &'a [String]) -> Option<Command<'a>>
         ensures { MatchOption result (¬ IsCommand (texts words.now))
             (λ c. texts words.now ≡ words_of (asked c)) }

@@ -1,4 +1,4 @@
-//! What the program `uritool` does with the words that it is given, over any two writers.
+//! The commands of the program `uritool`, over any two writers.
 #![tactic(auto)]
 
 mod command;

@@ -1,4 +1,4 @@
-//! The lines of a reference's components.
+//! The lines that `parse` prints: a component of the text each.
 ghost use Rattle.std.specs.Prelude.{◌≡◌, OnOk, option_map};
 ghost use Rattle.std.specs.Io.KnownBytes.{Appends};
 ghost use Rattle.uri_commands.specs.Lines.{line, optional_line, component_lines};

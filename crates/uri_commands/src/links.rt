@@ -1,5 +1,5 @@
-//! What references come to, which are noted one after the other against a base: `links BASE
-//! REF...`.
+//! The command `links BASE REF...`: the outcomes of references that are noted one after the other
+//! against a base.
 ghost use Rattle.std.specs.Prelude.{◌≡◌, ◌≢◌, ◌<◌, ◌∷◌, ◌++◌, ℕ, List, IfOk, IfErr, OnOk, All};
 ghost use Rattle.std.specs.Prelude.{length, map, true, codes};
 ghost use Rattle.std.specs.Io.KnownBytes.{Appends};
@@ -21,19 +21,20 @@ use std::alloc::Global;
 use std::io::{self, Write};
 use uri_links::links::{Outcome, Register};
 
-/// What references came to, and the register that has their targets.
+/// The outcomes of references, and the register that has their targets.
 #[derive(Drop)]
 pub struct NotedLinks {
     register: Register<SchemeDefaults>,
     outcomes: Vec<Outcome>,
 }
 
-/// Notes the first reference and the others in order, against the base.
+/// Notes the first reference and the others against the base, in order.
 ///
 /// # Errors
 ///
-/// `Base` if the base is not a URI, else `Reference` if one of the references is not a URI
-/// reference, and `OutOfMemory` if each word is of its kind and memory is refused.
+/// - `Base` if the base is not a URI.
+/// - Otherwise `Reference` if one of the references is not a URI reference.
+/// - `OutOfMemory` if each word is of its kind and allocation fails.
 pub fn noted(
     alloc: Global,
     base: &str,
@@ -56,12 +57,12 @@ pub fn noted(
     Ok(NotedLinks { register, outcomes })
 }
 
-/// The first reference and the others, each parsed as a URI reference.
+/// Parses the first reference and the others, each as a URI reference.
 ///
 /// # Errors
 ///
-/// `Reference` for the first that is none, and `OutOfMemory` if there is no such and memory is
-/// refused.
+/// Returns `Reference` for the first word that is not a URI reference. If there is none and
+/// allocation fails, returns `OutOfMemory`.
 fn parse_references<'a>(
     alloc: Global,
     reference: &'a str,

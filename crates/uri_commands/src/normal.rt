@@ -1,4 +1,4 @@
-//! The normal form of a text of a kind (RFC 3986, section 6.2.2).
+//! The command `normalize KIND TEXT` (RFC 3986, section 6.2.2).
 ghost use Rattle.std.specs.Prelude.{◌≡◌, IfOk, IfErr, string_bytes};
 ghost use Rattle.fluent_uri.specs.Grammar.{IsOfKind};
 ghost use Rattle.uri_commands.specs.Commands.{Normalize, kind_named, normal_form_of};
@@ -9,11 +9,11 @@ use crate::refusal::Refusal;
 use fluent_uri::{Iri, IriRef, Uri, UriRef};
 use std::alloc::Global;
 
-/// The normal form of the text, which is parsed as the kind.
+/// Parses the text as the kind, and returns its normal form.
 ///
 /// # Errors
 ///
-/// `Text` if it is not of the kind, `OutOfMemory` if memory is refused.
+/// Returns `Text` if the text is not of the kind, and `OutOfMemory` if allocation fails.
 #[tactic(auto, using(crate::proofs::NormalForms::normal_form_is))]
 pub fn normal_form(alloc: Global, kind: KindName, text: &str) -> Result<String, Refusal>
     ensures of_kind { IfOk result (λ _. IsOfKind (kind_named kind) text.now) }

@@ -1,4 +1,4 @@
-//! Why a command is refused.
+//! Why a command fails, and the line that says so.
 ghost use Rattle.std.specs.Prelude.{◌≡◌, IfOk, OnOk};
 ghost use Rattle.std.specs.Io.KnownBytes.{Appends};
 ghost use Rattle.uri_commands.specs.Fronts.{AppendsFront};
@@ -13,10 +13,10 @@ use std::alloc::AllocError;
 use std::fmt::{self, Display, Write};
 use std::io::{self, ErrorKind};
 
-/// The longest line has 119 bytes, that of a reference against an opaque base.
+/// The capacity of a line. The longest has 119 bytes: a reference against an opaque base.
 const LINE_CAPACITY: usize = 128;
 
-/// Why a command has no answer.
+/// Why a command fails.
 #[derive(Clone, Copy)]
 pub enum Refusal {
     /// The text is not of the kind.
@@ -27,14 +27,14 @@ pub enum Refusal {
     Reference(ParseError),
     /// The reference has no target against the base.
     Target(ResolveError),
-    /// Memory was refused.
+    /// Allocation failed.
     OutOfMemory,
-    /// The output took less than the answer.
+    /// Writing the output failed.
     OutputFailed,
 }
 
 impl Refusal {
-    /// Writes the line that tells it. Where the writer fails, it got a front of the line.
+    /// Writes the line of this error. If the writer fails, it got a prefix of the line.
     pub fn tell<E: io::Write>(self, err: &mut E) -> io::Result<()>
         ensures whole { OnOk result
             (Appends (E.contents err.old) (E.contents err.new) (error_line self)) }
@@ -55,7 +55,7 @@ impl Refusal {
     }
 }
 
-/// Prints the message, which stands behind `error: `.
+/// Prints the message, without the `error: ` before it.
 impl Display for Refusal {
     ghost use Rattle.std.specs.Prelude.{Some};
     ghost use Rattle.uri_commands.specs.Refusals.{message};
@@ -74,7 +74,7 @@ impl Display for Refusal {
     }
 }
 
-/// What the parser refused.
+/// A parse error, whose `Display` has a contract.
 #[derive(Clone, Copy)]
 struct Fault(ParseError);
 
@@ -104,7 +104,7 @@ fn fault_message(kind: ParseErrorKind) -> &'static str
     }
 }
 
-/// What is said of a reference that has no target.
+/// Returns the message for a reference that has no target.
 pub(crate) fn resolve_message(error: ResolveError) -> &'static str
     ensures { result.now ≡ resolve_error_text error }
 {

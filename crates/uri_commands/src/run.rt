@@ -1,4 +1,4 @@
-//! The program, over any two writers.
+//! Running a command, over any two writers.
 ghost use Rattle.std.specs.Prelude.{◌≡◌, ◌↔◌, ◌≤◌, ◌++◌, IsOk, IfOk, IfErr, OnOk, None, Some, List};
 ghost use Rattle.std.specs.Prelude.{◌≢◌, codes, ℕ};
 ghost use Rattle.std.specs.Io.KnownBytes.{Appends, Keeps};
@@ -31,16 +31,19 @@ use std::io::{self, Write};
 pub struct Ended {
     /// The exit status.
     pub status: u8,
-    /// Whether the error output took what it was told.
+    /// Whether the error output took its whole line.
     pub told: io::Result<()>,
 }
 
-/// Does what the words ask for, and answers the exit status.
+/// Runs the command that the words make, and returns the exit status.
 ///
-/// 0: `out` got the answer. 1: it is refused, memory is, or `out` failed, and `err` got `error: `,
-/// why, and a newline; `out` got nothing, unless it failed. 2: the words are no command, and `err`
-/// got the usage line. A failing `err` changes no status; it got a front of the line, and nothing
-/// else.
+/// | Status | When | `out` got | `err` got |
+/// |---|---|---|---|
+/// | 0 | the command succeeded | its output | nothing |
+/// | 1 | it failed | nothing, unless writing to it failed | `error: `, the message and a newline |
+/// | 2 | the words make no command | nothing | the usage line |
+///
+/// If `err` fails, it got a prefix of its line, and the status is the same.
 pub fn run<O: Write, E: Write>(alloc: Global, words: &[String], out: &mut O, err: &mut E) -> u8
     ensures answered { result ≡ 0 → IsAnswered (texts words.now) (O.contents out.old)
         (O.contents out.new) (E.contents err.old) (E.contents err.new) }
@@ -58,8 +61,7 @@ pub fn run<O: Write, E: Write>(alloc: Global, words: &[String], out: &mut O, err
     execute(alloc, words, out, err).status
 }
 
-/// Does what the words ask for, as `run` does, and answers beside the exit status whether `err`
-/// took the whole line that it was told.
+/// Runs the command as `run` does. Returns the exit status, and whether `err` took its whole line.
 pub fn execute<O: Write, E: Write>(
     alloc: Global,
     words: &[String],

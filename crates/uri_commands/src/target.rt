@@ -1,4 +1,4 @@
-//! The target of a reference against a base (RFC 3986, section 5.2).
+//! The command `resolve uri|iri BASE REF` (RFC 3986, section 5.2).
 ghost use Rattle.std.specs.Prelude.{◌≡◌, IfOk, IfErr, Some, string_bytes};
 ghost use Rattle.fluent_uri.specs.Components.{components};
 ghost use Rattle.fluent_uri.specs.Grammar.{IsOfKind};
@@ -17,13 +17,13 @@ use fluent_uri::resolve::ResolveError;
 use fluent_uri::{Iri, IriRef, Uri, UriRef};
 use std::alloc::Global;
 
-/// The target of the reference against the base, each parsed as its kind, where dot segments may
-/// underflow.
+/// Parses the base and the reference, and returns the target. Path underflow is not an error.
 ///
 /// # Errors
 ///
-/// `Base` if the base is not of its kind, else `Reference` if the reference is not of its; `Target`
-/// if there is no target, or memory is refused.
+/// - `Base` if the base is not of its kind.
+/// - Otherwise `Reference` if the reference is not of its kind.
+/// - Otherwise `Target` if there is no target, or if allocation fails.
 pub fn target(alloc: Global, kind: BaseName, base: &str, reference: &str) -> Result<String, Refusal>
     ensures base { IfOk result (λ _. IsOfKind (kind_of_base kind) base.now) }
     ensures reference { IfOk result (λ _. IsOfKind (kind_of_references kind) reference.now) }

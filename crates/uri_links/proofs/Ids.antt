@@ -1,4 +1,4 @@
--- The id of an outcome is that of a registered text, also once more references are noted.
+-- The id of an outcome is that of a registered text, also after more references were noted.
 use Rattle.std.proofs.Common.{◌≡◌, ℕ, ◌≤◌, List, [], ◌∷◌, length, Option, Some, None, Ok, Err, refl}
 use Rattle.std.proofs.Common.{subst, arith, length-append}
 use Rattle.std.specs.List.{All, AllByRecursion}
@@ -17,7 +17,7 @@ use Rattle.uri_links.specs.OutcomesInWords.{HasText}
 use Rattle.uri_links.specs.declared.links.Outcome.{Outcome}
 use Rattle.uri_links.specs.declared.links.Outcome.TheVariants.{New, Known, Refused}
 
--- an outcome beside texts, which are no fewer than those before
+-- the outcome's id is in range, and no text was removed
 abbrev Fits : List (List ℕ) → Outcome × List (List ℕ) → Type 0
 Fits texts o = HasText o.1 o.0 × (length texts ≤ length o.1)
 

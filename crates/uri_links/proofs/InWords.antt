@@ -1,4 +1,4 @@
--- An outcome is what meanings say.
+-- `outcome_of` agrees with `IsOutcome`.
 use Rattle.std.proofs.Common.{◌≡◌, ℕ, List, [], Option, Some, None, Ok, Err, refl, ap, subst}
 use Rattle.std.specs.Prelude.{Result}
 use Rattle.std.proofs.lemmas.List.Quantifiers.{position-Some}

@@ -1,4 +1,4 @@
--- What noting a reference comes to, by the text of its normal target.
+-- The outcome of a reference, from the text of its normal target.
 use Rattle.std.proofs.Common.{◌≡◌, ℕ, true, List, [], ◌∷◌, refl, sym, ap, ◌∙◌}
 use Rattle.std.specs.Bool.{Decides}
 use Rattle.std.specs.List.{AllByRecursion, list_all, position}
@@ -25,11 +25,11 @@ use Rattle.uri_links.specs.declared.links.Outcome.{Outcome}
 use Rattle.uri_links.specs.declared.links.Outcome.TheVariants.{Refused}
 use Rattle.uri_links.proofs.Places.{alike}
 
--- meanings are equal exactly if their parts are: `laws::meanings_are_equal_if_their_parts_are`
+-- `same_meaning` decides equality, by `laws::meanings_are_equal_if_their_parts_are`
 abbrev pub ComparesMeanings : Type 0
 ComparesMeanings = (m n : Meaning) → Decides (same_meaning m n) (m ≡ n)
 
--- the answer for a target is its own normal text
+-- a normal target is its own normal text
 pub own_normal_text : (kind : Kind) (ports : PortFunction) (base reference normal : List ℕ)
     → IsNormalFormOfTarget kind ports base reference normal
     → normal_text (meaning_of kind ports normal) ≡ normal
@@ -40,7 +40,7 @@ is_text : (text : List ℕ) → is_uri_text text ≡ true → IsTextOf uri text
 is_text text e = let p = and_parts (is_utf8 text) (is_of_kind uri text) e in
     record { utf8 = IsUtf8-from_is_utf8 text p.0; grammar = p.1 }
 
--- a normal form is a text that is its own exactly if the two mean the same
+-- a normal form equals a text in normal form exactly if the two have the same meaning
 same_answer : ComparesMeanings → (ports : PortFunction) (target normal text : List ℕ)
     → IsNormalForm uri ports target normal → IsTextOf uri text
     → normal_text (meaning_of uri ports text) ≡ text
@@ -63,7 +63,7 @@ same_answers same ports target normal (text ∷ texts) h uris own =
       same_answers same ports target normal texts h p.1 (cc),
     )
 
--- so it stands where a text has the meaning of the target
+-- so looking up the text finds the same index as looking up the meaning
 same_place : ComparesMeanings → (ports : PortFunction) (target normal : List ℕ)
     (texts : List (List ℕ)) → IsNormalForm uri ports target normal → AreUris texts
     → AreNormal ports texts
@@ -71,7 +71,7 @@ same_place : ComparesMeanings → (ports : PortFunction) (target normal : List �
 same_place same ports target normal texts h uris own =
     alike _ _ texts (same_answers same ports target normal texts h uris own)
 
--- what stands where by its text is noted so by its meaning
+-- so the outcome of a lookup by text is `outcome_of`
 pub noted : ComparesMeanings → (ports : PortFunction) (base reference normal : List ℕ)
     (texts : List (List ℕ)) (outcome : Outcome × List (List ℕ))
     → IsNormalTarget uri uri_ref ports base reference normal → AreUris texts
@@ -86,7 +86,7 @@ noted same ports base reference normal texts outcome h uris own e =
     (sym h.target.1.1.text.text i))
     ∙ e
 
--- a reference that has no target is refused
+-- the outcome of a reference that has no target is `Refused`
 pub noted_refusal : (ports : PortFunction) (base reference : List ℕ) (texts : List (List ℕ))
     (error : ResolveError)
     → IsRefusalFor (components base) (components reference) error → (error ≡ Of.OutOfMemory → ⊥)

@@ -1,4 +1,4 @@
--- The first place at which a test passes.
+-- The first index at which a test passes.
 use Rattle.std.proofs.Common.{◌≡◌, ◌+◌, ◌≤◌, Bool, true, false, List, [], ◌∷◌, ◌++◌, length, Some}
 use Rattle.std.proofs.Common.{None, cond, not, ◌||◌, ltb, suc, refl, ap, arith, length-append}
 use Rattle.std.specs.List.{AllByRecursion, list_any, position, position_or_len}
@@ -11,7 +11,7 @@ bounded p (x ∷ xs) = let rest : position_or_len p xs ≤ length xs = bounded p
     elim (p x) as (λ b. cond (not b) (1 + position_or_len p xs) 0 ≤ length (x ∷ xs))
     [ true ↦ omega arith | false ↦ omega arith ]
 
--- two tests that agree on each element pass first at one place
+-- two tests that agree on each element first pass at the same index
 first_alike : {X : Type 0} (p q : X → Bool) (xs : List X) → AllByRecursion (λ x. p x ≡ q x) xs
     → position_or_len p xs ≡ position_or_len q xs
 first_alike p q [] h = refl
@@ -21,13 +21,13 @@ pub alike : {X : Type 0} (p q : X → Bool) (xs : List X) → AllByRecursion (λ
     → position p xs ≡ position q xs
 alike p q xs h = ap (λ n. cond (ltb n (length xs)) (Some n) None) (first_alike p q xs h)
 
--- an element at the end that passes is first where none before it does
+-- if only the last element passes, its index is the length before it
 pub pushed : {X : Type 0} (p : X → Bool) (xs : List X) (y : X) → position p xs ≡ None → p y ≡ true
     → position p (xs ++ y ∷ []) ≡ Some (length xs)
 pushed p xs y none passes =
     grind (arith, nat_tests, bounded p xs, position_or_len_push p xs y, length-append xs (y ∷ []))
 
--- one that does not makes no difference
+-- a last element that fails changes nothing
 pub pushed_past : {X : Type 0} (p : X → Bool) (xs : List X) (y : X) → p y ≡ false
     → position p (xs ++ y ∷ []) ≡ position p xs
 pushed_past p xs y fails =

@@ -1,4 +1,4 @@
--- What noting several references comes to, a reference at a time.
+-- The outcomes of several references, a reference at a time.
 use Rattle.std.proofs.Common.{◌≡◌, ℕ, ◌+◌, ◌<◌, List, [], ◌∷◌, ◌++◌, length, get_or, take, map, Ok}
 use Rattle.std.proofs.Common.{Err, refl, sym, ap, ◌∙◌}
 use Rattle.std.specs.Prelude.{OnErr, Result}
@@ -7,7 +7,7 @@ use Rattle.fluent_uri.specs.Ports.{PortFunction}
 use Rattle.uri_links.specs.Outcomes.{outcome_of, outcomes_of}
 use Rattle.uri_links.specs.declared.links.Outcome.{Outcome}
 
--- the outcomes and texts, after one more reference
+-- the outcomes and texts after one more reference
 abbrev with_one : PortFunction → List ℕ → List ℕ → List Outcome × List (List ℕ)
     → List Outcome × List (List ℕ)
 with_one ports base reference before = let last = outcome_of ports base before.1 reference in
@@ -57,7 +57,7 @@ module _ {A : Type 0} (text_of : A → List ℕ) (base : List ℕ) (texts : List
       ∙ ap (λ (last : Outcome × List (List ℕ)). (outcomes ++ last.0 ∷ [], last.1))
       (ap (λ q. outcome_of q base before (text_of reference)) (sym p) ∙ f)
 
-  -- some front of the references was noted
+  -- after an error, some prefix of the references was noted
   pub front : {X E : Type 0} (result : Result X E) (ports : PortFunction) (n : ℕ)
       (outcomes : List Outcome) (after : List (List ℕ))
       → Come ports n outcomes after

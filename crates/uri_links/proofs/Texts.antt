@@ -1,4 +1,4 @@
--- One more text of a register.
+-- The invariants of a register after one more text.
 use Rattle.std.proofs.Common.{◌≡◌, ℕ, Bool, true, false, String, string_bytes, List, [], ◌∷◌, ◌++◌}
 use Rattle.std.proofs.Common.{length, Some, None, cond, refl, sym, ap, subst, ◌∙◌}
 use Rattle.std.specs.BTreeMap.{BTreeMap, Updates, get_by_text}

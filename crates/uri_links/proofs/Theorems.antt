@@ -1,10 +1,10 @@
--- What the crate is for, theorem by theorem.
--- What noting a reference comes to is what `outcome_of` says of it.
+-- The main theorems of the crate.
+-- The outcome of noting a reference is `outcome_of`.
 pub use Rattle.uri_links.proofs.Noted.{noted, noted_refusal}
--- That is what meanings say: a target is known by a registered text that means the same, and new
--- where none does: RFC 3986, sections 5.2 and 6.2.2.
+-- By meanings: a target is known if a registered text has the same meaning, and new if none has
+-- (RFC 3986, sections 5.2 and 6.2.2).
 pub use Rattle.uri_links.proofs.InWords.{in_words}
--- References that are noted one after the other come to what `outcomes_of` says of them.
+-- The outcomes of noting references one after the other are `outcomes_of`.
 pub use Rattle.uri_links.proofs.Several.{next, front}
--- An id is that of a registered text, also once more references are noted.
+-- An id is that of a registered text, also after more references were noted.
 pub use Rattle.uri_links.proofs.Ids.{ids}

@@ -1,5 +1,5 @@
--- What noting references answers, and the texts that are registered then: RFC 3986, sections 5.2
--- and 6.2.2.
+-- The outcomes of noting references, and the texts that are registered afterwards (RFC 3986,
+-- sections 5.2 and 6.2.2).
 use Rattle.std.specs.Prelude.{ℕ, List, [], ◌∷◌, ◌++◌, length, Option, Some, None, Result, Ok, Err}
 use Rattle.std.specs.Prelude.{position}
 use Rattle.fluent_uri.specs.Components.{components}
@@ -15,22 +15,22 @@ use Rattle.uri_links.specs.declared.links.Outcome.{Outcome}
 use Rattle.uri_links.specs.declared.links.Outcome.TheVariants.{New, Known, Refused}
 use Rattle.fluent_uri.specs.SameMeanings.{same_meaning}
 
--- the error that tells why a reference has no target
+-- the error that says why a reference has no target
 abbrev pub error_of : Refusal → ResolveError
 error_of BaseWithFragment = Of.BaseWithFragment
 error_of InvalidReferenceAgainstOpaqueBase = Of.InvalidReferenceAgainstOpaqueBase
 
--- the place of the first text that has this meaning
+-- the index of the first text that has this meaning
 abbrev pub place_of_meaning : PortFunction → List (List ℕ) → Meaning → Option ℕ
 place_of_meaning ports texts meaning =
     position (λ text. same_meaning (meaning_of uri ports text) meaning) texts
 
--- what has a place is known by it; anything else is new, and its normal text goes to the end
+-- a target with an index is known; any other is new, and its normal text is registered last
 abbrev pub placed : Option ℕ → List (List ℕ) → List ℕ → Outcome × List (List ℕ)
 placed (Some place) texts normal = (Known place, texts)
 placed None texts normal = (New (length texts), texts ++ normal ∷ [])
 
--- a target counts by its meaning, and what has none is refused
+-- the outcome of a resolution: a target is looked up by its meaning, and an error is `Refused`
 abbrev pub registered : PortFunction → List (List ℕ) → Result (List ℕ) Refusal → Outcome
     × List (List ℕ)
 registered ports texts (Err refusal) = (Refused (error_of refusal), texts)
@@ -38,12 +38,12 @@ registered ports texts (Ok target) =
     let meaning = meaning_of uri ports target in placed (place_of_meaning ports texts meaning) texts
     (normal_text meaning)
 
--- one reference against the base: its outcome, and the texts after it
+-- the outcome of one reference against the base, and the texts afterwards
 unfoldable pub outcome_of : PortFunction → List ℕ → List (List ℕ) → List ℕ → Outcome × List (List ℕ)
 outcome_of ports base texts reference =
     registered ports texts (resolution_of (components base) (components reference))
 
--- several references in order: their outcomes, and the texts after the last
+-- the outcomes of several references in order, and the texts afterwards
 unfoldable pub outcomes_of : PortFunction → List ℕ → List (List ℕ) → List (List ℕ) → List Outcome
     × List (List ℕ)
 outcomes_of ports base texts [] = ([], texts)

@@ -1,4 +1,4 @@
--- What is true of the texts of a register: RFC 3986, section 6.2.2.
+-- The invariants of the texts of a register (RFC 3986, section 6.2.2).
 use Rattle.std.specs.Prelude.{◌≡◌, ◌&&◌, ℕ, Bool, true, List, bytes_eq, map}
 use Rattle.std.specs.List.{IsDistinct, list_all}
 use Rattle.std.specs.Str.{is_utf8}
@@ -7,18 +7,18 @@ use Rattle.fluent_uri.specs.Meaning.{meaning_of}
 use Rattle.fluent_uri.specs.Normal.{normal_text}
 use Rattle.fluent_uri.specs.Ports.{PortFunction}
 
--- UTF-8 that is a URI
+-- whether a text is valid UTF-8 and a URI
 abbrev pub is_uri_text : List ℕ → Bool
 is_uri_text text = is_utf8 text && is_of_kind uri text
 
--- each is a URI
+-- each text is a URI
 abbrev pub AreUris : List (List ℕ) → Type 0
 AreUris texts = list_all is_uri_text texts ≡ true
 
--- each is its own normal text
+-- each text is its own normal text
 abbrev pub AreNormal : PortFunction → List (List ℕ) → Type 0
 AreNormal ports texts = map (λ text. normal_text (meaning_of uri ports text)) texts ≡ texts
 
--- no two are equal
+-- no two texts are equal
 abbrev pub AreDistinct : List (List ℕ) → Type 0
 AreDistinct texts = IsDistinct bytes_eq texts

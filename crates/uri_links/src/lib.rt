@@ -1,5 +1,5 @@
-//! A register of links: references are resolved against their bases, and those that mean the same
-//! are one link.
+//! A register of links. References are resolved against their bases, and those with equivalent
+//! targets are one link.
 #![tactic(auto)]
 
 pub mod links;

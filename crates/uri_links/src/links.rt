@@ -1,6 +1,5 @@
-//! A register of links. A link is what a reference means against a base: the meaning of its target
-//! (RFC 3986, sections 5.2 and 6.2.2). So references that are spelt in many ways are one link
-//! exactly if their targets mean the same under the register's default ports.
+//! A register of links (RFC 3986, sections 5.2 and 6.2.2). Two references are one link exactly if
+//! their targets, each against its base, are equivalent under the register's default ports.
 ghost use Rattle.std.specs.Prelude.{◌≡◌, ◌≢◌, ◌↔◌, ◌≤◌, ◌∷◌, ◌++◌, ℕ, [], None, true, is_ok};
 ghost use Rattle.std.specs.Prelude.{length, map, option_map, slice_get, take, IfOk, IfErr, OnErr};
 ghost use Rattle.std.specs.Prelude.{OnOk, IsNone, List, All, bytes_eq, position};
@@ -26,30 +25,35 @@ use fluent_uri::{Uri, UriRef, laws};
 use std::alloc::{AllocError, Global};
 use std::collections::BTreeMap;
 
-/// What a reference that was noted came to. An id is a place in the register, from 0.
+/// What `Register::note` returns for a reference. An id is an index into the register, from 0.
 ///
 /// # Examples
 ///
-/// Against `http://a/b`, the first `c` is `New` with the id 0, and then `./c` is `Known` with the
-/// id 0.
+/// Against `http://a/b`, the first `c` is `New(0)`. Then `./c` is `Known(0)`.
 #[derive(Clone, Copy, Debug, PartialEq, Eq)]
 pub enum Outcome {
-    /// Its target means what no registered one did, and its normal form was registered at this id.
+    /// No registered target was equivalent: the normal form was registered with this id.
     New(usize),
-    /// Its target means what the registered one at this id does.
+    /// The target is equivalent to the registered one with this id.
     Known(usize),
-    /// It has no target, by one of the two errors `BaseWithFragment` and
+    /// The reference has no target. The error is `BaseWithFragment` or
     /// `InvalidReferenceAgainstOpaqueBase`.
     Refused(ResolveError),
 }
 
 /// The normal forms of the targets of the references that were noted, in the order in which each
-/// was first noted. No two mean the same.
+/// was first noted. No two are equivalent.
 ///
 /// # Examples
 ///
-/// Against the base `http://x/a/b`, `//X:80/` is `New(0)`, `/` is `Known(0)`, `c` is `New(1)` and
-/// `../a/%63` is `Known(1)`. The register then has `http://x/` and `http://x/a/c`.
+/// Four references are noted against the base `http://x/a/b`, and two targets are registered:
+///
+/// | Reference | Outcome | Target at that id |
+/// |---|---|---|
+/// | `//X:80/` | `New(0)` | `http://x/` |
+/// | `/` | `Known(0)` | `http://x/` |
+/// | `c` | `New(1)` | `http://x/a/c` |
+/// | `../a/%63` | `Known(1)` | `http://x/a/c` |
 #[derive(Drop)]
 pub struct Register<P: DefaultPort> {
     alloc: Global,
@@ -63,12 +67,12 @@ pub struct Register<P: DefaultPort> {
     // No two are equal.
     pub ghost distinct: { AreDistinct
         (map uri_text targets.items) } by { IsDistinct-prop bytes_eq (map uri_text targets.items) },
-    // The map has the place of each, and nothing else.
+    // The map has the index of each text, and nothing else.
     ghost placed: { (text : List ℕ) →
         get_by_text places text ≡ position (bytes_eq text) (map uri_text targets.items) },
 }
 
-/// What an error comes to: it is an outcome, unless allocation failed.
+/// Returns the outcome of an error, or `AllocError` if it is that allocation failed.
 fn refused(error: ResolveError) -> Result<Outcome, AllocError>
     ensures outcome { IfOk result (λ outcome.
         (outcome ≡ Outcome.Refused error) × (error ≢ ResolveError.OutOfMemory)) }
@@ -83,12 +87,14 @@ fn refused(error: ResolveError) -> Result<Outcome, AllocError>
 impl<P: DefaultPort> Register<P> {
     ghost use Rattle.uri_links.specs.Registers.{port_function_of, texts_of};
 
-    /// A register of no target. It normalises by the normaliser's default ports, whatever that says
-    /// of underflow, and keeps the allocator for its growths; this call takes no memory.
+    /// Returns an empty register, which normalises targets under the normaliser's default ports.
+    ///
+    /// Path underflow is never an error, whatever the normaliser's setting. The register keeps
+    /// `alloc` for later calls. This call allocates nothing.
     ///
     /// # Examples
     ///
-    /// Its `len` is 0.
+    /// The new register's `len` is 0.
     pub fn new(alloc: Global, normalizer: Normalizer<P>) -> Register<P>
         ensures empty { texts_of result ≡ [] }
         ensures ports { port_function_of result ≡ P.port_of (ports_of normalizer) }
@@ -101,22 +107,22 @@ impl<P: DefaultPort> Register<P> {
         }
     }
 
-    /// How many targets are registered: each id is below it.
+    /// Returns the number of registered targets. Each id is less than it.
     ///
     /// # Examples
     ///
-    /// After `c` and `./c` against `http://a/b` it is 1.
+    /// After `c` and `./c` were noted against `http://a/b`, it is 1.
     pub fn len(&self) -> usize
         ensures { result ≡ length (texts_of self.now) }
     {
         self.targets.len()
     }
 
-    /// The registered target at this id, or `None` exactly if no id is that high.
+    /// Returns the registered target with this id, or `None` exactly if the id is not below `len`.
     ///
     /// # Examples
     ///
-    /// After `//X:80/` was noted first, against `http://x/a/b`, the target at 0 is `http://x/`.
+    /// After `//X:80/` was noted against `http://x/a/b`, the target with id 0 is `http://x/`.
     pub fn target(&self, id: usize) -> Option<Uri<&str>>
         ensures target { option_map uri_text result ≡ slice_get (texts_of self.now) id }
         ensures none { IsNone result ↔ (length (texts_of self.now) ≤ id) }
@@ -124,7 +130,7 @@ impl<P: DefaultPort> Register<P> {
         Some(self.targets.get(id)?.borrow())
     }
 
-    /// The normal form of a reference's target against a base.
+    /// Returns the normal form of a reference's target against a base.
     fn normal_target(
         &self,
         base: &Uri<&str>,
@@ -141,7 +147,7 @@ impl<P: DefaultPort> Register<P> {
         resolver.resolve_normalized(self.alloc, reference, &self.normalizer)
     }
 
-    /// The id of the registered target with this text.
+    /// Returns the id of the registered target with this text.
     fn id_of(&self, text: &str) -> Option<usize>
         ensures { result ≡ position (bytes_eq text.now) (texts_of self.now) }
     {
@@ -171,7 +177,7 @@ impl<P: DefaultPort> Register<P> {
         }
     }
 
-    /// What noting a reference with this normal target comes to.
+    /// Notes a reference whose normal target is this one.
     fn note_target(&mut self, target: Uri<String>) -> Result<Outcome, AllocError>
         requires { normal_text (meaning_of uri (port_function_of self.old) (uri_text target))
             ≡ uri_text target }
@@ -187,19 +193,21 @@ impl<P: DefaultPort> Register<P> {
         }
     }
 
-    /// Notes a reference against a base, by the meaning of its target: where a registered target
-    /// has that meaning, its id is returned, and else the target's normal form is registered at the
-    /// end. A reference that has no target is rejected, and nothing is registered.
+    /// Resolves a reference against a base, and registers its target if it is new.
+    ///
+    /// - If a registered target is equivalent, the outcome is `Known`, with that target's id.
+    /// - Otherwise the target's normal form is registered last, and the outcome is `New`.
+    /// - If the reference has no target, the outcome is `Refused`, and nothing is registered.
     ///
     /// # Errors
     ///
-    /// Only if allocation fails. The register has then what it had. A reference that has no target
-    /// asks for no memory, so it is rejected whatever memory there is.
+    /// Returns an error only if allocation fails. The register is then unchanged. For a reference
+    /// that has no target no memory is requested, so the outcome is `Refused` even without memory.
     ///
     /// # Examples
     ///
-    /// Against the base `foo:bar`, `//g` is `Refused(InvalidReferenceAgainstOpaqueBase)`, and
-    /// `foo:x` is `New(0)` after it.
+    /// Against the base `foo:bar`, `//g` is `Refused(InvalidReferenceAgainstOpaqueBase)`. Then
+    /// `foo:x` is `New(0)`.
     pub fn note(
         &mut self,
         base: &Uri<&str>,
@@ -208,13 +216,13 @@ impl<P: DefaultPort> Register<P> {
         ensures noted { IfOk result (λ outcome.
             outcome_of (port_function_of self.old) (uri_text base.now) (texts_of self.old)
             (uri_ref_text reference.now) ≡ (outcome, texts_of self.new)) }
-        // The same by what meanings are, and not by how they are compared.
+        // The same, by equality of meanings in place of a comparison.
         ensures meant { IfOk result
             (IsOutcome (port_function_of self.old) (uri_text base.now) (texts_of self.old)
             (uri_ref_text reference.now)) }
         ensures kept { OnErr result (texts_of self.new ≡ texts_of self.old) }
         ensures ports { port_function_of self.new ≡ port_function_of self.old }
-        // A reference that has no target is rejected whatever memory there is.
+        // If allocation failed, the reference has a target.
         ensures refused { OnErr result (is_ok (resolution_of (components (uri_text base.now))
             (components (uri_ref_text reference.now))) ≡ true) }
     {
@@ -225,13 +233,13 @@ impl<P: DefaultPort> Register<P> {
         }
     }
 
-    /// Notes the references against a base in order, as `note` does each, and returns their
-    /// outcomes in that order.
+    /// Notes each of the references against a base, in order, and returns their outcomes in that
+    /// order.
     ///
     /// # Errors
     ///
-    /// Only if allocation fails. The register has then what it has where some prefix of the
-    /// references was noted, each of them whole, and none after them.
+    /// Returns an error only if allocation fails. The register is then as after noting some prefix
+    /// of the references.
     ///
     /// # Examples
     ///
@@ -245,7 +253,7 @@ impl<P: DefaultPort> Register<P> {
         ensures noted { IfOk result (λ outcomes.
             outcomes_of (port_function_of self.old) (uri_text base.now) (texts_of self.old)
             (map uri_ref_text references.now) ≡ (outcomes.items, texts_of self.new)) }
-        // So each id that is returned has its target.
+        // Each id that is returned has a registered target.
         ensures ids { IfOk result (λ outcomes. All (HasText (texts_of self.new)) outcomes.items) }
         ensures front { OnErr result ((n : ℕ) × (texts_of self.new ≡
             (outcomes_of (port_function_of self.old) (uri_text base.now) (texts_of self.old)

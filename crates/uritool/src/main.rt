@@ -1,5 +1,5 @@
-//! Generic URIs and IRIs on the command line: `uritool parse KIND TEXT`, `uritool normalize KIND
-//! TEXT`, `uritool resolve uri|iri BASE REF` and `uritool links BASE REF...`.
+//! URIs and IRIs on the command line: `uritool parse KIND TEXT`, `uritool normalize KIND TEXT`,
+//! `uritool resolve uri|iri BASE REF` and `uritool links BASE REF...`.
 #![tactic(auto)]
 
 use std::alloc::Global;
@@ -8,7 +8,7 @@ use std::io::{self, ErrorKind, LineWriter, Write};
 use std::process::ExitCode;
 use uri_commands::run::run;
 
-/// The arguments behind the program's name, which need not be UTF-8.
+/// The arguments after the program's name, which may not be UTF-8.
 #[derive(Drop)]
 struct Arguments<'a>(&'a HostRuntime);
 
@@ -27,7 +27,7 @@ impl Env for Arguments<'_> {
     }
 }
 
-/// Tells why there is no answer.
+/// Writes the line, and returns status 1.
 fn refused<E: Write>(err: &mut E, line: &str) -> ExitCode {
     let _ = err.write_all(line.as_bytes());
     ExitCode::from(1)

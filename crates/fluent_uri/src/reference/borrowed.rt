@@ -1,4 +1,4 @@
-//! Values over a text that is borrowed.
+//! Calls of a reference whose text is borrowed.
 ghost use Rattle.std.specs.Prelude.{◌↔◌, ◌≡◌, IfErr, IfOk, IsOk, None, Some, option_map};
 ghost use Rattle.uri_pct.specs.EncodedTexts.{text_of};
 ghost use Rattle.uri_parts.specs.AuthorityTexts.{authority_text};
@@ -18,17 +18,27 @@ use uri_parts::kind::Kind;
 use uri_pct::pct_enc::EStr;
 
 impl<'a, K: Kind> Reference<K, &'a str> {
-    /// Parses a text as one of the kind, once and from left to right, and takes no memory.
+    /// Parses a text as this kind, from left to right, and allocates nothing.
     ///
     /// # Errors
     ///
-    /// Exactly if the text is not of the kind (RFC 3986, sections 3 and 4.1; RFC 3987, section
-    /// 2.2). The error names what is wrong, and where, as a byte offset on a character boundary.
+    /// Returns an error exactly if the text is not of the kind (RFC 3986, sections 3 and 4.1; RFC
+    /// 3987, section 2.2). The error says what is wrong, and at which index: a byte offset on a
+    /// character boundary.
     ///
     /// # Examples
     ///
-    /// `a/b`, which has no scheme, is a `UriRef` but not a `Uri`, and `http://é.example` is an
-    /// `Iri` but not a `Uri`. `../é` is an `IriRef`, and `a b` is of no kind.
+    /// `a/b` has no scheme, so it is a `UriRef` but not a `Uri`. `http://é.example` is an `Iri` but
+    /// not a `Uri`. `../é` is an `IriRef`, and `a b` is of no kind.
+    ///
+    /// ```
+    /// let reference = UriRef::<&str>::parse(text)?;
+    /// Ok(Parts {
+    ///     scheme: reference.scheme().map(Scheme::as_str),
+    ///     host: reference.authority().map(Authority::host),
+    ///     path: reference.path().as_str(),
+    /// })
+    /// ```
     pub fn parse(text: &'a str) -> Result<Reference<K, &'a str>, ParseError>
         ensures accepts { IsOk result ↔ IsOfKind K.kind text.now }
         ensures text { IfOk result (λ value. reference_text value ≡ text.now) }
@@ -45,7 +55,7 @@ impl<'a, K: Kind> Reference<K, &'a str> {
     ///
     /// # Examples
     ///
-    /// Of what was parsed from `http://example.com/a?b#c` it is `http://example.com/a?b#c`.
+    /// A value that was parsed from `http://example.com/a?b#c` returns that text.
     pub fn as_str(self) -> &'a str
         ensures text { result.now ≡ reference_text self.entry }
         ensures of_kind { IsOfKind K.kind result.now }
@@ -58,8 +68,8 @@ impl<'a, K: Kind> Reference<K, &'a str> {
     ///
     /// # Examples
     ///
-    /// Of `http://example.com/a?b#c` it is `example.com`, of the IRI `http://例え.jp/a` it is
-    /// `例え.jp`, and of `http:a` there is none.
+    /// `http://example.com/a?b#c` has the authority `example.com`, the IRI `http://例え.jp/a` has
+    /// `例え.jp`, and `http:a` has none.
     pub fn authority(self) -> Option<Authority<'a, K::UserinfoE, K::RegNameE>>
         ensures { option_map authority_text result
             ≡ (components (reference_text self.entry)).authority }
@@ -71,7 +81,7 @@ impl<'a, K: Kind> Reference<K, &'a str> {
     ///
     /// # Examples
     ///
-    /// Of `http://example.com/a?b#c` it is `/a`, and of `http://example.com` it is empty.
+    /// `http://example.com/a?b#c` has the path `/a`, and the path of `http://example.com` is empty.
     pub fn path(self) -> EStr<'a, K::PathE>
         ensures { text_of result ≡ (components (reference_text self.entry)).path }
     {
@@ -83,7 +93,7 @@ impl<'a, K: Kind> Reference<K, &'a str> {
     ///
     /// # Examples
     ///
-    /// Of `http://example.com/a?b#c` it is `b`, and of `http:a` there is none.
+    /// `http://example.com/a?b#c` has the query `b`, and `http:a` has none.
     pub fn query(self) -> Option<EStr<'a, K::QueryE>>
         ensures { option_map text_of result ≡ (components (reference_text self.entry)).query }
     {
@@ -95,18 +105,18 @@ impl<'a, K: Kind> Reference<K, &'a str> {
     ///
     /// # Examples
     ///
-    /// Of `http://example.com/a?b#c` it is `c`, and of `http:a` there is none.
+    /// `http://example.com/a?b#c` has the fragment `c`, and `http:a` has none.
     pub fn fragment(self) -> Option<EStr<'a, K::FragmentE>>
         ensures { option_map text_of result ≡ (components (reference_text self.entry)).fragment }
     {
         self.core.fragment()
     }
 
-    /// Returns the same without its fragment (RFC 3986, section 3.5): the text up to its `#`.
+    /// Returns the reference without its fragment: the text before the `#` (RFC 3986, section 3.5).
     ///
     /// # Examples
     ///
-    /// Of `http://example.com/#fragment` it is `http://example.com/`.
+    /// `http://example.com/#fragment` becomes `http://example.com/`.
     pub fn strip_fragment(self) -> Reference<K, &'a str>
         ensures { IsWithFragment (reference_text self.entry) None (reference_text result) }
     {
@@ -115,15 +125,15 @@ impl<'a, K: Kind> Reference<K, &'a str> {
         }
     }
 
-    /// Copies the text, and returns the same value over the copy.
+    /// Returns the same reference over a `String`, into which the text is copied.
     ///
     /// # Errors
     ///
-    /// Only if allocation fails.
+    /// Returns an error only if allocation fails.
     ///
     /// # Examples
     ///
-    /// Of `http://example.com/a?b#c` it is `http://example.com/a?b#c`, over a `String`.
+    /// A `Uri<&str>` of `http://example.com/a?b#c` becomes a `Uri<String>` of the same text.
     pub fn to_owned(self, alloc: Global) -> Result<Reference<K, String>, AllocError>
         ensures { IfOk result (λ owned. reference_text owned ≡ reference_text self.entry) }
     {

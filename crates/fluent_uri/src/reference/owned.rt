@@ -1,4 +1,4 @@
-//! Values over a text of their own.
+//! Calls of a reference that owns its text.
 ghost use Rattle.std.specs.Prelude.{◌↔◌, ◌≡◌, IfErr, IfOk, IsOk, None, OnErr, OnOk};
 ghost use Rattle.std.specs.Prelude.{Some, option_map, string_bytes};
 ghost use Rattle.uri_pct.specs.EncodedTexts.{text_of};
@@ -19,18 +19,18 @@ use uri_parts::kind::Kind;
 use uri_pct::pct_enc::EStr;
 
 impl<K: Kind> Reference<K, String> {
-    /// Parses a text as one of the kind, once and from left to right, and takes no memory.
+    /// Parses a text as this kind, from left to right, and allocates nothing.
     ///
     /// # Errors
     ///
-    /// Exactly if the text is not of the kind (RFC 3986, sections 3 and 4.1; RFC 3987, section
-    /// 2.2). The error names what is wrong, and where, as a byte offset on a character boundary;
-    /// the text is returned beside it.
+    /// Returns an error exactly if the text is not of the kind (RFC 3986, sections 3 and 4.1; RFC
+    /// 3987, section 2.2). The error says what is wrong, and at which index: a byte offset on a
+    /// character boundary. The text is returned with it.
     ///
     /// # Examples
     ///
-    /// `a/b`, which has no scheme, is a `UriRef` but not a `Uri`, and `http://é.example` is an
-    /// `Iri` but not a `Uri`. `../é` is an `IriRef`, and `a b` is of no kind.
+    /// `a/b` has no scheme, so it is a `UriRef` but not a `Uri`. `http://é.example` is an `Iri` but
+    /// not a `Uri`. `../é` is an `IriRef`, and `a b` is of no kind.
     pub fn parse(text: String) -> Result<Reference<K, String>, (ParseError, String)>
         ensures accepts { IsOk result ↔ IsOfKind K.kind (string_bytes text) }
         ensures text { IfOk result (λ value. reference_text value ≡ string_bytes text) }
@@ -45,12 +45,11 @@ impl<K: Kind> Reference<K, String> {
         }
     }
 
-    /// Borrows the text, and returns the same value over it.
+    /// Returns the same reference over the borrowed text.
     ///
     /// # Examples
     ///
-    /// Of `http://example.com/a?b#c` over a `String` it is `http://example.com/a?b#c` over a
-    /// `&str`.
+    /// A `Uri<String>` of `http://example.com/a?b#c` lends a `Uri<&str>` of the same text.
     pub fn borrow(&self) -> Reference<K, &str>
         ensures { reference_text result ≡ reference_text self.now }
     {
@@ -59,28 +58,28 @@ impl<K: Kind> Reference<K, String> {
         }
     }
 
-    /// Returns the same without its fragment (RFC 3986, section 3.5): the text up to its `#`.
+    /// Returns the reference without its fragment: the text before the `#` (RFC 3986, section 3.5).
     ///
     /// # Examples
     ///
-    /// Of `http://example.com/#fragment` it is `http://example.com/`.
+    /// `http://example.com/#fragment` becomes `http://example.com/`.
     pub fn strip_fragment(&self) -> Reference<K, &str>
         ensures { IsWithFragment (reference_text self.now) None (reference_text result) }
     {
         self.borrow().strip_fragment()
     }
 
-    /// Puts this fragment, or none, in place of its own (RFC 3986, section 3.5).
+    /// Replaces the fragment, or removes it if `fragment` is `None` (RFC 3986, section 3.5).
     ///
     /// # Errors
     ///
-    /// Only if allocation fails, and never with `None`, which asks for none. The text, with its
-    /// fragment, is then as it was.
+    /// Returns an error only if allocation fails. The text, with its fragment, is then unchanged.
+    /// With `None` nothing is allocated, so there is no error.
     ///
     /// # Examples
     ///
-    /// With the fragment `fragment`, `http://example.com/` becomes `http://example.com/#fragment`,
-    /// and with `None` it is `http://example.com/` again.
+    /// With the fragment `fragment`, `http://example.com/` becomes `http://example.com/#fragment`.
+    /// With `None` that becomes `http://example.com/` again.
     pub fn set_fragment(
         &mut self,
         fragment: Option<EStr<'_, K::FragmentE>>,
@@ -94,11 +93,11 @@ impl<K: Kind> Reference<K, String> {
         self.core.set_fragment(fragment)
     }
 
-    /// Returns the text, with its memory.
+    /// Returns the text as a `String`, without a copy.
     ///
     /// # Examples
     ///
-    /// Of what was parsed from `http://example.com/a?b#c` it is that `String`.
+    /// A value that was parsed from the `String` `http://example.com/a?b#c` returns that `String`.
     pub fn into_string(self) -> String
         ensures { string_bytes result ≡ reference_text self }
     {
@@ -109,7 +108,7 @@ impl<K: Kind> Reference<K, String> {
     ///
     /// # Examples
     ///
-    /// Of what was parsed from `http://example.com/a?b#c` it is `http://example.com/a?b#c`.
+    /// A value that was parsed from `http://example.com/a?b#c` returns that text.
     pub fn as_str(&self) -> &str
         ensures text { result.now ≡ reference_text self.now }
         ensures of_kind { IsOfKind K.kind result.now }
@@ -122,8 +121,8 @@ impl<K: Kind> Reference<K, String> {
     ///
     /// # Examples
     ///
-    /// Of `http://example.com/a?b#c` it is `example.com`, of the IRI `http://例え.jp/a` it is
-    /// `例え.jp`, and of `http:a` there is none.
+    /// `http://example.com/a?b#c` has the authority `example.com`, the IRI `http://例え.jp/a` has
+    /// `例え.jp`, and `http:a` has none.
     pub fn authority(&self) -> Option<Authority<'_, K::UserinfoE, K::RegNameE>>
         ensures { option_map authority_text result
             ≡ (components (reference_text self.now)).authority }
@@ -135,7 +134,7 @@ impl<K: Kind> Reference<K, String> {
     ///
     /// # Examples
     ///
-    /// Of `http://example.com/a?b#c` it is `/a`, and of `http://example.com` it is empty.
+    /// `http://example.com/a?b#c` has the path `/a`, and the path of `http://example.com` is empty.
     pub fn path(&self) -> EStr<'_, K::PathE>
         ensures { text_of result ≡ (components (reference_text self.now)).path }
     {
@@ -147,7 +146,7 @@ impl<K: Kind> Reference<K, String> {
     ///
     /// # Examples
     ///
-    /// Of `http://example.com/a?b#c` it is `b`, and of `http:a` there is none.
+    /// `http://example.com/a?b#c` has the query `b`, and `http:a` has none.
     pub fn query(&self) -> Option<EStr<'_, K::QueryE>>
         ensures { option_map text_of result ≡ (components (reference_text self.now)).query }
     {
@@ -159,7 +158,7 @@ impl<K: Kind> Reference<K, String> {
     ///
     /// # Examples
     ///
-    /// Of `http://example.com/a?b#c` it is `c`, and of `http:a` there is none.
+    /// `http://example.com/a?b#c` has the fragment `c`, and `http:a` has none.
     pub fn fragment(&self) -> Option<EStr<'_, K::FragmentE>>
         ensures { option_map text_of result ≡ (components (reference_text self.now)).fragment }
     {

@@ -1,4 +1,4 @@
-//! What is made of a value over whichever text, and lends nothing of it.
+//! Calls of every reference, whether its text is borrowed or owned. Their results borrow nothing.
 ghost use Rattle.std.specs.Prelude.{◌≡◌, IfOk, is_some, option_map};
 ghost use Rattle.uri_pct.specs.EncodedTexts.{text_of};
 ghost use Rattle.uri_parts.specs.Components.{components};
@@ -49,16 +49,20 @@ impl<K: Kind, T: AsStr> Reference<K, T> {
         self.core().has_fragment()
     }
 
-    /// Returns a copy with this fragment in place of its own, or with none (RFC 3986, section 3.5).
+    /// Returns a copy with this fragment, or without a fragment if it is `None` (RFC 3986, section
+    /// 3.5).
     ///
     /// # Errors
     ///
-    /// Only if allocation fails.
+    /// Returns an error only if allocation fails.
     ///
     /// # Examples
     ///
-    /// Of `http://example.com/` with the fragment `fragment` it is `http://example.com/#fragment`,
-    /// with the empty fragment `http://example.com/#`, and with none `http://example.com/`.
+    /// | Text | Fragment | Copy |
+    /// |---|---|---|
+    /// | `http://example.com/` | `fragment` | `http://example.com/#fragment` |
+    /// | `http://example.com/#a` | empty | `http://example.com/#` |
+    /// | `http://example.com/#a` | `None` | `http://example.com/` |
     pub fn with_fragment(
         &self,
         alloc: Global,
@@ -73,17 +77,22 @@ impl<K: Kind, T: AsStr> Reference<K, T> {
         })
     }
 
-    /// Returns the normal form: what `Normalizer::new()` returns (RFC 3986, section 6.2.2).
+    /// Returns the normal form, as `Normalizer::new()` does (RFC 3986, section 6.2.2).
     ///
     /// # Errors
     ///
-    /// Only if allocation fails.
+    /// Returns an error only if allocation fails.
     ///
     /// # Examples
     ///
-    /// `HTTP://Example.com:80/%7efoo` is normalised to `http://example.com/~foo`.
-    /// `HTTP://example.com/%c3%a9` is normalised to `http://example.com/é` as an IRI, and to
-    /// `http://example.com/%C3%A9` as a URI.
+    /// | Text | Normal form as a URI | As an IRI |
+    /// |---|---|---|
+    /// | `HTTP://Example.com:80/%7efoo` | `http://example.com/~foo` | the same |
+    /// | `HTTP://example.com/%c3%a9` | `http://example.com/%C3%A9` | `http://example.com/é` |
+    ///
+    /// ```
+    /// Ok(Uri::<&str>::parse(text)?.normalize(alloc)?)
+    /// ```
     pub fn normalize(&self, alloc: Global) -> Result<Reference<K, String>, AllocError>
         ensures { IfOk result (λ normal.
             IsNormalForm K.kind default_port (reference_text self.now) (reference_text normal)) }

@@ -1,4 +1,4 @@
-//! The schemes of an `Iri`, which has one (RFC 3987, section 2.2), and of an `IriRef`, which may
+//! The scheme of an `Iri`, which has one (RFC 3987, section 2.2), and of an `IriRef`, which may
 //! have one.
 ghost use Rattle.std.specs.Prelude.{◌≡◌, Some, is_some, option_map};
 ghost use Rattle.uri_parts.specs.Components.{components};
@@ -18,7 +18,7 @@ impl<'a> Reference<IriKind, &'a str> {
     ///
     /// # Examples
     ///
-    /// Of `http://例え.jp/a?b#c` it is `http`.
+    /// `http://例え.jp/a?b#c` has the scheme `http`.
     pub fn scheme(self) -> Scheme<'a>
         ensures { Some (scheme_text result) ≡ (components (reference_text self.entry)).scheme }
     {
@@ -31,7 +31,7 @@ impl Reference<IriKind, String> {
     ///
     /// # Examples
     ///
-    /// Of `http://例え.jp/a?b#c` it is `http`.
+    /// `http://例え.jp/a?b#c` has the scheme `http`.
     pub fn scheme(&self) -> Scheme<'_>
         ensures { Some (scheme_text result) ≡ (components (reference_text self.now)).scheme }
     {
@@ -44,7 +44,7 @@ impl<'a> Reference<IriRefKind, &'a str> {
     ///
     /// # Examples
     ///
-    /// Of `http://例え.jp/a?b#c` it is `http`, and of `a` there is none.
+    /// `http://例え.jp/a?b#c` has the scheme `http`, and `a` has none.
     pub fn scheme(self) -> Option<Scheme<'a>>
         ensures { option_map scheme_text result ≡ (components (reference_text self.entry)).scheme }
     {
@@ -57,7 +57,7 @@ impl Reference<IriRefKind, String> {
     ///
     /// # Examples
     ///
-    /// Of `http://例え.jp/a?b#c` it is `http`, and of `a` there is none.
+    /// `http://例え.jp/a?b#c` has the scheme `http`, and `a` has none.
     pub fn scheme(&self) -> Option<Scheme<'_>>
         ensures { option_map scheme_text result ≡ (components (reference_text self.now)).scheme }
     {
@@ -80,7 +80,7 @@ impl<T: AsStr> Reference<IriRefKind, T> {
 
 #[tactic(auto, using(uri_parts::proofs::TextKinds::KindSets::iri_laws))]
 impl<T: AsStr> fmt::Debug for Reference<IriKind, T> {
-    /// Prints the components by name.
+    /// Prints each component with its name.
     fn fmt<W: fmt::Write>(&self, f: &mut fmt::Formatter<W>) -> fmt::Result {
         let core = self.core();
         core.debug("Iri", core.needed_scheme(), f)
@@ -88,7 +88,7 @@ impl<T: AsStr> fmt::Debug for Reference<IriKind, T> {
 }
 
 impl<T: AsStr> fmt::Debug for Reference<IriRefKind, T> {
-    /// Prints the components by name.
+    /// Prints each component with its name.
     fn fmt<W: fmt::Write>(&self, f: &mut fmt::Formatter<W>) -> fmt::Result {
         let core = self.core();
         core.debug("IriRef", core.scheme(), f)

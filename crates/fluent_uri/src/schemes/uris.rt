@@ -1,4 +1,4 @@
-//! The schemes of a `Uri`, which has one (RFC 3986, section 3), and of a `UriRef`, which may have
+//! The scheme of a `Uri`, which has one (RFC 3986, section 3), and of a `UriRef`, which may have
 //! one (section 4.1).
 ghost use Rattle.std.specs.Prelude.{◌≡◌, Some, is_some, option_map};
 ghost use Rattle.uri_parts.specs.Components.{components};
@@ -18,7 +18,7 @@ impl<'a> Reference<UriKind, &'a str> {
     ///
     /// # Examples
     ///
-    /// Of `http://example.com/a?b#c` it is `http`.
+    /// `http://example.com/a?b#c` has the scheme `http`.
     pub fn scheme(self) -> Scheme<'a>
         ensures { Some (scheme_text result) ≡ (components (reference_text self.entry)).scheme }
     {
@@ -31,7 +31,7 @@ impl Reference<UriKind, String> {
     ///
     /// # Examples
     ///
-    /// Of `http://example.com/a?b#c` it is `http`.
+    /// `http://example.com/a?b#c` has the scheme `http`.
     pub fn scheme(&self) -> Scheme<'_>
         ensures { Some (scheme_text result) ≡ (components (reference_text self.now)).scheme }
     {
@@ -44,7 +44,7 @@ impl<'a> Reference<UriRefKind, &'a str> {
     ///
     /// # Examples
     ///
-    /// Of `http://example.com/a?b#c` it is `http`, and of `a` there is none.
+    /// `http://example.com/a?b#c` has the scheme `http`, and `a` has none.
     pub fn scheme(self) -> Option<Scheme<'a>>
         ensures { option_map scheme_text result ≡ (components (reference_text self.entry)).scheme }
     {
@@ -57,7 +57,7 @@ impl Reference<UriRefKind, String> {
     ///
     /// # Examples
     ///
-    /// Of `http://example.com/a?b#c` it is `http`, and of `a` there is none.
+    /// `http://example.com/a?b#c` has the scheme `http`, and `a` has none.
     pub fn scheme(&self) -> Option<Scheme<'_>>
         ensures { option_map scheme_text result ≡ (components (reference_text self.now)).scheme }
     {
@@ -80,7 +80,7 @@ impl<T: AsStr> Reference<UriRefKind, T> {
 
 #[tactic(auto, using(uri_parts::proofs::TextKinds::KindSets::uri_laws))]
 impl<T: AsStr> fmt::Debug for Reference<UriKind, T> {
-    /// Prints the components by name.
+    /// Prints each component with its name.
     fn fmt<W: fmt::Write>(&self, f: &mut fmt::Formatter<W>) -> fmt::Result {
         let core = self.core();
         core.debug("Uri", core.needed_scheme(), f)
@@ -88,7 +88,7 @@ impl<T: AsStr> fmt::Debug for Reference<UriKind, T> {
 }
 
 impl<T: AsStr> fmt::Debug for Reference<UriRefKind, T> {
-    /// Prints the components by name.
+    /// Prints each component with its name.
     fn fmt<W: fmt::Write>(&self, f: &mut fmt::Formatter<W>) -> fmt::Result {
         let core = self.core();
         core.debug("UriRef", core.scheme(), f)

@@ -4,7 +4,7 @@ use Rattle.fluent_uri.specs.Uris.{uri_ref_text}
 use Rattle.uri_commands.specs.Commands.{are_of_kind, texts}
 use Rattle.uri_commands.proofs.links.parse_references.Given as goal
 
--- the words so far are parsed, and kept where memory is there
+-- the words so far are parsed, and kept if no allocation failed
 abbrev pub invariant-loop-word : goal.invariant-loop-word
 invariant-loop-word l = record {
   of_kind : are_of_kind uri_ref (l.reference ∷ texts (take l.word-index l.others)) ≡ true;
