@@ -5,6 +5,7 @@ pub mod Digits
 pub mod GroupTurns
 pub mod Literals
 pub mod Names
+pub mod OnLiterals
 pub mod Rooted
 pub mod Rows
 pub mod Sound

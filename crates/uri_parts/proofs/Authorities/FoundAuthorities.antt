@@ -49,7 +49,8 @@ pub record IsFound (kind : Kind) (rest : List ℕ) : Type 0 where
 module _ (segment : TableSet) (kind : Kind) (w : Separates segment kind) where
   -- a name and a port are the prefix of userinfo
   port_prefix : (bs : List ℕ)
-      → valid_prefix kind.userinfo bs ≡ port_length bs + valid_prefix kind.userinfo (drop (port_length bs) bs)
+      → valid_prefix kind.userinfo bs
+      ≡ port_length bs + valid_prefix kind.userinfo (drop (port_length bs) bs)
   unfolding port_length
   port_prefix [] =
       let a : valid_prefix kind.userinfo (drop (port_length []) []) ≡ 0 = prefix_nil kind.userinfo in
@@ -65,7 +66,8 @@ module _ (segment : TableSet) (kind : Kind) (w : Separates segment kind) where
       let digits = valid_prefix-within digit_set kind.userinfo w.digits_within refl bs in
       let d = ap (valid_prefix kind.userinfo) (behind_mark (valid_prefix digit_set bs) (b ∷ bs)) in
       let sum : valid_prefix kind.userinfo (b ∷ bs)
-      ≡ 1 + valid_prefix digit_set bs + valid_prefix kind.userinfo (drop (1 + valid_prefix digit_set bs) (b ∷ bs)) =
+      ≡ 1 + valid_prefix digit_set bs
+      + valid_prefix kind.userinfo (drop (1 + valid_prefix digit_set bs) (b ∷ bs)) =
       omega (arith, one, digits, d) in
       sum ∙ sym (ap (λ n. n + valid_prefix kind.userinfo (drop n (b ∷ bs))) l))
       (λ e.

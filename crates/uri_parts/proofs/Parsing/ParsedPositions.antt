@@ -206,13 +206,16 @@ module _ (segment : TableSet) (kind : Kind) (w : Separates segment kind) where
       let a : after kind.path inner ≡ after kind.path text =
       ap (after kind.path) (segment_within segment kind w text)
       ∙ after_within segment kind w text in
-      let n : valid_prefix scheme_set text + valid_prefix segment (after scheme_set text) ≡ valid_prefix segment text =
+      let n : valid_prefix scheme_set text + valid_prefix segment (after scheme_set text)
+      ≡ valid_prefix segment text =
       sym (valid_prefix-within scheme_set segment w.scheme_within scheme_lacks text) in
       let k : valid_prefix kind.path inner ≡ valid_prefix kind.path (after segment text) =
       ap (valid_prefix kind.path) (segment_within segment kind w text) in
-      let f : valid_prefix kind.path text ≡ valid_prefix segment text + valid_prefix kind.path (after segment text) =
+      let f : valid_prefix kind.path text
+      ≡ valid_prefix segment text + valid_prefix kind.path (after segment text) =
       valid_prefix-within segment kind.path w.within w.segment_lacks text in
-      let e : valid_prefix scheme_set text + valid_prefix segment (after scheme_set text) + valid_prefix kind.path inner
+      let e : valid_prefix scheme_set text + valid_prefix segment (after scheme_set text)
+      + valid_prefix kind.path inner
       ≡ 0 + valid_prefix kind.path text = omega arith in
       λ i. record {
         scheme_end = None;

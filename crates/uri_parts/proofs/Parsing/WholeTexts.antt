@@ -64,7 +64,8 @@ slashes_prefix (b ∷ rest) e = prefix_zero_mark (codes ":/?#") scheme_set schem
 
 -- slashes are next behind no character of a scheme exactly where the text begins with them
 pub slashes_scanned : (text : List ℕ)
-    → (eqb (valid_prefix scheme_set text) 0 && has_authority (after scheme_set text)) ≡ has_authority text
+    → (eqb (valid_prefix scheme_set text) 0 && has_authority (after scheme_set text))
+    ≡ has_authority text
 slashes_scanned text = ⊎_elim
     (λ a. let z = slashes_prefix text a in
     and_from _ _ (eq-eqb _ 0 z) (ap (λ n. has_authority (drop n text)) z ∙ a) ∙ sym a)

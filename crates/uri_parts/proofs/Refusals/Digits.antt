@@ -1,12 +1,14 @@
 -- Where digits end.
 use Rattle.std.proofs.Common.{◌≡◌, ℕ, ◌+◌, ◌-◌, ◌<◌, ◌≤◌, true, false, List, [], ◌∷◌}
 use Rattle.std.proofs.Common.{length, get_or, take, drop, sym, ap, ◌∙◌, arith, refl, ⊎_elim, ltb-true}
-use Rattle.std.proofs.Common.{zero, suc, ◌&&◌, length-drop, length-take-le, inl, inr, ◌⊎◌, Some, None, cond}
+use Rattle.std.proofs.Common.{zero, suc, ◌&&◌, length-drop, length-take-le, inl, inr, ◌⊎◌, Some}
+use Rattle.std.proofs.Common.{None, cond}
 use Rattle.std.specs.Prelude.{slice_range, Result, Ok, Err, is_ok, nat_lt, nat_le, ◌==◌, option_and_then}
 use Rattle.std.specs.Char.{is_digit, digit_value}
 use Rattle.std.specs.Str.Parse.{AllDigits, ParsesUnsigned, digits_value, without_leading_plus}
 use Rattle.std.specs.Net.Reader.{digit_count}
-use Rattle.std.proofs.lemmas.Bool.{cond-true, cond-false, cases_Bool, ne_eqb, and_from, and_left, and_right}
+use Rattle.std.proofs.lemmas.Bool.{cond-true, cond-false, cases_Bool, ne_eqb, and_from, and_left}
+use Rattle.std.proofs.lemmas.Bool.{and_right}
 use Rattle.std.proofs.lemmas.Bool.{lt-ltb, le-ltb, le-leb, lt-leb, cases_lt}
 use Rattle.std.proofs.lemmas.Bool.Decides.{nat_tests}
 use Rattle.std.proofs.lemmas.List.{drop_more, drop_all}

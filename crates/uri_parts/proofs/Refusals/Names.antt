@@ -20,8 +20,9 @@ use Rattle.uri_parts.specs.Scanning.{is_next, scan_end}
 use Rattle.uri_parts.specs.Grammar.{Kind}
 use Rattle.uri_parts.specs.Models.AuthorityParsing.{begins_any, port_length, name_length, finds_name}
 use Rattle.uri_parts.specs.Models.AuthorityParsing.{user_length}
-use Rattle.uri_parts.specs.Models.ParseErrors.{left_over_error, name_error, ended_error, port_error, host_error}
-use Rattle.uri_parts.specs.Models.ParseErrors.{userinfo_error, other_error, authority_error}
+use Rattle.uri_parts.specs.Models.ParseErrors.{left_over_error, name_error, ended_error, port_error}
+use Rattle.uri_parts.specs.Models.ParseErrors.{host_error, userinfo_error, other_error}
+use Rattle.uri_parts.specs.Models.ParseErrors.{authority_error}
 use Rattle.uri_parts.proofs.Authorities.NamesAndPorts.{prefix_nil}
 use Rattle.uri_parts.proofs.Authorities.FoundAuthorities.{user_is, more_is}
 use Rattle.uri_parts.proofs.Refusals.Colons.{last_below, last_at, last_plain, last_kept}
@@ -246,8 +247,8 @@ module _ (segment : TableSet) (kind : Kind) (w : Separates segment kind) (a : Ad
         ∙ cond-false _ _ _ (and_right _ _ (ap (is_next text 37) u ∙ o.percent))
         ∙ cond-false _ _ _ (ap (is_next text 64) u ∙ o.at)
         ∙ ⊎_elim
-        (λ d. cond-true _ _ _ d ∙ host_alone (ap (is_next text 91) (sym (eqb-true user i d) ∙ u) ∙ o.bracket)
-        ∙ alone true f)
+        (λ d. cond-true _ _ _ d
+        ∙ host_alone (ap (is_next text 91) (sym (eqb-true user i d) ∙ u) ∙ o.bracket) ∙ alone true f)
         (λ d. cond-false _ _ _ d ∙ name_is ∙ cond-true _ _ _ (eq-eqb behind user (sym u))
         ∙ ap (ended_error kind text) u ∙ alone true f)
         (cases_Bool (eqb user i)))

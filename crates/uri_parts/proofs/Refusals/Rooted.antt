@@ -60,7 +60,8 @@ stray_stops small great bs s g e = ⊎_elim
     (cases_Bool (begins_hex bs))
 
 pub stray_prefix : (small great : TableSet) (bs : List ℕ) → small.pct_encoded ≡ true
-    → great.pct_encoded ≡ true → valid_prefix small bs ≡ 0 → starts 37 bs ≡ true → valid_prefix great bs ≡ 0
+    → great.pct_encoded ≡ true → valid_prefix small bs ≡ 0 → starts 37 bs ≡ true
+    → valid_prefix great bs ≡ 0
 stray_prefix small great [] s g e p = absurd (false≢true p)
 stray_prefix small great (b ∷ bs) s g e p =
     let d = eqb-true b 37 p in

@@ -162,8 +162,8 @@ module _ (segment : TableSet) (kind : Kind) (w : Separates segment kind) where
   unfolding parses_path
   path_after bs = ap (λ r. not (is_stray kind.path r) && parses_end kind r) (after_within bs)
 
-  percent_path : (r : List ℕ) → starts 37 r ≡ true → valid_prefix segment r ≡ 0 → is_stray segment r ≡ true
-      → parses_path kind r ≡ false
+  percent_path : (r : List ℕ) → starts 37 r ≡ true → valid_prefix segment r ≡ 0
+      → is_stray segment r ≡ true → parses_path kind r ≡ false
   unfolding parses_path
   percent_path [] e z s = absurd (false≢true e)
   percent_path (b ∷ rest) e z s =
@@ -208,8 +208,10 @@ module _ (segment : TableSet) (kind : Kind) (w : Separates segment kind) where
 
   -- what might have been a scheme is the beginning of the segment
   pub segment_within : (bs : List ℕ) → after segment (after scheme_set bs) ≡ after segment bs
-  segment_within bs = drop-drop (valid_prefix segment (after scheme_set bs)) (valid_prefix scheme_set bs) bs
-      ∙ ap (λ n. drop n bs) (sym (valid_prefix-within scheme_set segment w.scheme_within scheme_lacks bs))
+  segment_within bs =
+      drop-drop (valid_prefix segment (after scheme_set bs)) (valid_prefix scheme_set bs) bs
+      ∙ ap (λ n. drop n bs)
+      (sym (valid_prefix-within scheme_set segment w.scheme_within scheme_lacks bs))
 
   pub relative_within : (bs : List ℕ)
       → parses_relative segment kind (after scheme_set bs) ≡ parses_relative segment kind bs

@@ -43,6 +43,7 @@ pub valid_lacks : (set : TableSet) (marks : List ℕ) → LacksPercent set → e
 valid_lacks set marks lacks outside text u valid =
     let scanned : valid_prefix set text ≡ length text =
     eqb-true _ _ (sym (valid_where_scanned set text lacks u) ∙ valid) in
-    let le : valid_prefix set text ≤ to_mark marks text = prefix_le_mark marks set lacks outside text u in
+    let le : valid_prefix set text ≤ to_mark marks text =
+    prefix_le_mark marks set lacks outside text u in
     let whole : before_any marks text ≡ text = take_all _ text (omega arith) in
     subst (Lacks marks) whole (IsCut-any marks text).lacks

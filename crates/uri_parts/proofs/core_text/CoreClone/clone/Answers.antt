@@ -1,5 +1,5 @@
 -- A copy of a core is the core: what holds of its fields has one proof.
-use Rattle.std.proofs.Common.{◌≡◌, ℕ, List, ap}
+use Rattle.std.proofs.Common.{ℕ, List, ap}
 use Rattle.std.proofs.Props.{props}
 use Rattle.uri_parts.specs.Grammar.{Kind, IsOfKind}
 use Rattle.uri_parts.specs.Positions.{AreAt}
