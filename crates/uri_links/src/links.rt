@@ -54,6 +54,11 @@ pub enum Outcome {
 /// | `/` | `Known(0)` | `http://x/` |
 /// | `c` | `New(1)` | `http://x/a/c` |
 /// | `../a/%63` | `Known(1)` | `http://x/a/c` |
+///
+/// ```
+/// let mut register = Register::new(alloc, Normalizer::new());
+/// let outcomes = register.note_all(&base, references.as_slice())?;
+/// ```
 #[derive(Drop)]
 pub struct Register<P: DefaultPort> {
     alloc: Global,

@@ -70,6 +70,12 @@ impl<'a, K: Kind> Reference<K, &'a str> {
     ///
     /// `http://example.com/a?b#c` has the authority `example.com`, the IRI `http://例え.jp/a` has
     /// `例え.jp`, and `http:a` has none.
+    ///
+    /// ```
+    /// let authority = uri.authority()?;
+    /// let port = uri.scheme().default_port().unwrap_or(port);
+    /// Some(authority.socket_target(alloc, port))
+    /// ```
     pub fn authority(self) -> Option<Authority<'a, K::UserinfoE, K::RegNameE>>
         ensures { option_map authority_text result
             ≡ (components (reference_text self.entry)).authority }
