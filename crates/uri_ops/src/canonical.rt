@@ -34,8 +34,8 @@ pub fn meaning_under_ports()
         → meaning_of kind ports text ≡ under ports (bare_meaning_of kind text) }
 {}
 
-/// Two meanings are equal exactly if each of their parts is, which `same_meaning` computes (RFC 3986,
-/// section 6.2.2).
+/// Two meanings are equal exactly if each of their parts is, which `same_meaning` computes (RFC
+/// 3986, section 6.2.2).
 ///
 /// # Examples
 ///

@@ -17,7 +17,7 @@ ghost use Rattle.uri_ops.specs.Models.Written.{authority_parts_at};
 
 use crate::default_port::DefaultPort;
 use crate::reading::{push_component, push_lower, push_read_host};
-use std::alloc::{AllocError, Global};
+use std::alloc::AllocError;
 use uri_parts::component::{Authority, HostOf, Scheme};
 use uri_parts::positions::AuthorityPositions;
 use uri_pct::encoder::Encoder;
@@ -28,7 +28,6 @@ use uri_pct::encoder::Encoder;
 /// After an error, part of it may have been appended.
 #[doc(hidden)]
 pub fn push_authority<U: Encoder, R: Encoder, P: DefaultPort>(
-    alloc: Global,
     authority: Authority<'_, U, R>,
     scheme: Option<Scheme<'_>>,
     ports: &P,
@@ -46,9 +45,9 @@ pub fn push_authority<U: Encoder, R: Encoder, P: DefaultPort>(
         (normal_parts (authority_meaning kind default (authority_text authority.entry)))) }
 {
     let start = out.len();
-    push_userinfo(alloc, authority, out)?;
+    push_userinfo(authority, out)?;
     let host_start = out.len();
-    push_host(alloc, authority, out)?;
+    push_host(authority, out)?;
     let host_end = out.len();
     push_port(authority, scheme, ports, out)?;
     Ok(AuthorityPositions {
@@ -61,7 +60,6 @@ pub fn push_authority<U: Encoder, R: Encoder, P: DefaultPort>(
 
 /// Appends what is read of the userinfo, and its `@`.
 fn push_userinfo<U: Encoder, R: Encoder>(
-    alloc: Global,
     authority: Authority<'_, U, R>,
     out: &mut String,
 ) -> Result<(), AllocError>
@@ -72,7 +70,7 @@ fn push_userinfo<U: Encoder, R: Encoder>(
     let Some(userinfo) = authority.userinfo() else {
         return Ok(());
     };
-    push_component(alloc, userinfo, out)?;
+    push_component(userinfo, out)?;
     out.push('@')
 }
 
@@ -82,7 +80,6 @@ fn push_userinfo<U: Encoder, R: Encoder>(
 /// After an error, part of it may have been appended.
 #[doc(hidden)]
 pub fn push_host<U: Encoder, R: Encoder>(
-    alloc: Global,
     authority: Authority<'_, U, R>,
     out: &mut String,
 ) -> Result<(), AllocError>
@@ -92,7 +89,7 @@ pub fn push_host<U: Encoder, R: Encoder>(
 {
     let host = authority.host();
     if !is_bracketed(host) {
-        return push_read_host(alloc, &R::table(), host, out);
+        return push_read_host(&R::table(), host, out);
     }
     match authority.host_parsed() {
         HostOf::Ipv6(address) => write!(out, "[{address}]"),

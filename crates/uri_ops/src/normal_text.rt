@@ -28,7 +28,7 @@ use crate::normal_authority::push_authority;
 use crate::read_paths::push_read_path;
 use crate::reading::{push_component, push_lower, push_read};
 use crate::slashes::{begins_with_two_slashes, guard_path};
-use std::alloc::{AllocError, Global};
+use std::alloc::AllocError;
 use uri_parts::component::{Authority, Scheme};
 use uri_parts::core_text::Core;
 use uri_parts::kind::Kind;
@@ -55,7 +55,6 @@ fn push_scheme(scheme: Option<Scheme<'_>>, out: &mut String) -> Result<Option<us
 
 /// Appends `//` and the normal form of the authority after this scheme, and returns where it is.
 fn push_marked_authority<U: Encoder, R: Encoder, P: DefaultPort>(
-    alloc: Global,
     authority: Option<Authority<'_, U, R>>,
     scheme: Option<Scheme<'_>>,
     ports: &P,
@@ -79,13 +78,12 @@ fn push_marked_authority<U: Encoder, R: Encoder, P: DefaultPort>(
     };
     out.push('/')?;
     out.push('/')?;
-    let places = push_authority(alloc, authority, scheme, ports, out)?;
+    let places = push_authority(authority, scheme, ports, out)?;
     Ok(Some(places))
 }
 
 /// Appends what is read of a query or a fragment, after its mark, and returns where it ends.
 fn push_marked<E: Encoder>(
-    alloc: Global,
     mark: char,
     part: Option<EStr<'_, E>>,
     out: &mut String,
@@ -101,7 +99,7 @@ fn push_marked<E: Encoder>(
         return Ok(None);
     };
     out.push(mark)?;
-    push_component(alloc, part, out)?;
+    push_component(part, out)?;
     Ok(Some(out.len()))
 }
 
@@ -120,7 +118,6 @@ fn guard_before(follows_authority: bool, path: &str) -> &'static str
 
 /// Appends what is read of a path, with `/.` before it where it would be read as an authority.
 fn push_read_guarded<E: Encoder>(
-    alloc: Global,
     follows_authority: bool,
     path: &str,
     out: &mut String,
@@ -131,13 +128,12 @@ fn push_read_guarded<E: Encoder>(
         → OnOk result (Pushes out.old out.new (guarded authority (print (read E.set path.now)))) }
 {
     push_some(guard_before(follows_authority, path), out)?;
-    push_read(alloc, &E::table(), path, out)
+    push_read(&E::table(), path, out)
 }
 
 /// Appends what is read of a path without its dot segments, with `/.` before it where it would be
 /// read as an authority, and returns whether a double dot had nothing left to remove.
 fn push_read_cleaned<E: Encoder>(
-    alloc: Global,
     has_authority: bool,
     path: EStr<'_, E>,
     out: &mut String,
@@ -151,7 +147,7 @@ fn push_read_cleaned<E: Encoder>(
     ensures underflow { IfOk result (λ underflowed. underflowed ≡ underflows (text_of path.entry)) }
 {
     let start = out.len();
-    let underflowed = push_read_path(alloc, &E::table(), path.as_str(), out)?;
+    let underflowed = push_read_path(&E::table(), path.as_str(), out)?;
     if !has_authority {
         guard_path(start, out)?;
     }
@@ -161,7 +157,6 @@ fn push_read_cleaned<E: Encoder>(
 /// Appends what is read of a path that is under a scheme and begins with `/`, without its dot
 /// segments, and returns whether a double dot had nothing left to remove.
 fn push_absolute<E: Encoder>(
-    alloc: Global,
     has_authority: bool,
     path: EStr<'_, E>,
     out: &mut String,
@@ -175,16 +170,15 @@ fn push_absolute<E: Encoder>(
     ensures underflow { IfOk result (λ underflowed. underflowed ≡ underflows (text_of path.entry)) }
 {
     if has_dot_segments(path.as_str()) {
-        return push_read_cleaned(alloc, has_authority, path, out);
+        return push_read_cleaned(has_authority, path, out);
     }
-    push_read_guarded::<E>(alloc, has_authority, path.as_str(), out)?;
+    push_read_guarded::<E>(has_authority, path.as_str(), out)?;
     Ok(false)
 }
 
 /// Appends a path as it is in a normal text, and returns whether a double dot had nothing left
 /// to remove. Only under a scheme and from a `/` on are dot segments removed.
 fn push_normal_path<E: PathEncoder>(
-    alloc: Global,
     has_scheme: bool,
     has_authority: bool,
     path: EStr<'_, E>,
@@ -200,9 +194,9 @@ fn push_normal_path<E: PathEncoder>(
         → IfOk result (λ underflowed. underflowed ≡ path_underflows scheme (text_of path.entry)) }
 {
     if has_scheme && path.is_absolute() {
-        return push_absolute(alloc, has_authority, path, out);
+        return push_absolute(has_authority, path, out);
     }
-    push_component(alloc, path, out)?;
+    push_component(path, out)?;
     Ok(false)
 }
 
@@ -212,7 +206,6 @@ fn push_normal_path<E: PathEncoder>(
 /// After an error, part of it may have been appended.
 #[doc(hidden)]
 pub fn push_normal<K: Kind, P: DefaultPort>(
-    alloc: Global,
     core: Core<K, &str>,
     ports: &P,
     out: &mut String,
@@ -228,13 +221,13 @@ pub fn push_normal<K: Kind, P: DefaultPort>(
 {
     let scheme = core.scheme();
     let scheme_end = push_scheme(scheme, out)?;
-    let authority = push_marked_authority(alloc, core.authority(), scheme, ports, out)?;
+    let authority = push_marked_authority(core.authority(), scheme, ports, out)?;
     let path_start = out.len();
     let path = core.path();
-    let underflows = push_normal_path(alloc, core.has_scheme(), core.has_authority(), path, out)?;
+    let underflows = push_normal_path(core.has_scheme(), core.has_authority(), path, out)?;
     let path_end = out.len();
-    let query_end = push_marked(alloc, '?', core.query(), out)?;
-    push_marked(alloc, '#', core.fragment(), out)?;
+    let query_end = push_marked('?', core.query(), out)?;
+    push_marked('#', core.fragment(), out)?;
     let positions = Positions {
         scheme_end,
         authority,

@@ -86,7 +86,7 @@ fn written_form<K: Kind, P: DefaultPort>(
         made.underflows ≡ text_underflows (core_text core.entry)) }
 {
     let mut text = String::with_capacity(alloc, core.as_str().len())?;
-    let (positions, underflows) = push_normal(alloc, core, ports, &mut text)?;
+    let (positions, underflows) = push_normal(core, ports, &mut text)?;
     Ok(Normalized {
         text,
         positions,

@@ -9,7 +9,7 @@ ghost use Rattle.uri_pct.specs.Texts.{Pushes};
 ghost use Rattle.uri_ops.specs.Models.Pieces.{IsInPieces, in_pieces};
 
 use crate::reading::push_read;
-use std::alloc::{AllocError, Global};
+use std::alloc::AllocError;
 use uri_pct::table::Table;
 
 /// Whether a text is `/` alone.
@@ -22,7 +22,7 @@ fn is_slash(text: &[u8]) -> bool
 /// Appends what is read of a piece of a path. A `/` by itself, as after an empty segment, is read
 /// as it is.
 #[inline(always)]
-fn push_piece(alloc: Global, table: &Table, piece: &str, out: &mut String) -> Result<(), AllocError>
+fn push_piece(table: &Table, piece: &str, out: &mut String) -> Result<(), AllocError>
     requires { IsValidFor widest_set piece.now }
     ensures { OnOk result (Pushes out.old out.new (print (read (set_of table.now) piece.now))) }
 {
@@ -30,7 +30,7 @@ fn push_piece(alloc: Global, table: &Table, piece: &str, out: &mut String) -> Re
         out.push('/')?;
         return Ok(());
     }
-    push_read(alloc, table, piece, out)
+    push_read(table, piece, out)
 }
 
 /// How the pieces of a path are appended.
@@ -39,7 +39,7 @@ pub(crate) enum Pieces<'t> {
     /// As they are.
     Copied,
     /// As what is read of them, where the table tells what a path allows.
-    Read(Global, &'t Table),
+    Read(&'t Table),
 }
 
 impl Pieces<'_> {
@@ -51,7 +51,7 @@ impl Pieces<'_> {
     {
         match self {
             Pieces::Copied => out.push_str(piece),
-            Pieces::Read(alloc, table) => push_piece(alloc, table, piece, out),
+            Pieces::Read(table) => push_piece(table, piece, out),
         }
     }
 }

@@ -10,14 +10,13 @@ ghost use Rattle.uri_ops.specs.Dots.{IsAbsolute, remove_dot_segments, underflows
 
 use crate::dot_segments::push_segments;
 use crate::pieces::Pieces;
-use std::alloc::{AllocError, Global};
+use std::alloc::AllocError;
 use uri_pct::table::Table;
 
 /// Appends what is read of a path that begins with `/`, without its dot segments, and returns
 /// whether a double dot had nothing left to remove. A double dot takes back the last segment of
 /// what was appended.
 pub(crate) fn push_read_path(
-    alloc: Global,
     table: &Table,
     path: &str,
     out: &mut String,
@@ -32,6 +31,6 @@ pub(crate) fn push_read_path(
 {
     let start = out.len();
     out.push('/')?;
-    let underflowed = push_segments(Pieces::Read(alloc, table), &path[1..], start, out)?;
+    let underflowed = push_segments(Pieces::Read(table), &path[1..], start, out)?;
     Ok(underflowed)
 }

@@ -15,7 +15,7 @@ ghost use Rattle.uri_ops.specs.Models.Readings.{cased};
 
 use crate::formatting::encode_formatting;
 use crate::fronts::{are_upper, push_alone, push_letter, push_octet, push_plain, push_some, spelt};
-use std::alloc::{AllocError, Global};
+use std::alloc::AllocError;
 use uri_pct::decode::{Decode, unencoded_len};
 use uri_pct::encode::{push_octets, push_text};
 use uri_pct::encoder::Encoder;
@@ -27,7 +27,6 @@ use uri_pct::table::Table;
 /// A text that grows by what is read of a component, perhaps with its letters lowered.
 #[derive(Drop)]
 struct Reading<'a> {
-    alloc: Global,
     table: Table,
     lowers: bool,
     text: &'a mut String,
@@ -47,13 +46,7 @@ impl<'a> TakeParts for Reading<'a> {
     }
 
     fn take_well_formed(&mut self, text: &str) -> Result<(), AllocError> {
-        let readable = self.table.readable();
-        if self.lowers {
-            let lower = text.to_ascii_lowercase(self.alloc)?;
-            push_text(&readable, &lower, self.text)
-        } else {
-            push_text(&readable, text, self.text)
-        }
+        push_text(&self.table.readable(), text, self.text)
     }
 
     fn take_ascii(&mut self, byte: u8) -> Result<(), AllocError> {
@@ -77,19 +70,12 @@ fn encodes_formatting(table: &Table) -> bool
 ///
 /// It is a function of its own, since most texts have no part that asks for a window.
 #[inline(never)]
-fn push_parts(
-    alloc: Global,
-    table: &Table,
-    lowers: bool,
-    text: &str,
-    out: &mut String,
-) -> Result<(), AllocError>
+fn push_parts(table: &Table, lowers: bool, text: &str, out: &mut String) -> Result<(), AllocError>
     requires { IsValidFor widest_set text.now }
     ensures { OnOk result (Pushes out.old out.new
         (print (cased lowers (read_tokens (set_of table.now) (tokens text.now))))) }
 {
     let mut reading = Reading {
-        alloc,
         table: *table,
         lowers,
         text: out,
@@ -105,7 +91,6 @@ fn push_parts(
 /// It is a function of its own, since most texts have no octet.
 #[inline(never)]
 fn push_runs(
-    alloc: Global,
     table: &Table,
     lowers: bool,
     text: &str,
@@ -137,7 +122,7 @@ fn push_runs(
         }
         if high >= b'8' && !alone {
             push_plain(lowers, &text[done..end], out)?;
-            return push_parts(alloc, table, lowers, &text[end..], out);
+            return push_parts(table, lowers, &text[end..], out);
         }
         if !lowers && are_upper(high, low) {
             end += 3;
@@ -152,13 +137,7 @@ fn push_runs(
 }
 
 /// Appends what `push_runs` does. A text without octets is pushed at once.
-fn push_tokens(
-    alloc: Global,
-    table: &Table,
-    lowers: bool,
-    text: &str,
-    out: &mut String,
-) -> Result<(), AllocError>
+fn push_tokens(table: &Table, lowers: bool, text: &str, out: &mut String) -> Result<(), AllocError>
     requires { IsValidFor widest_set text.now }
     ensures { OnOk result (Pushes out.old out.new
         (print (cased lowers (read_tokens (set_of table.now) (tokens text.now))))) }
@@ -167,23 +146,17 @@ fn push_tokens(
     if first == text.len() {
         return push_plain(lowers, text, out);
     }
-    push_runs(alloc, table, lowers, text, first, out)
+    push_runs(table, lowers, text, first, out)
 }
 
 /// Appends what is read of the text, with its letters lowered where that is asked.
-fn push_cased(
-    alloc: Global,
-    table: &Table,
-    lowers: bool,
-    text: &str,
-    out: &mut String,
-) -> Result<(), AllocError>
+fn push_cased(table: &Table, lowers: bool, text: &str, out: &mut String) -> Result<(), AllocError>
     requires { IsValidFor widest_set text.now }
     ensures { OnOk result (Pushes out.old out.new
         (print (cased lowers (read (set_of table.now) text.now)))) }
 {
     let start = out.as_str().len();
-    push_tokens(alloc, table, lowers, text, out)?;
+    push_tokens(table, lowers, text, out)?;
     if encodes_formatting(table) {
         encode_formatting(start, out)
     } else {
@@ -197,16 +170,11 @@ fn push_cased(
 ///
 /// After an error, part of it may have been appended.
 #[doc(hidden)]
-pub fn push_read(
-    alloc: Global,
-    table: &Table,
-    text: &str,
-    out: &mut String,
-) -> Result<(), AllocError>
+pub fn push_read(table: &Table, text: &str, out: &mut String) -> Result<(), AllocError>
     requires { IsValidFor widest_set text.now }
     ensures { OnOk result (Pushes out.old out.new (print (read (set_of table.now) text.now))) }
 {
-    push_cased(alloc, table, false, text, out)
+    push_cased(table, false, text, out)
 }
 
 /// Appends what is read of a component over its encoder, as `push_read` does.
@@ -214,13 +182,12 @@ pub fn push_read(
 /// After an error, part of it may have been appended.
 #[doc(hidden)]
 pub fn push_component<E: Encoder>(
-    alloc: Global,
     component: EStr<'_, E>,
     out: &mut String,
 ) -> Result<(), AllocError>
     ensures { OnOk result (Pushes out.old out.new (print (read E.set (text_of component.entry)))) }
 {
-    push_read(alloc, &E::table(), component.as_str(), out)
+    push_read(&E::table(), component.as_str(), out)
 }
 
 /// Appends what is read of a name: as `push_read` does, with the ASCII letters in lower case, also
@@ -228,17 +195,12 @@ pub fn push_component<E: Encoder>(
 ///
 /// After an error, part of it may have been appended.
 #[doc(hidden)]
-pub fn push_read_host(
-    alloc: Global,
-    table: &Table,
-    text: &str,
-    out: &mut String,
-) -> Result<(), AllocError>
+pub fn push_read_host(table: &Table, text: &str, out: &mut String) -> Result<(), AllocError>
     requires { IsValidFor widest_set text.now }
     ensures { OnOk result (Pushes out.old out.new
         (print (map lower_token (read (set_of table.now) text.now)))) }
 {
-    push_cased(alloc, table, true, text, out)
+    push_cased(table, true, text, out)
 }
 
 /// How far the text has no ASCII letter in upper case.

@@ -1,7 +1,7 @@
 -- A text as it is decoded: what stands for itself, and the UTF-8 pieces of each maximal run of
 -- octets (RFC 3986, section 2.1; Unicode, section 3.9).
-use Rattle.std.specs.Prelude.{ℕ, List, [], ◌∷◌, ◌++◌, map}
-use Rattle.std.specs.List.{flat_map}
+use Rattle.std.specs.Prelude.{ℕ, ◌≤◌, List, [], ◌∷◌, ◌++◌, map}
+use Rattle.std.specs.List.{All, flat_map}
 use Rattle.uri_pct.specs.Chunks.{Chunk, Text, Byte, chunks}
 use Rattle.uri_pct.specs.Pieces.{Piece, IllFormed, utf8_pieces}
 
@@ -32,3 +32,7 @@ pieces_of ps = flat_map part_pieces ps
 abbrev pub fault_pieces : List ℕ → List Piece
 fault_pieces [] = []
 fault_pieces (b ∷ bytes) = IllFormed (b ∷ bytes) ∷ []
+
+-- no byte is of a character of ASCII
+abbrev pub ArePastAscii : List ℕ → Type 0
+ArePastAscii bytes = All (λ b. 128 ≤ b) bytes

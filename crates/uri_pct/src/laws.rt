@@ -48,9 +48,9 @@ pub fn octets_are_read_in_either_case()
         ∷ digit_glyph upper (value % 16) ∷ rest) ≡ Octet value ∷ tokens rest }
 {}
 
-/// A text spells one list of characters and percent-encoded octets, whatever the case of the digits,
-/// and it is the list that is read of it. So a text is valid for a set exactly if it spells what the
-/// set allows (RFC 3986, section 2.1).
+/// A text spells one list of characters and percent-encoded octets, whatever the case of the
+/// digits, and it is the list that is read of it. So a text is valid for a set exactly if it spells
+/// what the set allows (RFC 3986, section 2.1).
 ///
 /// # Examples
 ///
@@ -64,8 +64,8 @@ pub fn spelt_texts_are_read_back()
         → IsValidFor set text ↔ IsSpeltWithin set text }
 {}
 
-/// `valid_prefix` is the longest prefix of a text that is valid for a set: it is valid, it ends at a
-/// character boundary, and no longer one is both (RFC 3986, section 2.1).
+/// `valid_prefix` is the longest prefix of a text that is valid for a set: it is valid, it ends at
+/// a character boundary, and no longer one is both (RFC 3986, section 2.1).
 ///
 /// # Examples
 ///

@@ -4,6 +4,7 @@ ghost use Rattle.uri_pct.specs.Chunks.{Chunk, Byte};
 ghost use Rattle.uri_pct.specs.Decodes.{chunk_of};
 ghost use Rattle.uri_pct.specs.Models.Windows.{held};
 ghost use Rattle.uri_pct.specs.Parts.{Part, Plain, Read, parts, parts_from, fault_pieces};
+ghost use Rattle.uri_pct.specs.Parts.{ArePastAscii};
 ghost use Rattle.uri_pct.specs.Pieces.{WellFormed, IllFormed, utf8_pieces};
 
 use crate::decode::{Decode, DecodedChunk};
@@ -20,8 +21,9 @@ pub trait TakeParts {
     fn take_unencoded(&mut self, text: &str) -> Result<(), AllocError>
         ensures { OnOk result (took self.old (Plain text.now ∷ []) self.new) };
 
-    /// Takes characters that octets spell.
+    /// Takes characters past ASCII that octets spell.
     fn take_well_formed(&mut self, text: &str) -> Result<(), AllocError>
+        requires { ArePastAscii text.now }
         ensures { OnOk result (took self.old (map Read (utf8_pieces text.now)) self.new) };
 
     /// Takes an ASCII character that an octet spells.
@@ -41,6 +43,7 @@ pub trait TakeParts {
 
 /// Hands over characters, where there are some.
 fn take_text<T: TakeParts>(text: &str, taker: &mut T) -> Result<(), AllocError>
+    requires { ArePastAscii text.now }
     ensures { OnOk result (T.took taker.old (map Read (utf8_pieces text.now)) taker.new) }
 {
     if text.is_empty() {
@@ -51,6 +54,7 @@ fn take_text<T: TakeParts>(text: &str, taker: &mut T) -> Result<(), AllocError>
 
 /// Hands over the pieces of a text, and of the ill-formed part after it where there is one.
 fn take_chunk<T: TakeParts>(text: &str, fault: &[u8], taker: &mut T) -> Result<(), AllocError>
+    requires { ArePastAscii text.now }
     ensures { OnOk result
         (T.took taker.old (map Read (utf8_pieces text.now ++ fault_pieces fault.now)) taker.new) }
 {
@@ -63,6 +67,7 @@ fn take_chunk<T: TakeParts>(text: &str, fault: &[u8], taker: &mut T) -> Result<(
 
 /// Hands over the pieces of a run of octets, text by text and ill-formed part by part.
 fn take_chunks<T: TakeParts>(run: &[u8], taker: &mut T) -> Result<(), AllocError>
+    requires { ArePastAscii run.now }
     ensures { OnOk result (T.took taker.old (map Read (utf8_pieces run.now)) taker.new) }
 {
     for chunk in run.utf8_chunks() {
@@ -73,6 +78,7 @@ fn take_chunks<T: TakeParts>(run: &[u8], taker: &mut T) -> Result<(), AllocError
 
 /// Hands over the pieces of a run of octets, at once where it is text.
 fn take_run<T: TakeParts>(run: &[u8], taker: &mut T) -> Result<(), AllocError>
+    requires { ArePastAscii run.now }
     ensures { OnOk result (T.took taker.old (map Read (utf8_pieces run.now)) taker.new) }
 {
     match str::from_utf8(run) {

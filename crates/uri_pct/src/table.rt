@@ -40,7 +40,8 @@ impl Table {
     ///
     /// # Examples
     ///
-    /// `Table::try_new(b"ab")` is the table of `a` and `b`, and `Table::try_new(b"100%")` is `None`.
+    /// `Table::try_new(b"ab")` is the table of `a` and `b`, and `Table::try_new(b"100%")` is
+    /// `None`.
     pub fn try_new(bytes: &[u8]) -> Option<Table>
         ensures some { IsSome result ↔ IsTrue (list_all is_plain_ascii bytes.now) }
         ensures table { IfSome result (λ table. set_of table ≡ plain (is_one_of bytes.now)) }

@@ -1,16 +1,18 @@
-//! The window through which a run of octets is read.
-ghost use Rattle.std.specs.Prelude.{◌≡◌, ◌-◌, ◌<◌, ◌≤◌, ◌==◌, [], ◌∷◌, ◌++◌, length, drop};
+//! The window through which a run of octets past ASCII is read.
+ghost use Rattle.std.specs.Prelude.{◌≡◌, ◌-◌, ◌<◌, ◌≤◌, ◌==◌, [], ◌∷◌, ◌++◌, length, take, drop};
+ghost use Rattle.uri_pct.specs.Parts.{ArePastAscii};
 ghost use Rattle.uri_pct.specs.Models.Unfinished.{called_for, unfinished_len};
 
 /// How many bytes a window holds at most.
 const WIDTH: usize = 32;
 
-/// The bytes of a run of octets that nothing has taken yet.
+/// The bytes of a run of octets past ASCII that nothing has taken yet.
 #[derive(Drop)]
 pub(crate) struct Window {
     bytes: [u8; WIDTH],
     len: usize,
     ghost fits: { len ≤ 32 },
+    ghost past_ascii: { ArePastAscii (take len bytes) },
 }
 
 impl Window {
@@ -28,7 +30,8 @@ impl Window {
 
     /// The bytes that it holds.
     pub(crate) fn as_slice(&self) -> &[u8]
-        ensures { result.now ≡ held self.now }
+        ensures value { result.now ≡ held self.now }
+        ensures past_ascii { ArePastAscii result.now }
     {
         &self.bytes[..self.len]
     }
@@ -49,7 +52,8 @@ impl Window {
 
     /// Puts a byte after those that it holds.
     pub(crate) fn push(&mut self, byte: u8)
-        requires { length (held self.old) < 32 }
+        requires room { length (held self.old) < 32 }
+        requires past_ascii { 128 ≤ byte }
         ensures { held self.new ≡ held self.old ++ byte ∷ [] }
     {
         self.bytes[self.len] = byte;

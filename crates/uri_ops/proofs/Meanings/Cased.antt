@@ -9,10 +9,11 @@ use Rattle.std.proofs.lemmas.Bool.{cases_Bool, cond-true, cond-false, and_parts,
 use Rattle.std.proofs.lemmas.Bool.{cases_lt, leb-true}
 use Rattle.std.proofs.lemmas.Bool.Decides.{nat_tests}
 use Rattle.std.proofs.lemmas.List.{append-nil, map-append}
-use Rattle.std.proofs.lemmas.List.Elements.{All-head, All-tail}
+use Rattle.std.proofs.lemmas.List.Elements.{All-nil, All-cons, All-head, All-tail}
 use Rattle.std.proofs.lemmas.Str.{encodes-chars, scalars-chars, chars-encodes, encode_ascii}
 use Rattle.std.proofs.lemmas.Str.Ascii.{lowercase_ascii}
 use Rattle.uri_pct.specs.Encoding.{encode_char, encode_text, encode_piece}
+use Rattle.uri_pct.specs.Parts.{ArePastAscii}
 use Rattle.uri_pct.specs.Pieces.{Piece, WellFormed, IllFormed, IsOfCharacter, char_of, utf8_pieces}
 use Rattle.uri_pct.specs.Reading.{is_readable, read_piece, lower_token}
 use Rattle.uri_pct.specs.Sets.{TableSet, allows, allows_past_ascii, is_unreserved}
@@ -31,12 +32,18 @@ print_chars (c ∷ cs) = ap (λ x. encode_utf8 c ++ x) (print_chars cs)
 pub print_text : (text : List ℕ) → IsUtf8 text → print (map Char (chars text)) ≡ text
 print_text text u = print_chars (chars text) ∙ encodes-chars text u
 
-high_bytes : (bytes : List ℕ) → list_all is_high bytes ≡ true → map to_ascii_lowercase bytes ≡ bytes
-high_bytes [] e = refl
-high_bytes (b ∷ bytes) e =
+-- bytes past ASCII have no letters to lower
+pub past_lower : (bytes : List ℕ) → ArePastAscii bytes → str_to_ascii_lowercase bytes ≡ bytes
+past_lower [] past = refl
+past_lower (b ∷ bytes) past =
+    ap (λ x. x ∷ str_to_ascii_lowercase bytes) (past_same b (All-head (λ x. 128 ≤ x) b bytes past))
+    ∙ ap (λ x. b ∷ x) (past_lower bytes (All-tail (λ x. 128 ≤ x) b bytes past))
+
+high_past : (bytes : List ℕ) → list_all is_high bytes ≡ true → ArePastAscii bytes
+high_past [] e = All-nil (λ x. 128 ≤ x)
+high_past (b ∷ bytes) e =
     let p = and_parts (is_high b) (list_all is_high bytes) e in
-    ap (λ x. x ∷ map to_ascii_lowercase bytes) (past_same b (leb-true 128 b p.0))
-    ∙ ap (λ x. b ∷ x) (high_bytes bytes p.1)
+    All-cons (λ x. 128 ≤ x) b bytes (leb-true 128 b p.0) (high_past bytes p.1)
 
 high_char : (c : ℕ) → 128 ≤ c → map to_ascii_lowercase (encode_utf8 c) ≡ encode_utf8 c
 high_char c h =
@@ -45,7 +52,7 @@ high_char c h =
     (append-nil (encode_utf8 c) ∙ w.spelt) (lead c [] h) in
     ap (map to_ascii_lowercase) w.spelt
     ∙ ap (λ x. x ∷ map to_ascii_lowercase w.more) (past_same w.first first)
-    ∙ ap (λ x. w.first ∷ x) (high_bytes w.more w.high) ∙ sym w.spelt
+    ∙ ap (λ x. w.first ∷ x) (past_lower w.more (high_past w.more w.high)) ∙ sym w.spelt
 
 pub lower_char : (c : ℕ)
     → encode_utf8 (to_ascii_lowercase c) ≡ map to_ascii_lowercase (encode_utf8 c)

@@ -75,8 +75,9 @@ characters :
     × IsNormalOf iri_ref (codes "/%C3A%A9" ++ (0xC3 ∷ 0xA9 ∷ []))
     (codes "/%C3A%A9" ++ (0xC3 ∷ 0xA9 ∷ []))
     × IsNormalOf iri_ref
-    (codes
-    "%61%61%61%61%61%61%61%61%61%61%61%61%61%61%61%61%61%61%61%61%61%61%61%61%61%61%61%61%61%61%61%C3%A9") (codes "aaaaaaaaaaaaaaaaaaaaaaaaaaaaaaa" ++ (0xC3 ∷ 0xA9 ∷ []))
+    (codes "%61%61%61%61%61%61%61%61%61%61%61%61%61%61%61%61"
+    ++ codes "%61%61%61%61%61%61%61%61%61%61%61%61%61%61%61%C3%A9")
+    (codes "aaaaaaaaaaaaaaaaaaaaaaaaaaaaaaa" ++ (0xC3 ∷ 0xA9 ∷ []))
     × IsNormalOf iri (codes "http://xn--99zt52a.example.org/%e2%80%ae")
     (codes "http://xn--99zt52a.example.org/%E2%80%AE")
     × IsNormalOf iri (codes "http://xn--99zt52a.example.org/" ++ (0xE2 ∷ 0x80 ∷ 0xAE ∷ []))

@@ -1,11 +1,11 @@
 -- What a reading takes.
 use Rattle.std.proofs.Common.{◌≡◌, ℕ, Bool, true, false, List, [], ◌∷◌, ◌++◌, map, sym, ap, ◌∙◌}
 use Rattle.std.proofs.Common.{string_bytes}
-use Rattle.std.specs.Str.{IsUtf8, chars, str_to_ascii_lowercase}
+use Rattle.std.specs.Str.{IsUtf8, chars}
 use Rattle.std.proofs.lemmas.List.{append-nil}
 use Rattle.uri_pct.specs.Chunks.{widest_set}
 use Rattle.uri_pct.specs.Encoding.{encode_text}
-use Rattle.uri_pct.specs.Parts.{Part, Plain, Read, parts}
+use Rattle.uri_pct.specs.Parts.{ArePastAscii, Part, Plain, Read, parts}
 use Rattle.uri_pct.specs.Pieces.{IllFormed, utf8_pieces}
 use Rattle.uri_pct.specs.Reading.{read_tokens, lower_token}
 use Rattle.uri_pct.specs.Sets.{TableSet}
@@ -14,7 +14,7 @@ use Rattle.uri_pct.specs.Tokens.{Octet, Char, tokens, print, IsValidFor}
 use Rattle.uri_ops.specs.declared.reading.Reading.{Reading}
 use Rattle.uri_ops.specs.Models.Readings.{TookReading, read_parts, cased, cased_text}
 use Rattle.uri_ops.proofs.Meanings.Cased.{AllowsReadable, print_cased, cased_octets, text_read}
-use Rattle.uri_ops.proofs.Meanings.Cased.{text_read_lower}
+use Rattle.uri_ops.proofs.Meanings.Cased.{past_lower, text_read_lower}
 use Rattle.uri_ops.proofs.Meanings.ReadParts.{parts_of_run, read_parts-tokens}
 
 -- text that stands for itself
@@ -24,21 +24,17 @@ plain_cased lowers set text u = ap (λ ts. print (cased lowers ts))
     (append-nil (map Char (chars text)))
     ∙ print_cased lowers text u
 
--- characters that octets spell
-pub spelt_as_is : (readable set : TableSet) (text : List ℕ) → AllowsReadable readable set
-    → IsUtf8 text
-    → print (cased false (read_parts set (map Read (utf8_pieces text))))
+-- characters past ASCII that octets spell
+pub spelt_past_ascii : (lowers : Bool) (readable set : TableSet) (text : List ℕ)
+    → AllowsReadable readable set → IsUtf8 text → ArePastAscii text
+    → print (cased lowers (read_parts set (map Read (utf8_pieces text))))
     ≡ print (encode_text readable text)
-spelt_as_is readable set text same u = ap print
+spelt_past_ascii false readable set text same u past = ap print
     (parts_of_run set (utf8_pieces text) ∙ text_read readable set same text u)
-
-pub spelt_lowered : (readable set : TableSet) (text : List ℕ) → AllowsReadable readable set
-    → IsUtf8 text
-    → print (cased true (read_parts set (map Read (utf8_pieces text))))
-    ≡ print (encode_text readable (str_to_ascii_lowercase text))
-spelt_lowered readable set text same u = ap (λ ts. print (map lower_token ts))
+spelt_past_ascii true readable set text same u past = ap (λ ts. print (map lower_token ts))
     (parts_of_run set (utf8_pieces text))
     ∙ ap print (text_read_lower readable set same text u)
+    ∙ ap (λ bytes. print (encode_text readable bytes)) (past_lower text past)
 
 -- what is no character
 pub octets_cased : (lowers : Bool) (set : TableSet) (bytes : List ℕ)
@@ -47,18 +43,15 @@ octets_cased lowers set bytes = ap (λ ts. print (cased lowers ts)) (append-nil 
     ∙ ap print (cased_octets lowers bytes)
 
 -- a reading that grew by what was to be written
-pub grown : (s t : Reading) (ps : List Part) (lowers : Bool) (more : List ℕ)
-    → set_of t.table ≡ set_of s.table → t.lowers ≡ s.lowers → s.lowers ≡ lowers
-    → t.text.ghost_name ≡ s.text.ghost_name
+pub grown : (s t : Reading) (ps : List Part) (more : List ℕ) → set_of t.table ≡ set_of s.table
+    → t.lowers ≡ s.lowers → t.text.ghost_name ≡ s.text.ghost_name
     → string_bytes t.text.now ≡ string_bytes s.text.now ++ more
-    → print (cased lowers (read_parts (set_of s.table) ps)) ≡ more → TookReading s ps t
-grown s t ps lowers more set lower is same written meant = record {
+    → print (cased s.lowers (read_parts (set_of s.table) ps)) ≡ more → TookReading s ps t
+grown s t ps more set lowers same written meant = record {
   set = set;
-  lowers = lower;
+  lowers = lowers;
   same = same;
-  text = written
-      ∙ ap (λ x. string_bytes s.text.now ++ x)
-      (sym (ap (λ b. print (cased b (read_parts (set_of s.table) ps))) is ∙ meant));
+  text = written ∙ ap (λ x. string_bytes s.text.now ++ x) (sym meant);
 }
 
 -- the whole text

@@ -26,23 +26,23 @@ use Rattle.uri_ops.proofs.Paths.TakenSegments.{absolute_is}
 -- which texts may be pieces
 abbrev pub is_piece : Pieces → List ℕ → Bool
 is_piece Copied text = true
-is_piece (Read alloc table) text = is_part (set_of table.now) text
+is_piece (Read table) text = is_part (set_of table.now) text
 
 pub piecewise : (pieces : Pieces) (path : List ℕ) → IsInPieces pieces path
     → IsPiecewise (in_pieces pieces) (is_piece pieces)
 unfolding reprinted
 piecewise Copied path h = unchanged
-piecewise (Read alloc table) path h = reading (set_of table.now) h.component h.slash
+piecewise (Read table) path h = reading (set_of table.now) h.component h.slash
 
 pub whole_piece : (pieces : Pieces) (path : List ℕ) → IsUtf8 path → IsInPieces pieces path
     → is_piece pieces path ≡ true
 whole_piece Copied path u h = refl
-whole_piece (Read alloc table) path u h = part_from (set_of table.now) path u h.valid
+whole_piece (Read table) path u h = part_from (set_of table.now) path u h.valid
 
 pub each_piece : (pieces : Pieces) (path piece : List ℕ) → IsInPieces pieces path
     → is_piece pieces piece ≡ true → IsInPieces pieces piece
 each_piece Copied path piece h e = tt
-each_piece (Read alloc table) path piece h e = record {
+each_piece (Read table) path piece h e = record {
   component = h.component;
   slash = h.slash;
   valid = part_valid (set_of table.now) piece e;

@@ -19,9 +19,9 @@ pub record IsPathPiece (set : TableSet) (text : List ℕ) : Type 0 where
 -- a text of which pieces may be appended so
 abbrev pub IsInPieces : Pieces → List ℕ → Type 0
 IsInPieces Copied text = Unit {0}
-IsInPieces (Read alloc table) text = IsPathPiece (set_of table.now) text
+IsInPieces (Read table) text = IsPathPiece (set_of table.now) text
 
 -- what is appended of it
 abbrev pub in_pieces : Pieces → List ℕ → List ℕ
 in_pieces Copied text = text
-in_pieces (Read alloc table) text = print (read (set_of table.now) text)
+in_pieces (Read table) text = print (read (set_of table.now) text)

@@ -14,7 +14,8 @@ module _ (set : TableSet) (lacks : LacksPercent set)
     (here : IsCharBoundary bs start) where
   abbrev IsScannedTo : ℕ → Type 0
   IsScannedTo i =
-      (i + valid_prefix set (drop i bs) ≡ start + valid_prefix set (drop start bs)) × IsCharBoundary bs i
+      (i + valid_prefix set (drop i bs) ≡ start + valid_prefix set (drop start bs))
+      × IsCharBoundary bs i
 
   goes_on : (n : ℕ) → start + n ≤ length bs
       → ((k : ℕ) → start ≤ k → k < start + n → set.ascii (get_or bs k 0) ≡ true)
@@ -34,7 +35,8 @@ module _ (set : TableSet) (lacks : LacksPercent set)
       )
 
   pub run_scanned : (end : ℕ) → IsRun set.ascii bs start end
-      → (end + valid_prefix set (drop end bs) ≡ start + valid_prefix set (drop start bs)) × IsCharBoundary bs end
+      → (end + valid_prefix set (drop end bs) ≡ start + valid_prefix set (drop start bs))
+      × IsCharBoundary bs end
   run_scanned end run =
       let f = run.from in
       let w = run.within in

@@ -67,7 +67,8 @@ module _ (bs : List ℕ) (i percents others : ℕ)
       (λ (h : 14 ≤ k). ⊎_elim (λ (l : k < 15). absurd (not_14 (omega arith)))
       (λ (l : 15 ≤ k). absurd (not_15 (omega arith))) (cases_lt k 15)) (cases_lt k 14) in
       let at_1 = is_hexdigit _ (lane_test _ bs i 16 others (1 + k) marks (omega arith) first.0) in
-      let at_2 = is_hexdigit _ (lane_test _ bs i 16 others (2 + k) marks (omega arith) second.0) in (
+      let at_2 = is_hexdigit _
+      (lane_test _ bs i 16 others (2 + k) marks (omega arith) second.0) in (
         room,
         eqb-true _ _ (sym (is k inside) ∙ split.0),
         and_from _ _ (ap (λ m. is_ascii_hexdigit (get_or bs m 0)) (omega arith) ∙ at_1)

@@ -1,6 +1,6 @@
 -- A text spells one list of characters and octets, which is the one that is read of it.
-use Rattle.std.proofs.Common.{◌≡◌, ℕ, ◌+◌, ◌*◌, Bool, true, false, eqb, List, [], ◌∷◌, ◌++◌, refl}
-use Rattle.std.proofs.Common.{sym, ap, subst, ◌∙◌, ◌&&◌, ⊎_elim, lit<}
+use Rattle.std.proofs.Common.{◌≡◌, ℕ, ◌+◌, ◌*◌, true, eqb, List, [], ◌∷◌, ◌++◌, refl}
+use Rattle.std.proofs.Common.{sym, ap, subst, ◌∙◌, ⊎_elim, lit<}
 use Rattle.std.specs.Prelude.{◌↔◌}
 use Rattle.std.specs.List.{list_all}
 use Rattle.std.specs.Char.{IsScalar, encode_utf8, digit_value, is_ascii_hexdigit}
@@ -28,7 +28,8 @@ chars_first c rest scalar = chars-append (encode_utf8 c) rest (IsUtf8-encode c s
 
 octet_first : (high low : ℕ) (rest : List ℕ) → is_ascii_hexdigit high ≡ true
     → is_ascii_hexdigit low ≡ true
-    → tokens (37 ∷ high ∷ low ∷ rest) ≡ Octet (16 * digit_value high + digit_value low) ∷ tokens rest
+    → tokens (37 ∷ high ∷ low ∷ rest)
+    ≡ Octet (16 * digit_value high + digit_value low) ∷ tokens rest
 unfolding tokens_of is_pct_encoded
 octet_first high low rest h l =
     ap tokens_of (chars-ascii 37 (high ∷ low ∷ rest) (lit< tt)

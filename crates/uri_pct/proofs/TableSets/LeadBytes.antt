@@ -125,7 +125,8 @@ lead_range b e = let p = and_parts _ _ e in (leb-true 195 b p.0, leb-true b 237 
 pub char_scanned : (set : TableSet) (bs rest : List ℕ) (i c n : ℕ) → IsUtf8 bs → IsCharBoundary bs i
     → i < length bs → 128 ≤ get_or bs i 0 → drop i bs ≡ encode_utf8 c ++ rest
     → allows_past_ascii set c ≡ true → len_utf8 c ≡ n
-    → (valid_prefix set (drop i bs) ≡ valid_prefix set (drop (i + n) bs) + n) × IsCharBoundary bs (i + n)
+    → (valid_prefix set (drop i bs) ≡ valid_prefix set (drop (i + n) bs) + n)
+    × IsCharBoundary bs (i + n)
 char_scanned set bs rest i c n u here inside past spelt allowed size =
     let whole : drop i bs ≡ encode_utf8 c ++ drop (i + len_utf8 c) bs = spelt
     ∙ ap (λ t. encode_utf8 c ++ t) (sym (drop_past_char bs rest i c spelt)) in
@@ -151,20 +152,23 @@ module _ (set : TableSet) (bs : List ℕ) (i : ℕ) (u : IsUtf8 bs) (here : IsCh
       first_of (drop i bs) v.0 v.1.0 v.1.1 (omega (arith, length-drop i bs))
 
   told_scanned : (n : ℕ) → 195 ≤ get_or bs i 0 → IsTold there.code n
-      → (valid_prefix set (drop i bs) ≡ valid_prefix set (drop (i + n) bs) + n) × IsCharBoundary bs (i + n)
+      → (valid_prefix set (drop i bs) ≡ valid_prefix set (drop (i + n) bs) + n)
+      × IsCharBoundary bs (i + n)
   told_scanned n high told =
       char_scanned set bs there.behind i there.code n u here inside (omega arith)
       there.spelt (told_allowed set there.code n flag told) told.size
 
   pub two_scanned : 195 ≤ get_or bs i 0 → get_or bs i 0 < 224
-      → (valid_prefix set (drop i bs) ≡ valid_prefix set (drop (i + 2) bs) + 2) × IsCharBoundary bs (i + 2)
+      → (valid_prefix set (drop i bs) ≡ valid_prefix set (drop (i + 2) bs) + 2)
+      × IsCharBoundary bs (i + 2)
   two_scanned high low =
       let e = byte_there bs there.behind i there.code there.spelt in
       told_scanned 2 high
       (two_told there.code (subst (λ b. 195 ≤ b) e high) (subst (λ b. b < 224) e low))
 
   pub three_scanned : 224 ≤ get_or bs i 0 → get_or bs i 0 ≤ 237
-      → (valid_prefix set (drop i bs) ≡ valid_prefix set (drop (i + 3) bs) + 3) × IsCharBoundary bs (i + 3)
+      → (valid_prefix set (drop i bs) ≡ valid_prefix set (drop (i + 3) bs) + 3)
+      × IsCharBoundary bs (i + 3)
   three_scanned high low =
       let e = byte_there bs there.behind i there.code there.spelt in
       told_scanned 3 (omega arith) (three_told there.code there.scalar (subst (λ b. 224 ≤ b) e high)

@@ -1,10 +1,13 @@
 -- An octet of ASCII is a character by itself, whatever is before and after it.
-use Rattle.std.proofs.Common.{ℕ, ◌≡◌, ◌<◌, List, [], ◌∷◌, ◌++◌, map, ap, ◌∙◌, inl}
+use Rattle.std.proofs.Common.{ℕ, ◌≡◌, ◌<◌, ◌≤◌, List, [], ◌∷◌, ◌++◌, length, take, drop, map, sym}
+use Rattle.std.proofs.Common.{ap, ◌∙◌, inl}
 use Rattle.std.specs.Str.{IsUtf8}
+use Rattle.std.proofs.lemmas.List.Elements.{All-same, All-take, All-drop}
+use Rattle.std.proofs.Math.Seq.{take-append_seam, drop-append_seam}
 use Rattle.std.proofs.lemmas.Str.{IsUtf8-from_ascii}
 use Rattle.std.proofs.lemmas.Str.Ascii.{IsAscii-nil, IsAscii-push}
 use Rattle.uri_pct.specs.Chunks.{Chunk, Byte}
-use Rattle.uri_pct.specs.Parts.{Read, parts_from}
+use Rattle.uri_pct.specs.Parts.{ArePastAscii, Read, parts_from}
 use Rattle.uri_pct.specs.Pieces.{utf8_pieces}
 use Rattle.uri_pct.specs.Models.Unfinished.{PartNoPiece}
 use Rattle.uri_pct.proofs.Unicode.CharacterPieces.{outside}
@@ -30,3 +33,16 @@ cut_ascii run b behind small =
     cut_run run (b ∷ []) [] behind (parted_before run b small)
     ∙ ap (λ ps. map Read (utf8_pieces run) ++ ps)
     (cut_run (b ∷ []) [] [] behind (parted_behind b small))
+
+-- bytes past ASCII, cut
+pub past_ascii_front : (front end bytes : List ℕ) → bytes ≡ front ++ end → ArePastAscii bytes
+    → ArePastAscii front
+past_ascii_front front end bytes same past = All-same (λ b. 128 ≤ b) _ _
+    (sym (ap (take (length front)) same ∙ take-append_seam front end))
+    (All-take (λ b. 128 ≤ b) (length front) bytes past)
+
+pub past_ascii_behind : (front end bytes : List ℕ) → bytes ≡ front ++ end → ArePastAscii bytes
+    → ArePastAscii end
+past_ascii_behind front end bytes same past = All-same (λ b. 128 ≤ b) _ _
+    (sym (ap (drop (length front)) same ∙ drop-append_seam front end))
+    (All-drop (λ b. 128 ≤ b) (length front) bytes past)

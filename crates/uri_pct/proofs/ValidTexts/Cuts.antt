@@ -243,7 +243,8 @@ module _ (marks : List ℕ) (set : TableSet) (lacks : LacksPercent set)
       (and_from _ _ (not_from_false _ (hex_no_mark b p.1)) t)
 
   cut_octet : (b : ℕ) (bs : List ℕ) → (set.pct_encoded && eqb b 37) ≡ true
-      → valid_from set 2 (take (to_mark marks bs) bs) ≡ eqb (valid_prefix_from set 2 bs) (to_mark marks bs)
+      → valid_from set 2 (take (to_mark marks bs) bs)
+      ≡ eqb (valid_prefix_from set 2 bs) (to_mark marks bs)
       → begins_hex bs ≡ true
       → valid_from set 0 (b ∷ take (to_mark marks bs) bs)
       ≡ eqb (valid_prefix_from set 0 (b ∷ bs)) (suc (to_mark marks bs))
@@ -291,7 +292,8 @@ module _ (marks : List ℕ) (set : TableSet) (lacks : LacksPercent set)
       ∙ cond-false _ _ _ (allows_first-ascii set b bs (ascii b e) ∙ mark_char set marks outside b e)
 
   cut_from : (k : ℕ) (bs : List ℕ) → skips marks k bs ≡ true
-      → valid_from set k (take (to_mark marks bs) bs) ≡ eqb (valid_prefix_from set k bs) (to_mark marks bs)
+      → valid_from set k (take (to_mark marks bs) bs)
+      ≡ eqb (valid_prefix_from set k bs) (to_mark marks bs)
   unfolding valid_from valid_prefix_from skips
   cut_from zero [] s = refl
   cut_from (suc k) [] s = refl
@@ -323,7 +325,8 @@ module _ (marks : List ℕ) (set : TableSet) (lacks : LacksPercent set)
       (cond (allows_first set b bs) (valid_prefix_from set k bs + 1) 0) (suc m)
       (λ o. cond_le (begins_hex bs) (valid_prefix_from set 2 bs + 1) 0 (suc m)
       (λ h. let l = two o h in omega arith) (λ _. omega arith))
-      (λ _. cond_le (allows_first set b bs) (valid_prefix_from set k bs + 1) 0 (suc m) (λ _. omega arith)
+      (λ _. cond_le (allows_first set b bs) (valid_prefix_from set k bs + 1) 0 (suc m)
+      (λ _. omega arith)
       (λ _. omega arith)))
 
   prefix_le : (k : ℕ) (bs : List ℕ) → skips marks k bs ≡ true

@@ -33,15 +33,20 @@ prefix_after_from set (suc k) (b ∷ bs) =
     rw (drop_one (valid_prefix_from set k bs) b bs) (prefix_after_from set k bs)
 prefix_after_from set zero (b ∷ bs) = ⊎_elim
     (λ o. ⊎_elim
-    (λ h. ap (λ n. valid_prefix_from set 0 (drop n (b ∷ bs))) (cond-true _ _ _ o ∙ cond-true _ _ _ h)
+    (λ h. ap (λ n. valid_prefix_from set 0 (drop n (b ∷ bs)))
+    (cond-true _ _ _ o ∙ cond-true _ _ _ h)
     ∙ ap (valid_prefix_from set 0) (drop_one _ b bs) ∙ prefix_after_from set 2 bs)
-    (λ h. ap (λ n. valid_prefix_from set 0 (drop n (b ∷ bs))) (cond-true _ _ _ o ∙ cond-false _ _ _ h)
+    (λ h. ap (λ n. valid_prefix_from set 0 (drop n (b ∷ bs)))
+    (cond-true _ _ _ o ∙ cond-false _ _ _ h)
     ∙ cond-true _ _ _ o ∙ cond-false _ _ _ h)
     (cases_Bool (begins_hex bs)))
     (λ o. ⊎_elim
-    (λ a. ap (λ n. valid_prefix_from set 0 (drop n (b ∷ bs))) (cond-false _ _ _ o ∙ cond-true _ _ _ a)
-    ∙ ap (valid_prefix_from set 0) (drop_one _ b bs) ∙ prefix_after_from set (continuation_len b) bs)
-    (λ a. ap (λ n. valid_prefix_from set 0 (drop n (b ∷ bs))) (cond-false _ _ _ o ∙ cond-false _ _ _ a)
+    (λ a. ap (λ n. valid_prefix_from set 0 (drop n (b ∷ bs)))
+    (cond-false _ _ _ o ∙ cond-true _ _ _ a)
+    ∙ ap (valid_prefix_from set 0) (drop_one _ b bs)
+    ∙ prefix_after_from set (continuation_len b) bs)
+    (λ a. ap (λ n. valid_prefix_from set 0 (drop n (b ∷ bs)))
+    (cond-false _ _ _ o ∙ cond-false _ _ _ a)
     ∙ cond-false _ _ _ o ∙ cond-false _ _ _ a)
     (cases_Bool (allows_first set b bs)))
     (cases_Bool (set.pct_encoded && eqb b 37))
@@ -97,7 +102,8 @@ first_subset small great w b bs e = ⊎_elim
     (cases_lt b 128)
 
 none_within : (small great : TableSet) (bs : List ℕ) → valid_prefix small bs ≡ 0
-    → valid_prefix great bs ≡ valid_prefix small bs + valid_prefix great (drop (valid_prefix small bs) bs)
+    → valid_prefix great bs
+    ≡ valid_prefix small bs + valid_prefix great (drop (valid_prefix small bs) bs)
 none_within small great bs e = sym (ap (λ n. n + valid_prefix great (drop n bs)) e ∙ zero-add _)
 
 more_within : (great : TableSet) (b p n : ℕ) (bs : List ℕ) → p ≡ n + valid_prefix great (drop n bs)
@@ -111,7 +117,8 @@ percent_out set lacks b bs e = let d = eqb-true b 37 e in allows_first-ascii set
 
 prefix_from_within : (small great : TableSet) → IsSubset small great → LacksPercent small
     → (k : ℕ) (bs : List ℕ)
-    → valid_prefix_from great k bs ≡ valid_prefix_from small k bs + valid_prefix great (drop (valid_prefix_from small k bs) bs)
+    → valid_prefix_from great k bs
+    ≡ valid_prefix_from small k bs + valid_prefix great (drop (valid_prefix_from small k bs) bs)
 unfolding valid_prefix_from
 prefix_from_within small great w lacks zero [] = refl
 prefix_from_within small great w lacks (suc k) [] = refl
@@ -135,13 +142,15 @@ prefix_from_within small great w lacks zero (b ∷ bs) = ⊎_elim
     (cases_Bool (eqb b 37)) in
     cond-false _ _ _ (and_right _ _ other) ∙ cond-true _ _ _ (first_subset small great w b bs a)
     ∙ more_within great b _ _ bs (prefix_from_within small great w lacks (continuation_len b) bs)
-    ∙ sym (ap (λ n. n + valid_prefix great (drop n (b ∷ bs))) (cond-false _ _ _ o ∙ cond-true _ _ _ a)))
+    ∙ sym (ap (λ n. n + valid_prefix great (drop n (b ∷ bs)))
+    (cond-false _ _ _ o ∙ cond-true _ _ _ a)))
     (λ a. none_within small great (b ∷ bs) (cond-false _ _ _ o ∙ cond-false _ _ _ a))
     (cases_Bool (allows_first small b bs)))
     (cases_Bool (small.pct_encoded && eqb b 37))
 
 pub valid_prefix-within : (small great : TableSet) → IsSubset small great → LacksPercent small
-    → (bs : List ℕ) → valid_prefix great bs ≡ valid_prefix small bs + valid_prefix great (after small bs)
+    → (bs : List ℕ)
+    → valid_prefix great bs ≡ valid_prefix small bs + valid_prefix great (after small bs)
 valid_prefix-within small great w lacks bs = prefix_from_within small great w lacks 0 bs
 
 -- one step of a scan at a place in a text
@@ -159,7 +168,8 @@ skip_at : (set : TableSet) (k : ℕ) (bs : List ℕ) (i : ℕ) → i < length bs
 unfolding valid_prefix_from
 skip_at set k bs i h = rw add-one (at_drop_more (valid_prefix_from set (suc k)) bs i 0 h)
 
-pub valid_prefix-end : (set : TableSet) (bs : List ℕ) (i : ℕ) → length bs ≤ i → valid_prefix set (drop i bs) ≡ 0
+pub valid_prefix-end : (set : TableSet) (bs : List ℕ) (i : ℕ) → length bs ≤ i
+    → valid_prefix set (drop i bs) ≡ 0
 unfolding valid_prefix_from
 valid_prefix-end set bs i h = rw (drop_all i bs h)
 
@@ -181,7 +191,8 @@ valid_prefix-octet set bs i h o p e =
     ∙ (rw f (omega arith))
 
 pub valid_prefix-stray : (set : TableSet) → LacksPercent set → (bs : List ℕ) (i : ℕ) → i < length bs
-    → get_or bs i 0 ≡ 37 → (set.pct_encoded && has_digits bs i) ≡ false → valid_prefix set (drop i bs) ≡ 0
+    → get_or bs i 0 ≡ 37 → (set.pct_encoded && has_digits bs i) ≡ false
+    → valid_prefix set (drop i bs) ≡ 0
 valid_prefix-stray set lacks bs i h p e = prefix_at set bs i h ∙ ⊎_elim
     (λ o. cond-true _ _ _ (and_from _ _ o (eq-eqb _ _ p))
     ∙ cond-false _ _ _ (digits_at bs i ∙ sym (ap (λ t. t && has_digits bs i) o) ∙ e))
@@ -203,7 +214,8 @@ valid_prefix-char set lacks bs i h l a =
     ∙ ap (λ k. valid_prefix_from set k (drop (i + 1) bs) + 1) (cond-true _ _ _ (lt-ltb _ 128 l))
 
 pub valid_prefix-stop : (set : TableSet) (bs : List ℕ) (i : ℕ) → i < length bs → get_or bs i 0 < 128
-    → eqb (get_or bs i 0) 37 ≡ false → set.ascii (get_or bs i 0) ≡ false → valid_prefix set (drop i bs) ≡ 0
+    → eqb (get_or bs i 0) 37 ≡ false → set.ascii (get_or bs i 0) ≡ false
+    → valid_prefix set (drop i bs) ≡ 0
 valid_prefix-stop set bs i h l p a = prefix_at set bs i h ∙ cond-false _ _ _ (and_right _ _ p)
     ∙ cond-false _ _ _ (allows_first-ascii set _ _ l ∙ a)
 
@@ -256,7 +268,8 @@ prefix_first set text rest c u e o = ⊎_elim
     ∙ ap (λ t. cond t (valid_prefix set rest + len_utf8 c) 0) (sym (allows-past set c h)))
     (cases_lt c 128)
 
-pub valid_prefix-past-at : (set : TableSet) (bs : List ℕ) (i c : ℕ) → IsUtf8 bs → IsCharBoundary bs i
+pub valid_prefix-past-at : (set : TableSet) (bs : List ℕ) (i c : ℕ) → IsUtf8 bs
+    → IsCharBoundary bs i
     → drop i bs ≡ encode_utf8 c ++ drop (i + len_utf8 c) bs → 128 ≤ get_or bs i 0
     → valid_prefix set (drop i bs)
     ≡ cond (allows_past_ascii set c) (valid_prefix set (drop (i + len_utf8 c) bs) + len_utf8 c) 0
@@ -292,7 +305,8 @@ unfolding allows_past_ascii
 flags_off set e c = or_from _ _ (and_left _ _ (or_parts set.ucschar set.iprivate e).0)
     (and_left _ _ (or_parts set.ucschar set.iprivate e).1)
 
-valid_prefix-past-none : (set : TableSet) (bs : List ℕ) (i : ℕ) → i < length bs → 128 ≤ get_or bs i 0
+valid_prefix-past-none : (set : TableSet) (bs : List ℕ) (i : ℕ) → i < length bs
+    → 128 ≤ get_or bs i 0
     → (set.ucschar || set.iprivate) ≡ false → valid_prefix set (drop i bs) ≡ 0
 valid_prefix-past-none set bs i h l e =
     prefix_at set bs i h

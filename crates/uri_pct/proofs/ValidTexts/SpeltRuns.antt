@@ -26,7 +26,8 @@ module _ (set : TableSet) (lacks : LacksPercent set) (pct : set.pct_encoded ≡ 
   IsFresh k = (j : ℕ) → j < k → k ≤ j + 2 → oct j ≡ false
 
   abbrev IsScanned : ℕ → Type 0
-  IsScanned k = (i + n + valid_prefix set (drop (i + n) bs) ≡ i + k + valid_prefix set (drop (i + k) bs))
+  IsScanned k = (i + n + valid_prefix set (drop (i + n) bs)
+      ≡ i + k + valid_prefix set (drop (i + k) bs))
       × IsCharBoundary bs (i + n)
 
   plain : (k : ℕ) → (get_or bs (i + k) 0 ≡ 37 → ⊥) → oct k ≡ false
@@ -106,7 +107,8 @@ module _ (set : TableSet) (lacks : LacksPercent set) (pct : set.pct_encoded ≡ 
 pub spelt_scanned : (set : TableSet) → LacksPercent set → set.pct_encoded ≡ true
     → ((b : ℕ) → set.ascii b ≡ true → b < 128) → (bs : List ℕ) (i n : ℕ) → i + n ≤ length bs
     → IsUtf8 bs → IsCharBoundary bs i → AreSpelt set.ascii bs i n
-    → (i + n + valid_prefix set (drop (i + n) bs) ≡ i + valid_prefix set (drop i bs)) × IsCharBoundary bs (i + n)
+    → (i + n + valid_prefix set (drop (i + n) bs) ≡ i + valid_prefix set (drop i bs))
+    × IsCharBoundary bs (i + n)
 spelt_scanned set lacks pct ascii bs i n room u here are =
     all_scanned set lacks pct ascii bs i n room are.octet are.pass are.percent are.digits are.whole
     u
@@ -115,7 +117,8 @@ spelt_scanned set lacks pct ascii bs i n room u here are =
 -- an octet is scanned
 pub octet_scanned : (set : TableSet) (bs : List ℕ) (i : ℕ) → IsUtf8 bs → set.pct_encoded ≡ true
     → i + 2 < length bs → get_or bs i 0 ≡ 37 → has_digits bs i ≡ true
-    → (i + 3 + valid_prefix set (drop (i + 3) bs) ≡ i + valid_prefix set (drop i bs)) × IsCharBoundary bs (i + 3)
+    → (i + 3 + valid_prefix set (drop (i + 3) bs) ≡ i + valid_prefix set (drop i bs))
+    × IsCharBoundary bs (i + 3)
 octet_scanned set bs i u pct within percent digits =
     let e = valid_prefix-octet set bs i within pct percent digits in
     let f : i + 2 + 1 ≡ i + 3 = omega arith in (

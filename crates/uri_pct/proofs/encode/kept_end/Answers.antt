@@ -6,7 +6,8 @@ use Rattle.uri_pct.proofs.encode.kept_end.Goals as goal
 
 scanned_to : (c : goal.After-scan)
     → c.scan.result
-    ≡ c.args.start + valid_prefix (plain_set (set_of c.args.table.now)) (drop c.args.start c.args.text.now)
+    ≡ c.args.start
+    + valid_prefix (plain_set (set_of c.args.table.now)) (drop c.args.start c.args.text.now)
 scanned_to c = c.scan.ensures.end
     ∙ ap (λ set. c.args.start + valid_prefix set (drop c.args.start c.args.text.now))
     c.without_octets.ensures

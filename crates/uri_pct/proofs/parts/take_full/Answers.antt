@@ -15,9 +15,9 @@ returns-clause-taken g c = λ u behind h.
     let middle = c.take_run.new.taker in
     let kept : c.unfinished_len-kept.result ≡ unfinished_len bytes =
     c.unfinished_len-kept.ensures.value
-    ∙ ap unfinished_len c.as_slice-bytes.ensures in
+    ∙ ap unfinished_len c.as_slice-bytes.ensures.value in
     let front : take (length c.as_slice-bytes.result.now - c.unfinished_len-kept.result)
-    c.as_slice-bytes.result.now ≡ take n bytes = rw (kept, c.as_slice-bytes.ensures) refl in
+    c.as_slice-bytes.result.now ≡ take n bytes = rw (kept, c.as_slice-bytes.ensures.value) refl in
     let first : took start (map Read (utf8_pieces (take n bytes))) middle =
     subst (λ items. took start (map Read (utf8_pieces items)) middle) front
     c.in_ok-take_run.ensures in

@@ -13,6 +13,6 @@ returns c =
     let s = c.args.self.now in
     let alone = print (cased s.lowers (read_alone (Octet c.args.byte) ∷ [])) in
     on_ok_weaker c.push_alone.result
-    (λ written. grown s _ _ s.lowers alone refl refl refl refl written
+    (λ written. grown s _ _ alone refl refl refl written
     (ascii_part s.lowers (set_of s.table) c.args.byte c.requires))
     c.push_alone.ensures

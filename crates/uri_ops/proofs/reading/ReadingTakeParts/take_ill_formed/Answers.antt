@@ -7,7 +7,6 @@ use Rattle.uri_ops.proofs.reading.ReadingTakeParts.take_ill_formed.Goals as goal
 
 pub returns : goal.returns
 returns c = on_ok_weaker c.push_octets.result
-    (λ written. grown c.args.self.now _ _ c.args.self.now.lowers
-    (print (map Octet c.args.bytes.now)) refl refl refl refl written
+    (λ written. grown c.args.self.now _ _ (print (map Octet c.args.bytes.now)) refl refl refl written
     (octets_cased c.args.self.now.lowers (set_of c.args.self.now.table) c.args.bytes.now))
     c.push_octets.ensures.ok

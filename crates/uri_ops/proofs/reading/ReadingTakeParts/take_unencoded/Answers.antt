@@ -9,6 +9,6 @@ pub returns : goal.returns
 returns c =
     let s = c.args.self.now in
     on_ok_weaker c.push_plain.result
-    (λ written. grown s _ _ s.lowers (cased_text s.lowers c.args.text.now) refl refl refl refl
-    written (plain_cased s.lowers (set_of s.table) c.args.text.now c.utf8.text))
+    (λ written. grown s _ _ (cased_text s.lowers c.args.text.now) refl refl refl written
+    (plain_cased s.lowers (set_of s.table) c.args.text.now c.utf8.text))
     c.push_plain.ensures

@@ -39,7 +39,8 @@ loop-i-preserved c =
     sym (ap (λ f. f (get_or bs i 0)) c.masks-low.ensures)
     ∙ held in
     let below : get_or bs i 0 < 128 = bit_ascii _ _ _ allowed in
-    let e = valid_prefix-char (set_of table) (lacks_percent table) bs i (omega arith) below allowed in
+    let e = valid_prefix-char (set_of table) (lacks_percent table) bs i (omega arith) below
+    allowed in
     record {
       from = omega arith;
       boundary =

@@ -15,7 +15,8 @@ step : (t : Table) (low high : ℕ) (bs : List ℕ) (start i n : ℕ)
     → has_bit low high ≡ has_bit t.low t.high → t.pct_encoded ≡ true → IsUtf8 bs
     → IsCharBoundary bs i → i + 16 ≤ length bs → n ≤ 16 → AreSpelt (has_bit low high) bs i n
     → i + valid_prefix (set_of t) (drop i bs) ≡ start + valid_prefix (set_of t) (drop start bs)
-    → (i + n + valid_prefix (set_of t) (drop (i + n) bs) ≡ start + valid_prefix (set_of t) (drop start bs))
+    → (i + n + valid_prefix (set_of t) (drop (i + n) bs)
+    ≡ start + valid_prefix (set_of t) (drop start bs))
     × IsCharBoundary bs (i + n)
 step t low high bs start i n masks pct u here room few spelt before =
     let r = spelt_scanned (set_of t) (lacks_percent t) pct (bit_ascii t.low t.high) bs i n

@@ -62,7 +62,8 @@ returns-then-not-allows_past_ascii-clause-refused c = λ _.
 
 read_char : (c : goal.After-len_utf8)
     → (valid_prefix (set_of c.args.self.now) (drop c.args.index c.args.text.now)
-    ≡ valid_prefix (set_of c.args.self.now) (drop (c.args.index + c.len_utf8.result) c.args.text.now)
+    ≡ valid_prefix (set_of c.args.self.now)
+    (drop (c.args.index + c.len_utf8.result) c.args.text.now)
     + c.len_utf8.result)
     × IsCharBoundary c.args.text.now (c.args.index + c.len_utf8.result)
 read_char c =

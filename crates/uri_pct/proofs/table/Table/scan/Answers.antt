@@ -20,13 +20,15 @@ returns-then-i-bytes-clause-end c =
     let bs = c.as_bytes-bytes.result.now in
     let i = c.pass_ascii-i.result in
     let same : bs ≡ c.args.text.now = c.as_bytes-bytes.ensures.value in
-    let passed : i + valid_prefix set (drop i bs) ≡ c.args.start + valid_prefix set (drop c.args.start bs) =
+    let passed : i + valid_prefix set (drop i bs)
+    ≡ c.args.start + valid_prefix set (drop c.args.start bs) =
     rw same c.pass_ascii-i.ensures.total in
     let within : i ≤ length bs = rw same c.pass_ascii-i.ensures.boundary.0 in
     let stop : i < length bs → set.ascii (get_or bs i 0) ≡ false =
     rw same c.pass_ascii-i.ensures.stop in
     let e : valid_prefix set (drop i bs) ≡ 0 = elim c.then-i-bytes.branch [
-      | then-i-bytes-via-then-i-bytes w ↦ valid_prefix-end set bs i (omega (arith, w.if-i-bytes.true))
+      | then-i-bytes-via-then-i-bytes w ↦
+          valid_prefix-end set bs i (omega (arith, w.if-i-bytes.true))
       | then-i-bytes-via-else-i-bytes+then-not-may_go_on w ↦
           let inside : i < length bs = omega (arith, within, w.if-i-bytes.false) in
           valid_prefix-done set (lacks_percent c.args.self.now) bs i inside (stop inside)
