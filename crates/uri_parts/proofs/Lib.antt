@@ -5,3 +5,4 @@ pub mod TextKinds
 pub mod Parsing
 pub mod Refusals
 pub mod Theorems
+pub mod Steps

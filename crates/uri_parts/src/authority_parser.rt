@@ -20,8 +20,8 @@ ghost use Rattle.std.specs.Result.{result_err};
 ghost use Rattle.uri_parts.specs.Components.{starts};
 ghost use Rattle.uri_parts.specs.LiteralErrors.{literal};
 ghost use Rattle.uri_parts.specs.Refusals.{from_path, last_colon as last_colon_before};
-ghost use Rattle.uri_parts.specs.Models.ParseErrors.{left_over_error, name_error, host_error, userinfo_error};
-ghost use Rattle.uri_parts.specs.Models.ParseErrors.{other_error, authority_error};
+ghost use Rattle.uri_parts.specs.Models.ParseErrors.{left_over_error, name_error, host_error};
+ghost use Rattle.uri_parts.specs.Models.ParseErrors.{userinfo_error, other_error, authority_error};
 ghost use Rattle.uri_parts.specs.Errors.{IsErrorIn};
 ghost use Rattle.uri_parts.specs.KindTables.{kind_of};
 ghost use Rattle.uri_parts.specs.Models.Literals.{parses_literal, literal_length};
@@ -36,7 +36,7 @@ use crate::positions::AuthorityPositions;
 use uri_pct::table::DIGIT;
 
 /// Passes a port with its mark, if one is next.
-#[tactic(auto, using(uri_pct::proofs::TableSets::Constants::digit_table, crate::proofs::Authorities::AuthorityCuts::behind_mark), unfolding(crate::specs::Models::AuthorityParsing::port_length))]
+#[tactic(auto, using(crate::proofs::Steps::ports), unfolding(crate::proofs::Steps::name))]
 #[inline(always)]
 fn pass_port(cursor: &mut Cursor<'_>)
     ensures text { cursor_text cursor.new ≡ cursor_text cursor.old }
@@ -51,7 +51,7 @@ fn pass_port(cursor: &mut Cursor<'_>)
 
 /// Passes a registered name and the port behind it, if there is one. Answers where the name ends,
 /// if nothing else of the authority is left.
-#[tactic(auto, using(crate::proofs::Authorities::AuthorityCuts::behind), unfolding(crate::specs::Models::AuthorityParsing::finds_name, crate::specs::Models::AuthorityParsing::name_length))]
+#[tactic(auto, using(crate::proofs::Steps::cuts), unfolding(crate::proofs::Steps::name))]
 #[inline(always)]
 fn find_name(cursor: &mut Cursor<'_>, tables: &KindTables) -> Option<usize>
     ensures finds { is_some result ≡ finds_name (kind_of tables.now) (rest_of cursor.old) }
@@ -90,7 +90,7 @@ fn left_over(cursor: Cursor<'_>, tables: &KindTables) -> ParseError
 }
 
 /// Where the last `:` stands from `start` to `end`, if there is one.
-#[tactic(auto, using(crate::proofs::Refusals::Colons::last_is, crate::proofs::Refusals::Colons::last_was))]
+#[tactic(auto, using(crate::proofs::Steps::colons))]
 fn last_colon(text: &str, start: usize, end: usize) -> Option<usize>
     requires order { start ≤ end }
     requires end { end ≤ length text.now }
@@ -158,7 +158,7 @@ fn pass_literal(cursor: &mut Cursor<'_>) -> Result<(), ParseError>
 
 /// Passes a host and the port behind it, if there is one, which have to end the authority. Answers
 /// where the host ends.
-#[tactic(auto, using(crate::proofs::Authorities::AuthorityCuts::behind), unfolding(crate::specs::Models::AuthorityParsing::finds_host, crate::specs::Models::AuthorityParsing::passes_host, crate::specs::Models::AuthorityParsing::host_length, crate::specs::Models::AuthorityParsing::host_end, crate::specs::Models::ParseErrors::host_error, crate::specs::Models::ParseErrors::port_error, crate::specs::Models::ParseErrors::ended_error))]
+#[tactic(auto, using(crate::proofs::Steps::cuts), unfolding(crate::proofs::Steps::host))]
 #[inline(always)]
 fn find_host(cursor: &mut Cursor<'_>, tables: &KindTables) -> Result<usize, ParseError>
     ensures accepts { is_ok result ≡ finds_host (kind_of tables.now) (rest_of cursor.old) }
@@ -187,7 +187,7 @@ fn find_host(cursor: &mut Cursor<'_>, tables: &KindTables) -> Result<usize, Pars
 }
 
 /// Passes userinfo, of which a name and a port were passed, and its `@`.
-#[tactic(auto, using(crate::proofs::Authorities::AuthorityCuts::behind), unfolding(crate::specs::Models::AuthorityParsing::more_user, crate::specs::Models::ParseErrors::userinfo_error))]
+#[tactic(auto, using(crate::proofs::Steps::cuts), unfolding(crate::proofs::Steps::user))]
 #[inline(always)]
 fn pass_userinfo(cursor: &mut Cursor<'_>, tables: &KindTables) -> Result<(), ParseError>
     requires { 0 < place_of cursor.old }
@@ -217,7 +217,7 @@ fn pass_userinfo(cursor: &mut Cursor<'_>, tables: &KindTables) -> Result<(), Par
 
 /// An authority that is more than a name and a port, of which these were passed: where it lies, and
 /// its host.
-#[tactic(auto, using(crate::proofs::Authorities::AuthorityCuts::behind), unfolding(crate::specs::Models::AuthorityParsing::finds_other, crate::specs::Models::AuthorityParsing::passes_user, crate::specs::Models::AuthorityParsing::user_length, crate::specs::Models::AuthorityParsing::host_place, crate::specs::Models::AuthorityParsing::other_authority, crate::specs::Models::ParseErrors::other_error))]
+#[tactic(auto, using(crate::proofs::Steps::cuts), unfolding(crate::proofs::Steps::other))]
 #[inline(always)]
 fn find_other_authority(
     start: Cursor<'_>,
@@ -279,7 +279,7 @@ fn find_other_of_kind<K: Kind>(
 }
 
 /// An authority: where it lies, and its host.
-#[tactic(auto, unfolding(crate::specs::Models::AuthorityParsing::finds_authority, crate::specs::Models::AuthorityParsing::found_length, crate::specs::Models::AuthorityParsing::found_authority, crate::specs::Models::AuthorityParsing::other_length, crate::specs::Models::AuthorityParsing::other_authority, crate::specs::Models::ParseErrors::authority_error))]
+#[tactic(auto, unfolding(crate::proofs::Steps::authority))]
 #[inline(always)]
 pub(crate) fn find_authority<K: Kind>(
     cursor: &mut Cursor<'_>,

@@ -91,7 +91,7 @@ impl<'a> Cursor<'a> {
     }
 
     /// Whether one of `/?#` is next, or nothing is left: what may stand behind an authority.
-    #[tactic(auto, using(crate::proofs::Parsing::NextBytes::ends_at, crate::proofs::Parsing::NextBytes::goes_on_at))]
+    #[tactic(auto, using(crate::proofs::Steps::marks))]
     #[inline]
     pub fn ends_authority(&self) -> bool
         ensures { result ≡ begins_any (codes "/?#") (rest_of self.now) }
@@ -104,7 +104,7 @@ impl<'a> Cursor<'a> {
 
     /// Passes the longest prefix of the rest that the table allows; a `%` behind it that begins no
     /// octet is refused, where the table allows octets.
-    #[tactic(auto, using(crate::proofs::Parsing::NextBytes::stray_fault, crate::proofs::Parsing::NextBytes::starts_at))]
+    #[tactic(auto, using(crate::proofs::Steps::strays))]
     #[inline(always)]
     pub fn pass(&mut self, table: &Table) -> Result<(), ParseError>
         ensures text { cursor_text self.new ≡ cursor_text self.old }

@@ -42,7 +42,7 @@ fn is_lettered(text: &str, index: usize) -> bool
 }
 
 /// Where the digits end that stand at `start`, of which at most so many are passed.
-#[tactic(auto, using(crate::proofs::Refusals::Digits::no_digit, crate::proofs::Refusals::Digits::no_more, crate::proofs::Refusals::Digits::no_text))]
+#[tactic(auto, using(crate::proofs::Steps::digits))]
 fn digits_end(text: &str, start: usize, radix: u32, most: usize) -> usize
     requires boundary { IsCharBoundary text.now start }
     requires low { 2 ≤ radix }
@@ -76,7 +76,7 @@ fn octet_end(text: &str, start: usize) -> Option<usize>
 }
 
 /// Where the IPv4 address ends that stands at `start`, or `None` if there is none.
-#[tactic(auto, using(crate::proofs::Refusals::Digits::octets_none, crate::proofs::Refusals::Digits::octets_dotted, crate::proofs::Refusals::Digits::octets_undotted))]
+#[tactic(auto, using(crate::proofs::Steps::octets))]
 fn ipv4_end(text: &str, start: usize) -> Option<usize>
     requires { IsCharBoundary text.now start }
     ensures boundary { IfSome result (IsCharBoundary text.now) }
@@ -244,7 +244,7 @@ fn refusal(text: &str, start: usize) -> ParseError
 
 /// Where one or more characters of the table end that stand at `start`, with the `mark` behind
 /// them; or where one of these is missing.
-#[tactic(auto, unfolding(crate::specs::Models::Literals::parses_marked, crate::specs::Models::Literals::length_to_mark))]
+#[tactic(auto, unfolding(crate::proofs::Steps::future))]
 fn marked_end(text: &str, start: usize, table: &Table, mark: u8) -> Result<usize, ParseError>
     requires boundary { IsCharBoundary text.now start }
     requires ascii { mark < 128 }
@@ -267,7 +267,7 @@ fn marked_end(text: &str, start: usize, table: &Table, mark: u8) -> Result<usize
 /// behind it; or where something of these is missing.
 ///
 /// No hexadecimal digit is a `.`, and none of its characters a `]`: so each is found by a scan.
-#[tactic(auto, using(uri_pct::proofs::TableSets::Constants::constant_tables, crate::proofs::Authorities::AuthorityCuts::behind), unfolding(crate::specs::Models::Literals::parses_future, crate::specs::Models::Literals::future_length))]
+#[tactic(auto, using(crate::proofs::Steps::futures), unfolding(crate::proofs::Steps::future))]
 fn future_end(text: &str, start: usize) -> Result<usize, ParseError>
     requires { IsCharBoundary text.now start }
     ensures accepts { is_ok result ≡ parses_future (drop start text.now) }

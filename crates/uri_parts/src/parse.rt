@@ -27,7 +27,7 @@ use crate::positions::{AuthorityPositions, Positions};
 use uri_pct::table::SCHEME;
 
 /// A fragment if there is one, and then the end.
-#[tactic(auto, unfolding(crate::specs::Models::Parsing::parses_fragment, crate::specs::Refusals::from_fragment, crate::specs::Refusals::from_end))]
+#[tactic(auto, unfolding(crate::proofs::Steps::fragment))]
 #[inline(always)]
 fn parse_fragment(cursor: &mut Cursor<'_>, tables: &KindTables) -> Result<(), ParseError>
     ensures accepts { is_ok result ≡ parses_fragment (kind_of tables.now) (rest_of cursor.old) }
@@ -45,7 +45,7 @@ fn parse_fragment(cursor: &mut Cursor<'_>, tables: &KindTables) -> Result<(), Pa
 }
 
 /// A query if there is one, and what follows it. Answers where the query ends.
-#[tactic(auto, unfolding(crate::specs::Models::Parsing::parses_end, crate::specs::Models::Parsing::query_end_at, crate::specs::Refusals::from_query))]
+#[tactic(auto, unfolding(crate::proofs::Steps::query))]
 #[inline(always)]
 fn parse_end(cursor: &mut Cursor<'_>, tables: &KindTables) -> Result<Option<usize>, ParseError>
     ensures accepts { is_ok result ≡ parses_end (kind_of tables.now) (rest_of cursor.old) }
@@ -73,7 +73,7 @@ struct BeforePath {
 }
 
 /// The rest of a path, and what follows it.
-#[tactic(auto, unfolding(crate::specs::Models::Parsing::parses_path, crate::specs::Models::Parsing::path_positions, crate::specs::Refusals::from_path))]
+#[tactic(auto, unfolding(crate::proofs::Steps::path))]
 #[inline(always)]
 fn parse_path(
     cursor: &mut Cursor<'_>,
@@ -99,7 +99,7 @@ fn parse_path(
 }
 
 /// An authority, of what stands before a path.
-#[tactic(auto, unfolding(crate::specs::Models::Parsing::parses_authority, crate::specs::Models::Parsing::authority_positions))]
+#[tactic(auto, unfolding(crate::proofs::Steps::before))]
 #[inline(always)]
 fn pass_authority<K: Kind>(
     cursor: &mut Cursor<'_>,
@@ -128,7 +128,7 @@ fn pass_authority<K: Kind>(
 }
 
 /// What follows a scheme, before a path.
-#[tactic(auto, unfolding(crate::specs::Models::Parsing::parses_hier, crate::specs::Models::Parsing::hier_positions, crate::specs::Models::ParseErrors::hier_error))]
+#[tactic(auto, unfolding(crate::proofs::Steps::hier))]
 #[inline(always)]
 fn pass_hier<K: Kind>(
     cursor: &mut Cursor<'_>,
@@ -159,7 +159,7 @@ fn pass_hier<K: Kind>(
 }
 
 /// A path that begins the text, so far as its first segment is scanned with no colon.
-#[tactic(auto, unfolding(crate::specs::Models::Parsing::parses_relative, crate::specs::Models::Parsing::relative_positions, crate::specs::Refusals::from_relative_path))]
+#[tactic(auto, unfolding(crate::proofs::Steps::relative))]
 #[inline(always)]
 fn pass_relative(cursor: &mut Cursor<'_>, tables: &KindTables) -> Result<BeforePath, ParseError>
     ensures accepts { let segment = segment_nz_nc_of tables.now in
@@ -187,7 +187,7 @@ fn pass_relative(cursor: &mut Cursor<'_>, tables: &KindTables) -> Result<BeforeP
 
 /// What stands before a path in a text that has no scheme, behind the characters that might have
 /// been one.
-#[tactic(auto, unfolding(crate::specs::Models::Parsing::parses_schemeless, crate::specs::Models::Parsing::schemeless_positions, crate::specs::Models::ParseErrors::schemeless_error))]
+#[tactic(auto, unfolding(crate::proofs::Steps::schemeless))]
 #[inline(always)]
 fn pass_schemeless<K: Kind>(
     cursor: &mut Cursor<'_>,
@@ -215,7 +215,7 @@ fn pass_schemeless<K: Kind>(
 }
 
 /// What stands before a path, from the beginning of the text on.
-#[tactic(auto, using(uri_pct::proofs::TableSets::Constants::scheme_table), unfolding(crate::specs::Models::Parsing::parses, crate::specs::Models::Parsing::parsed_positions, crate::specs::Models::ParseErrors::parsed_error))]
+#[tactic(auto, using(crate::proofs::Steps::schemes), unfolding(crate::proofs::Steps::whole))]
 #[inline(always)]
 fn pass_front<K: Kind>(
     cursor: &mut Cursor<'_>,
