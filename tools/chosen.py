@@ -23,10 +23,10 @@ pub(crate) fn {READER}() -> i64 {{
 """
 
 
-def pairs_of(edit):
-    """The pairs of texts of an edit, as bytes, each with its file."""
+def pairs_of(mutant):
+    """The pairs of texts of a mutant, as bytes, each with its file."""
     found, path, old = [], "", ""
-    for line in edit.text.split("\n"):
+    for line in mutant.text.split("\n"):
         if line.startswith("file: "):
             path = line[6:].strip()
         elif line.startswith("old: "):
@@ -132,19 +132,19 @@ class Source:
 class Chosen:
     """The crates of these mutants, as files to write, and the number of each that is in them."""
 
-    def __init__(self, rattle, edits):
+    def __init__(self, rattle, mutants):
         self.numbers, self.files, self.lines = {}, {}, {}
         sources = {}
-        for number, edit in enumerate(edits, 1):
-            pairs = pairs_of(edit)
-            paths = {(edit.crate.name, it[0]) for it in pairs}
+        for number, mutant in enumerate(mutants, 1):
+            pairs = pairs_of(mutant)
+            paths = {(mutant.crate.name, it[0]) for it in pairs}
             path = next(iter(paths)) if len(paths) == 1 else None
             if not path or not path[1].startswith("src/"):
                 continue
             if path not in sources:
-                sources[path] = Source(rattle, pathlib.Path(edit.crate.folder, path[1]))
+                sources[path] = Source(rattle, pathlib.Path(mutant.crate.folder, path[1]))
             if sources[path].takes(number, pairs):
-                self.numbers[edit] = number
+                self.numbers[mutant] = number
         for path, source in sources.items():
             data, lines = source.written()
             if lines:
@@ -152,9 +152,9 @@ class Chosen:
         self.add_reader({it.crate.name: it for it in self.numbers})
 
     def add_reader(self, one_of):
-        for name, edit in one_of.items():
+        for name, mutant in one_of.items():
             path = name, "src/lib.rt"
-            data = self.files.get(path) or (pathlib.Path(edit.crate.folder, path[1])).read_bytes()
+            data = self.files.get(path) or (pathlib.Path(mutant.crate.folder, path[1])).read_bytes()
             self.files[path] = data + READING.encode()
 
     def at(self, crate, path, line):

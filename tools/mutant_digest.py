@@ -306,7 +306,7 @@ class Digests:
             it.name: known.get(it.name) or Shape(rt.rtlib.RATTLE, it) for it in crates
         }
         said = subprocess.run(["rt", "version"], check=True, capture_output=True, text=True)
-        judge = pathlib.Path(__file__).with_name("wrong_bodies.py")
+        judge = pathlib.Path(__file__).with_name("judge.py")
         self.judge = said.stdout.strip(), judge.read_text(encoding="utf-8")
         opened = {it: shape.opened(self.shapes.values()) for it, shape in self.shapes.items()}
         self.below, self.own = {}, {}
@@ -315,13 +315,13 @@ class Digests:
             self.below[name] = sum_of(shape.kind, sorted(shape.above.items()), more)
             self.own[name] = sum_of(shape.kind, sorted(shape.own.items()), more)
 
-    def of(self, edit):
-        """Returns the digest of an edit of a crate."""
-        crate = edit.crate
+    def of(self, mutant):
+        """Returns the digest of a mutant of a crate."""
+        crate = mutant.crate
         shape = self.shapes[crate.name]
-        files = [it[6:].strip() for it in edit.text.split("\n") if it.startswith("file: ")]
+        files = [it[6:].strip() for it in mutant.text.split("\n") if it.startswith("file: ")]
         modules = ["/".join(shape.module(it)) for it in files if it.startswith("src/")]
-        touched = shape.touched([*modules, *([edit.function] if edit.function else [])])
+        touched = shape.touched([*modules, *([mutant.function] if mutant.function else [])])
         below = [(it.name, self.below[it.name]) for it in crate.below()]
-        parts = (self.judge, self.own[crate.name], touched, below, judged(edit.text))
+        parts = (self.judge, self.own[crate.name], touched, below, judged(mutant.text))
         return sum_of(*parts)[:16]

@@ -1,6 +1,6 @@
 """The file of a crate that keeps the verdicts on its mutants, and those that are due.
 
-A crate's file `mutants.lock` has a line for each mutant of its `edits/` that was rejected:
+A crate's file `mutants.lock` has a line for each mutant of its `mutants/` that was rejected:
 
     NAME DIGEST rejected SHOWN
 
@@ -43,7 +43,7 @@ class Lock:
     """The file of a crate that keeps the verdicts on its mutants."""
 
     def __init__(self, crate):
-        self.edits = pathlib.Path(crate.folder, "edits")
+        self.mutants = pathlib.Path(crate.folder, "mutants")
         self.path = pathlib.Path(crate.folder, "mutants.lock")
 
     def lines(self):
@@ -63,10 +63,10 @@ class Lock:
     def write(self, changes):
         """Replaces the lines of these mutants, each by its digest and what was shown of it, or by
         none, and drops those of mutants that are gone."""
-        handle = os.open(self.edits, os.O_RDONLY)
+        handle = os.open(self.mutants, os.O_RDONLY)
         try:
             fcntl.flock(handle, fcntl.LOCK_EX)
-            names = {it.stem for it in self.edits.glob("*.edit")}
+            names = {it.stem for it in self.mutants.glob("*.edit")}
             rows = [it for it in self.lines() if it[0] in names and it[0] not in changes]
             rows += [[name, it[0], REJECTED, it[1]] for name, it in changes.items() if it]
             text = "".join(f"{' '.join(it)}\n" for it in sorted(rows))
@@ -81,38 +81,38 @@ class Lock:
 
 
 class Verdicts:
-    """The digest of each edit, and the files that keep what was found of them."""
+    """The digest of each mutant, and the files that keep what was found of them."""
 
     def __init__(self, rt, crates, is_written):
         self.rt, self.is_written, self.lock = rt, is_written, threading.Lock()
         self.files = {it.name: Lock(it) for it in crates}
         self.stand = {it.name: rt.touched(it) for it in crates}
-        self.digests, self.of_edit = Digests(rt, crates), {}
+        self.digests, self.of_mutant = Digests(rt, crates), {}
 
-    def digest(self, edit):
-        if edit.name not in self.of_edit:
-            self.of_edit[edit.name] = self.digests.of(edit)
-        return self.of_edit[edit.name]
+    def digest(self, mutant):
+        if mutant.name not in self.of_mutant:
+            self.of_mutant[mutant.name] = self.digests.of(mutant)
+        return self.of_mutant[mutant.name]
 
-    def is_stale(self, edit):
-        return self.shown(edit) is None
+    def is_stale(self, mutant):
+        return self.shown(mutant) is None
 
-    def shown(self, edit):
-        return self.files[edit.crate.name].shown(stem_of(edit), self.digest(edit))
+    def shown(self, mutant):
+        return self.files[mutant.crate.name].shown(stem_of(mutant), self.digest(mutant))
 
-    def due(self, edits, commit):
-        """The edits that are stale, and those of the others that the commit draws; all, if none."""
-        stale = [it for it in edits if self.is_stale(it)]
-        others = [it for it in edits if it not in stale]
+    def due(self, mutants, commit):
+        """The mutants that are stale, and those of the others that the commit draws; all, if none."""
+        stale = [it for it in mutants if self.is_stale(it)]
+        others = [it for it in mutants if it not in stale]
         return stale, [it for it in others if not commit or is_drawn(commit, draw_of(it))]
 
-    def keep(self, edits):
-        """Writes what was found of these edits of a crate."""
-        if edits:
-            self.write(edits[0].crate, {stem_of(it): self.line(it) for it in edits})
+    def keep(self, mutants):
+        """Writes what was found of these mutants of a crate."""
+        if mutants:
+            self.write(mutants[0].crate, {stem_of(it): self.line(it) for it in mutants})
 
     def keep_shown(self, shown):
-        """Writes what a run of these edits showed, and returns those whose verdict has no line."""
+        """Writes what a run of these mutants showed, and returns those whose verdict has no line."""
         kept = {it: (self.digest(it), text) for it, text in shown.items() if not self.is_stale(it)}
         for crate in {it.crate.name: it.crate for it in kept}.values():
             of_crate = {stem_of(it): line for it, line in kept.items() if it.crate.name == crate.name}
@@ -127,19 +127,19 @@ class Verdicts:
             read = [*crate.below(), crate]
             if any(self.rt.touched(it) != self.stand[it.name] for it in read):
                 said = f"files changed meanwhile, so {len(changes)} verdicts are not kept"
-                print(f"try-edits: {crate.name}: {said}", flush=True)
+                print(f"mutants: {crate.name}: {said}", flush=True)
             else:
                 self.files[crate.name].write(changes)
 
-    def line(self, edit):
-        """The digest of an edit and what was shown of it, or None where it was not refused."""
-        return (self.digest(edit), self.shown(edit) or UNSHOWN) if edit.verdict else None
+    def line(self, mutant):
+        """The digest of a mutant and what was shown of it, or None where it was not rejected."""
+        return (self.digest(mutant), self.shown(mutant) or UNSHOWN) if mutant.verdict else None
 
 
-def stem_of(edit):
-    return edit.name.partition("/")[2].removesuffix(".edit")
+def stem_of(mutant):
+    return mutant.name.partition("/")[2].removesuffix(".edit")
 
 
-def draw_of(edit):
-    """The name of an edit by which a commit draws it."""
-    return edit.name.removesuffix(".edit")
+def draw_of(mutant):
+    """The name of a mutant by which a commit draws it."""
+    return mutant.name.removesuffix(".edit")

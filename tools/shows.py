@@ -37,7 +37,7 @@ from typing import NamedTuple
 from chosen import LIBRARY, Chosen
 
 PROGRAM = "shows"
-DEPS = ("uri_commands", "uri_rows", "uri_relative", "fluent_uri", "uri_parts", "uri_pct")
+DEPS = ("uri_commands", "test_vectors", "uri_relative", "fluent_uri", "uri_parts", "uri_pct")
 MARK = "\n= shown\n"
 NOTHING = "nothing"
 LIMITS = ("--steps", "1000", "--seconds", "5")
@@ -53,9 +53,9 @@ class Shown(NamedTuple):
     turned: str
 
 
-def shows_of(edit):
+def shows_of(mutant):
     """What a mutant shows: the lines, or none where no output can differ; and what is wrong."""
-    lines = [it[6:].strip() for it in edit.text.split("\n") if it.startswith("shows:")]
+    lines = [it[6:].strip() for it in mutant.text.split("\n") if it.startswith("shows:")]
     if len(lines) == 1 and re.fullmatch(r"nothing, since \S.*", lines[0]):
         return [], None
     found = [LINE.fullmatch(it) for it in lines]
@@ -69,15 +69,15 @@ def shows_of(edit):
     return shown, f"it shows no difference: {' '.join(same.words)}" if same else None
 
 
-def has_shows(edit):
-    return any(it.startswith("shows:") for it in edit.text.split("\n"))
+def has_shows(mutant):
+    return any(it.startswith("shows:") for it in mutant.text.split("\n"))
 
 
-def mark_of(edit):
+def mark_of(mutant):
     """What the lock says of a mutant that was seen to print what its lines say."""
-    lines = [it for it in edit.text.split("\n") if it.startswith("shows:")]
+    lines = [it for it in mutant.text.split("\n") if it.startswith("shows:")]
     sum_of_lines = hashlib.sha256("\n".join(lines).encode()).hexdigest()[:8]
-    shown, _ = shows_of(edit)
+    shown, _ = shows_of(mutant)
     return f"seen:{len(shown)}:{sum_of_lines}" if shown else f"{NOTHING}:{sum_of_lines}"
 
 
@@ -182,16 +182,16 @@ class Seen:
 
     def run(self):
         together = self.together([it for it in self.shown if it.crate.name in self.runner.crates])
-        for edit in self.shown:
-            if edit not in together and edit not in self.why:
-                self.alone(edit)
+        for mutant in self.shown:
+            if mutant not in together and mutant not in self.why:
+                self.alone(mutant)
 
-    def together(self, edits):
-        """Runs those that one program can have; what it refuses is tried without the rest."""
+    def together(self, mutants):
+        """Runs those that one program can have; what it rejects is tried without the rest."""
         while True:
-            made = Chosen(self.rt.rtlib.RATTLE, edits)
+            made = Chosen(self.rt.rtlib.RATTLE, mutants)
             runs = [(0, it.words) for lines in self.shown.values() for it in lines]
-            rows = [(n, it) for edit, n in made.numbers.items() for it in self.shown[edit]]
+            rows = [(n, it) for mutant, n in made.numbers.items() for it in self.shown[mutant]]
             runs += [(n, it.words) for n, it in rows]
             self.runner.stopping = {(n, it.words) for n, it in rows if it.turned == STOPPED}
             try:
@@ -203,38 +203,38 @@ class Seen:
                     raise SystemExit(f"shows: no program was made: {str(error).strip()[-2000:]}")
                 apart = [it for it, number in made.numbers.items() if number in numbers]
                 print(*(f"shows {it.name}: is tried alone" for it in apart), sep="\n", flush=True)
-                edits = [it for it in edits if it not in apart]
+                mutants = [it for it in mutants if it not in apart]
         self.stands = {words: text for (number, words), text in outputs.items() if number == 0}
-        for edit, n in made.numbers.items():
-            self.turned[edit] = {it.words: outputs[n, it.words] for it in self.shown[edit]}
+        for mutant, n in made.numbers.items():
+            self.turned[mutant] = {it.words: outputs[n, it.words] for it in self.shown[mutant]}
         return made.numbers
 
-    def alone(self, edit):
-        texts, why = self.rt.edited(edit.text, edit.crate.folder)
-        if not why and edit.crate.name not in self.runner.crates:
-            why = f"the program that runs it is not above {edit.crate.name}"
+    def alone(self, mutant):
+        texts, why = self.rt.edited(mutant.text, mutant.crate.folder)
+        if not why and mutant.crate.name not in self.runner.crates:
+            why = f"the program that runs it is not above {mutant.crate.name}"
         if not why:
-            files = {(edit.crate.name, path): it.encode() for path, it in texts.items()}
+            files = {(mutant.crate.name, path): it.encode() for path, it in texts.items()}
             try:
-                outputs = self.runner.outputs(files, [(0, it.words) for it in self.shown[edit]])
-                self.turned[edit] = {words: text for (_, words), text in outputs.items()}
+                outputs = self.runner.outputs(files, [(0, it.words) for it in self.shown[mutant]])
+                self.turned[mutant] = {words: text for (_, words), text in outputs.items()}
             except Refused as error:
                 why = f"rt try did not run it: {str(error).strip()[-300:]}"
         if why:
-            self.why[edit] = why
+            self.why[mutant] = why
 
-    def said(self, edit):
+    def said(self, mutant):
         """What was seen of a mutant, and whether it is what its lines say."""
-        if edit in self.why:
-            return self.why[edit], False
-        shown = self.shown[edit]
-        wrong = list(differences(shown, self.stands, self.turned[edit]))
+        if mutant in self.why:
+            return self.why[mutant], False
+        shown = self.shown[mutant]
+        wrong = list(differences(shown, self.stands, self.turned[mutant]))
         return "; ".join(wrong) or f"seen:{len(shown)}", not wrong
 
 
-def show(rt, root, crates, verdicts, edits, is_due):
+def show(rt, root, crates, verdicts, mutants, is_due):
     """Runs the mutants that have lines `shows:`, and returns the status."""
-    found = [it for it in edits if has_shows(it)]
+    found = [it for it in mutants if has_shows(it)]
     if is_due:
         # (of one in must-fail/ no file keeps what was seen)
         found = [it for it in found if not it.function or verdicts.shown(it) != mark_of(it)]
@@ -246,15 +246,15 @@ def show(rt, root, crates, verdicts, edits, is_due):
         if seen.shown:
             seen.run()
         said |= {it: seen.said(it) for it in seen.shown}
-    for edit in found:
-        text, is_well = said[edit]
-        print(f"shows {edit.name}: {'' if is_well else 'FAILED: '}{text}", flush=True)
+    for mutant in found:
+        text, is_well = said[mutant]
+        print(f"shows {mutant.name}: {'' if is_well else 'FAILED: '}{text}", flush=True)
     seen_well = {it: mark_of(it) for it, (_, is_well) in said.items() if is_well and it.function}
     if unkept := verdicts.keep_shown(seen_well):
         print(f"shows: {len(unkept)} of these are not kept, as mutants.lock has no line for them")
     failed = sum(not is_well for _, is_well in said.values())
     nothing = sum(text == NOTHING for text, _ in said.values())
-    lacking = len(edits) - sum(map(has_shows, edits))
+    lacking = len(mutants) - sum(map(has_shows, mutants))
     print(f"shows: {len(found) - nothing - failed} show a difference, {nothing} can show none, "
-          f"{failed} failed; {lacking} of {len(edits)} mutants have no line `shows:`")
+          f"{failed} failed; {lacking} of {len(mutants)} mutants have no line `shows:`")
     return 1 if failed else 0

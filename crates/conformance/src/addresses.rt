@@ -1,5 +1,5 @@
 //! How addresses are ordered, which of std they are, and how authorities print.
-use checks::{equal, prints};
+use test_support::{equal, prints};
 use fluent_uri::UriRef;
 use fluent_uri::component::HostOf;
 use fluent_uri::net::{IpAddr, Ipv4Addr, Ipv6Addr};

@@ -1,5 +1,5 @@
 //! What is built of parts, and what is refused (RFC 3986, section 5.3).
-use checks::equal;
+use test_support::equal;
 use fluent_uri::build::state::FragmentEnd;
 use fluent_uri::build::{BuildError, Builder};
 use fluent_uri::component::{Authority, Host, Scheme};

@@ -1,7 +1,7 @@
 //! Texts that an encoder allows, what they decode to, and what is cut from them (RFC 3986, section
 //! 2.1).
 use crate::owned_encoding::{Nothing, Octets, Private, valid};
-use checks::{equal, prints};
+use test_support::{equal, prints};
 use fluent_uri::UriRef;
 use fluent_uri::pct_enc::DecodedChunk::{PctDecoded, Unencoded};
 use fluent_uri::pct_enc::encoder::{Encoder, Path, Query};

@@ -1,5 +1,5 @@
 //! Links that are registered by the normal forms of their targets.
-use checks::equal;
+use test_support::equal;
 use fluent_uri::normalize::{DefaultPort, Normalizer};
 use fluent_uri::resolve::ResolveError;
 use fluent_uri::{Uri, UriRef};

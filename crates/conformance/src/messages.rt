@@ -1,5 +1,5 @@
-//! The messages of errors. The expected texts are those of `docs/REFUSALS.md`.
-use checks::prints;
+//! The messages of errors. The expected texts are those of `docs/PARSE_ERRORS.md`.
+use test_support::prints;
 use fluent_uri::ConvertError;
 use fluent_uri::build::BuildError;
 use fluent_uri::component::SocketError;

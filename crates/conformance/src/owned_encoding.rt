@@ -2,7 +2,7 @@
 ghost use Rattle.std.specs.Prelude.{◌≡◌, ◌∷◌, [], refl, true};
 ghost use Rattle.fluent_uri.specs.Sets.{plain, difference, is_one_of, path_set};
 
-use checks::{equal, prints};
+use test_support::{equal, prints};
 use fluent_uri::pct_enc::encoder::{Data, Encoder, IData, Path, Query};
 use fluent_uri::pct_enc::{EStr, EString, Table, table};
 use std::cmp::Ordering;

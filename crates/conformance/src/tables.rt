@@ -1,5 +1,5 @@
 //! Tables that are combined.
-use checks::equal;
+use test_support::equal;
 use fluent_uri::pct_enc::Table;
 use std::process::Abort;
 

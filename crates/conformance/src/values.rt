@@ -1,6 +1,6 @@
 //! Values of a text: made by `TryFrom`, resolved by their own calls, and with one fragment after
 //! another; what outlives them, and what a scheme prints.
-use checks::{equal, prints};
+use test_support::{equal, prints};
 use fluent_uri::component::Scheme;
 use fluent_uri::pct_enc::EStr;
 use fluent_uri::pct_enc::encoder::{Encoder, Fragment};

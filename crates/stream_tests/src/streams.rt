@@ -1,5 +1,5 @@
 //! The tests.
-use checks::equal;
+use test_support::equal;
 use fluent_uri::Uri;
 use std::alloc::{AllocError, Global};
 use std::io::{self, BufReader, ErrorKind, Read, Write};

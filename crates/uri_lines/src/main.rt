@@ -2,8 +2,8 @@
 //! `uri_lines query`.
 #![tactic(auto)]
 
-use calling::refusal::Refusal;
-use calling::task::Task;
+use cookbook::refusal::Refusal;
+use cookbook::task::Task;
 use std::env;
 use std::io::{self, BufRead, BufReader, BufWriter, ErrorKind, Write};
 use std::process::ExitCode;

@@ -1,4 +1,4 @@
--- Texts and their errors, which `docs/REFUSALS.md` shows.
+-- Texts and their errors, which `docs/PARSE_ERRORS.md` shows.
 use Rattle.std.specs.Prelude.{ℕ, List, [], ◌∷◌, Some, None, codes}
 use Rattle.uri_parts.specs.Errors.{unexpected, stray_percent, malformed_ipv6}
 use Rattle.uri_parts.specs.Refusals.{Refusal}

@@ -25,7 +25,7 @@ pub enum ParseErrorKind {
     InvalidIpv6Addr,
 }
 
-/// Why a text is not a URI or IRI, and where. `docs/REFUSALS.md` says which of the three errors a
+/// Why a text is not a URI or IRI, and where. `docs/PARSE_ERRORS.md` says which of the three errors a
 /// text gets, and at which index.
 ///
 /// # Examples

@@ -5,8 +5,8 @@ use std::env;
 use std::fs::File;
 use std::io::{self, BufReader, ErrorKind};
 use std::process::ExitCode;
-use uri_rows::run::run;
-use uri_rows::{Row, push_rows};
+use test_vectors::run::run;
+use test_vectors::{Row, push_rows};
 
 fn main(rt: HostRuntime) -> io::Result<ExitCode> {
     let alloc = rt.alloc();

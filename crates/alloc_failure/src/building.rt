@@ -1,0 +1,163 @@
+//! Builders: a step whose memory is refused marks the builder, which keeps its mark until `build`.
+use crate::requests::{answers, end, tell};
+use test_support::equal;
+use fluent_uri::build::state::FragmentEnd;
+use fluent_uri::build::{BuildError, Builder};
+use fluent_uri::component::Scheme;
+use fluent_uri::net::{Ipv4Addr, Ipv6Addr};
+use fluent_uri::pct_enc::EStr;
+use fluent_uri::pct_enc::encoder::{Encoder, IRegName, Port, RegName, Userinfo};
+use fluent_uri::{Iri, IriRef, RiMaybeRef, Uri, UriRef};
+use std::process::Abort;
+
+// Each is longer than the room that is left behind those before it.
+const NAME: &str = "01234567";
+
+const PATH: &str = "/0123456789012345";
+
+const QUERY: &str = "012345678901234567890123456789";
+
+const FRAGMENT: &str = "012345678901234567890123456789012345678901234567890123456789";
+
+fn part<'a, R: Abort, E: Encoder>(rt: &R, text: &'a str) -> EStr<'a, E> {
+    EStr::new(text).expect(rt, text)
+}
+
+fn scheme<'a, R: Abort>(rt: &R, text: &'a str) -> Scheme<'a> {
+    Scheme::new(text).expect(rt, text)
+}
+
+fn is_built<R: Abort + Print, V: RiMaybeRef + Drop>(
+    rt: &R,
+    built: &Result<V, BuildError>,
+    wanted: &str,
+) {
+    if answers(rt, wanted, built) {
+        equal(built.as_ref().map(V::as_str).ok(), Some(wanted)).expect(rt, wanted);
+    }
+}
+
+/// That a builder is refused for this, or for want of memory alone.
+fn is_refused<R: Abort + Print, V: RiMaybeRef + Drop>(
+    rt: &R,
+    built: Result<V, BuildError>,
+    wanted: BuildError,
+) {
+    match built.err() {
+        Some(BuildError::OutOfMemory) => tell(rt, "build of what would be refused"),
+        other => equal(other, Some(wanted)).expect(rt, "a refusal"),
+    }
+}
+
+#[test]
+fn uri_of_all_parts(rt: HostRuntime) {
+    let other = Uri::<&str>::parse("s://01234567").expect(&rt, "a URI");
+    let built = Uri::<String>::builder(rt.alloc())
+        .scheme(scheme(&rt, "s"))
+        .authority(other.authority().expect(&rt, "an authority"))
+        .path(part(&rt, PATH))
+        .query(part(&rt, QUERY))
+        .fragment(part(&rt, FRAGMENT))
+        .build();
+    is_built(
+        &rt,
+        &built,
+        "s://01234567/0123456789012345?012345678901234567890123456789#012345678901234567890123456789012345678901234567890123456789",
+    );
+    end(&rt, rt.alloc());
+}
+
+#[test]
+fn reference_of_optional_parts(rt: HostRuntime) {
+    let built = UriRef::<String>::builder(rt.alloc())
+        .path(part(&rt, PATH))
+        .optional(Builder::query, Some(part(&rt, QUERY)))
+        .optional(Builder::fragment, None)
+        .build();
+    is_built(
+        &rt,
+        &built,
+        "/0123456789012345?012345678901234567890123456789",
+    );
+    end(&rt, rt.alloc());
+}
+
+#[test]
+fn parts_of_an_authority(rt: HostRuntime) {
+    let user: EStr<'_, Userinfo> = part(&rt, NAME);
+    let name: EStr<'_, RegName> = part(&rt, NAME);
+    let port: EStr<'_, Port> = part(&rt, "0123456789012345");
+    let built = Uri::<String>::builder(rt.alloc())
+        .scheme(scheme(&rt, "s"))
+        .authority_with(|authority| authority.userinfo(user).host(name).port(port))
+        .path(EStr::EMPTY)
+        .build();
+    is_built(&rt, &built, "s://01234567@01234567:0123456789012345");
+    end(&rt, rt.alloc());
+}
+
+#[test]
+fn addresses_and_numbers(rt: HostRuntime) {
+    let built = UriRef::<String>::builder(rt.alloc())
+        .authority_with(|authority| authority.host(Ipv4Addr::new(127, 0, 0, 1)).port(65535))
+        .path(EStr::EMPTY)
+        .build();
+    is_built(&rt, &built, "//127.0.0.1:65535");
+    let built = UriRef::<String>::builder(rt.alloc())
+        .authority_with(|authority| authority
+            .host(Ipv6Addr::new(1, 2, 3, 4, 5, 6, 7, 8))
+            .port_with_default(65535, 80))
+        .path(EStr::EMPTY)
+        .build();
+    is_built(&rt, &built, "//[1:2:3:4:5:6:7:8]:65535");
+    end(&rt, rt.alloc());
+}
+
+#[test]
+fn international_parts(rt: HostRuntime) {
+    let name: EStr<'_, IRegName> = part(&rt, "é");
+    let built = Iri::<String>::builder(rt.alloc())
+        .scheme(scheme(&rt, "s"))
+        .authority_with(|authority| authority.host(name))
+        .path(part(&rt, "/éééé"))
+        .build();
+    is_built(&rt, &built, "s://é/éééé");
+    let built = IriRef::<String>::builder(rt.alloc())
+        .path(part(&rt, "é"))
+        .query(part(&rt, "éééé"))
+        .fragment(part(&rt, "éééééééé"))
+        .build();
+    is_built(&rt, &built, "é?éééé#éééééééé");
+    end(&rt, rt.alloc());
+}
+
+/// `build` of a builder that is marked answers out of memory, whatever else would be refused.
+#[test]
+fn mark_before_another_refusal(rt: HostRuntime) {
+    let built = UriRef::<String>::builder(rt.alloc())
+        .path(part(&rt, "a:b"))
+        .query(part(&rt, QUERY))
+        .advance::<FragmentEnd>()
+        .build();
+    is_refused(&rt, built, BuildError::FirstPathSegmentContainsColon);
+    let built = UriRef::<String>::builder(rt.alloc())
+        .path(part(&rt, "//"))
+        .optional(Builder::query, Some(part(&rt, QUERY)))
+        .optional(Builder::fragment, None)
+        .build();
+    is_refused(&rt, built, BuildError::PathStartsWithDoubleSlash);
+    end(&rt, rt.alloc());
+}
+
+#[test]
+fn mark_through_an_authority(rt: HostRuntime) {
+    let name: EStr<'_, RegName> = part(&rt, NAME);
+    let built = Uri::<String>::builder(rt.alloc())
+        .scheme(scheme(&rt, "s"))
+        .authority_with(|authority| authority.host(name).port(65535))
+        .path(part(&rt, "rootless"))
+        .advance::<FragmentEnd>()
+        .build();
+    is_refused(&rt, built, BuildError::NonemptyRootlessPath);
+    end(&rt, rt.alloc());
+}

@@ -1,0 +1,22 @@
+//! Every call that takes memory, held to "out of memory, or exactly this", while each request for
+//! memory is refused in turn (`.ci/alloc_failure.sh`).
+#![tactic(auto)]
+
+#[cfg(test)]
+mod building;
+#[cfg(test)]
+mod commands;
+#[cfg(test)]
+mod kinds;
+#[cfg(test)]
+mod links;
+#[cfg(test)]
+mod requests;
+#[cfg(test)]
+mod targets;
+#[cfg(test)]
+mod texts;
+#[cfg(test)]
+mod without_memory;
+#[cfg(test)]
+mod without_requests;

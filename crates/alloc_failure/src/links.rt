@@ -1,0 +1,95 @@
+//! A register of links, which a refused request leaves as it was.
+use crate::requests::{end, tell};
+use test_support::equal;
+use fluent_uri::normalize::{DefaultPort, Normalizer};
+use fluent_uri::{Uri, UriRef};
+use std::alloc::AllocError;
+use std::process::Abort;
+use uri_links::links::{Outcome, Register};
+
+fn has_targets<R: Abort, P: DefaultPort>(rt: &R, register: &Register<P>, targets: &[&str]) {
+    equal(register.len(), targets.len()).expect(rt, "how many targets");
+    for (id, &wanted) in targets.iter().enumerate() {
+        let target = register.target(id).expect(rt, wanted);
+        equal(target.as_str(), wanted).expect(rt, wanted);
+    }
+}
+
+fn uri<'a, R: Abort>(rt: &R, text: &'a str) -> Uri<&'a str> {
+    Uri::<&str>::parse(text).expect(rt, text)
+}
+
+fn reference<'a, R: Abort>(rt: &R, text: &'a str) -> UriRef<&'a str> {
+    UriRef::<&str>::parse(text).expect(rt, text)
+}
+
+/// Notes a reference, whose outcome this has to be, where the register has these targets.
+fn notes<R: Abort + Print, P: DefaultPort>(
+    rt: &R,
+    register: &mut Register<P>,
+    text: &str,
+    held: &[&str],
+    wanted: Outcome,
+) {
+    let base = uri(rt, "s:/a");
+    let reference = reference(rt, text);
+    let outcome = match register.note(&base, &reference) {
+        Ok(outcome) => outcome,
+        Err(AllocError) => {
+            tell(rt, "note");
+            has_targets(rt, register, held);
+            register.note(&base, &reference).expect(rt, text)
+        }
+    };
+    equal(outcome, wanted).expect(rt, text);
+}
+
+#[test]
+fn new_link(rt: HostRuntime) {
+    let mut register = Register::new(rt.alloc(), Normalizer::new());
+    notes(&rt, &mut register, "b", &[], Outcome::New(0));
+    has_targets(&rt, &register, &["s:/b"]);
+    end(&rt, rt.alloc());
+}
+
+#[test]
+fn known_link(rt: HostRuntime) {
+    let mut register = Register::new(rt.alloc(), Normalizer::new());
+    notes(&rt, &mut register, "b", &[], Outcome::New(0));
+    notes(&rt, &mut register, "%62", &["s:/b"], Outcome::Known(0));
+    has_targets(&rt, &register, &["s:/b"]);
+    end(&rt, rt.alloc());
+}
+
+#[test]
+fn second_link(rt: HostRuntime) {
+    let mut register = Register::new(rt.alloc(), Normalizer::new());
+    notes(&rt, &mut register, "b", &[], Outcome::New(0));
+    notes(&rt, &mut register, "c", &["s:/b"], Outcome::New(1));
+    has_targets(&rt, &register, &["s:/b", "s:/c"]);
+    end(&rt, rt.alloc());
+}
+
+/// Where memory is refused some front of the references was noted.
+#[test]
+fn links_together(rt: HostRuntime) {
+    let base = uri(&rt, "s:/a");
+    let references = [reference(&rt, "b"), reference(&rt, "./b")];
+    let mut register = Register::new(rt.alloc(), Normalizer::new());
+    match register.note_all(&base, &references) {
+        Ok(outcomes) => {
+            let wanted = [Outcome::New(0), Outcome::Known(0)];
+            equal(outcomes.as_slice(), wanted.as_slice()).expect(&rt, "note_all");
+            has_targets(&rt, &register, &["s:/b"]);
+        }
+        Err(AllocError) => {
+            tell(&rt, "note_all");
+            has_targets(
+                &rt,
+                &register,
+                ["s:/b"].get(..register.len()).expect(&rt, "a front"),
+            );
+        }
+    }
+    end(&rt, rt.alloc());
+}

@@ -1,0 +1,386 @@
+//! What `uritool` prints for given words, and the status that it ends with.
+use crate::writers::{Slow, Takes};
+use test_support::{equal, prints};
+use fluent_uri::UriRef;
+use fluent_uri::resolve::ResolveError;
+use std::alloc::{AllocError, Global};
+use std::io::Write;
+use std::process::Abort;
+use uri_commands::refusal::Refusal;
+use uri_commands::run::run;
+
+const USAGE: &str =
+    "usage: uritool parse KIND TEXT | normalize KIND TEXT | resolve uri|iri BASE REF | links BASE REF...\n";
+
+const WHOLE: &[&str] = &[
+    "parse",
+    "uri-ref",
+    "foo://example.com/over/there?name=ferret#nose",
+];
+
+fn run_words<O: Write, E: Write>(
+    alloc: Global,
+    words: &[&str],
+    out: &mut O,
+    err: &mut E,
+) -> Result<u8, AllocError> {
+    let mut owned = Vec::new(alloc);
+    for word in words {
+        owned.push(String::from_str(alloc, word)?)?;
+    }
+    Ok(run(alloc, owned.as_slice(), out, err))
+}
+
+fn ends_with<R: Abort>(rt: &R, alloc: Global, words: &[&str], status: u8, out: &str, err: &str) {
+    let (mut got_out, mut got_err) = (Vec::new(alloc), Vec::new(alloc));
+    let got = run_words(alloc, words, &mut got_out, &mut got_err).expect(rt, "memory");
+    equal((words, got), (words, status)).expect(rt, "status");
+    equal(got_out.as_slice(), out.as_bytes()).expect(rt, out);
+    equal(got_err.as_slice(), err.as_bytes()).expect(rt, err);
+}
+
+/// Words, and what they have printed.
+const ANSWERED: &[(&[&str], &str)] = &[
+    // Components of a URI reference.
+    (&["parse", "uri-ref", ""], "path=\n"),
+    (&["parse", "uri-ref", "a/b"], "path=a/b\n"),
+    (&["parse", "uri-ref", "//h"], "authority=h\npath=\n"),
+    (
+        &["parse", "uri-ref", "s://?#"],
+        "scheme=s\nauthority=\npath=\nquery=\nfragment=\n",
+    ),
+    (
+        WHOLE,
+        "scheme=foo\nauthority=example.com\npath=/over/there\nquery=name=ferret\nfragment=nose\n",
+    ),
+    // Components of the other kinds.
+    (&["parse", "uri", "urn:a:b"], "scheme=urn\npath=a:b\n"),
+    (
+        &["parse", "iri", "http://résumé.example.org/"],
+        "scheme=http\nauthority=résumé.example.org\npath=/\n",
+    ),
+    (&["parse", "iri-ref", "café"], "path=café\n"),
+    // Normal forms.
+    (
+        &["normalize", "uri", "http://a/b/c/%2E/%2E./%2e%2E/d"],
+        "http://a/d\n",
+    ),
+    (&["normalize", "uri", "http://h:0080/"], "http://h/\n"),
+    (&["normalize", "uri", "http://a//../.."], "http://a/\n"),
+    (&["normalize", "uri-ref", ""], "\n"),
+    (&["normalize", "uri-ref", "foo:/.//@@"], "foo:/.//@@\n"),
+    (&["normalize", "uri-ref", "%C3%a9"], "%C3%A9\n"),
+    (&["normalize", "iri", "HTTP://R%c3%89/É"], "http://rÉ/É\n"),
+    (&["normalize", "iri-ref", "/%C3%41%A9%C3%A9"], "/%C3A%A9é\n"),
+    // Targets.
+    (
+        &["resolve", "uri", "http://a/b/c/d;p?q", "g;x=1/../y"],
+        "http://a/b/c/y\n",
+    ),
+    (
+        &["resolve", "uri", "http://a/b/c/d;p?q", "../../../g"],
+        "http://a/g\n",
+    ),
+    (
+        &["resolve", "uri", "http://a/b/c/d;p?q", ""],
+        "http://a/b/c/d;p?q\n",
+    ),
+    (&["resolve", "uri", "foo:/bar/..", "."], "foo:/\n"),
+    (&["resolve", "uri", "foo:/", ".//@@"], "foo:/.//@@\n"),
+    (&["resolve", "uri", "http://x/", "//a:80"], "http://a:80\n"),
+    (
+        &["resolve", "uri", "HTTP://A/%2e%2E/b/c", "%2E./d"],
+        "HTTP://A/d\n",
+    ),
+    (&["resolve", "iri", "http://é/a/b", "../ü"], "http://é/ü\n"),
+    // Links.
+    (
+        &[
+            "links",
+            "http://x/a/b",
+            "//X:80/",
+            "/",
+            "c",
+            "../a/%63",
+            "#t",
+        ],
+        "new 0 http://x/\nknown 0 http://x/\nnew 1 http://x/a/c\nknown 1 http://x/a/c\nnew 2 http://x/a/b#t\n",
+    ),
+    (
+        &["links", "foo:bar", "//g", "foo:x"],
+        "refused when base has a rootless path and no authority, reference should either have scheme, be empty or start with '#'\nnew 0 foo:x\n",
+    ),
+    (
+        &["links", "http://x/#f", "a"],
+        "refused base should not have fragment\n",
+    ),
+    // A base with a fragment refuses each reference, one with a scheme too.
+    (
+        &["links", "foo:bar#x", "//g", "s:"],
+        "refused base should not have fragment\nrefused base should not have fragment\n",
+    ),
+];
+
+#[test]
+fn prints_answers(rt: HostRuntime) {
+    for &(words, out) in ANSWERED {
+        ends_with(&rt, rt.alloc(), words, 0, out, "");
+    }
+}
+
+/// Words, and the line that tells why they are refused.
+const REFUSED: &[(&[&str], &str)] = &[
+    // A text to parse.
+    (
+        &["parse", "uri", "foo"],
+        "error: unexpected character at index 3\n",
+    ),
+    (
+        &["parse", "iri", "foo"],
+        "error: unexpected character at index 3\n",
+    ),
+    (
+        &["parse", "uri-ref", "é"],
+        "error: unexpected character at index 0\n",
+    ),
+    (
+        &["parse", "iri-ref", "a b"],
+        "error: unexpected character at index 1\n",
+    ),
+    (
+        &["parse", "uri-ref", ":hello"],
+        "error: unexpected character at index 0\n",
+    ),
+    (
+        &["parse", "uri-ref", "text%a"],
+        "error: invalid percent-encoded octet at index 4\n",
+    ),
+    // A text to normalise.
+    (
+        &["normalize", "uri", "foo"],
+        "error: unexpected character at index 3\n",
+    ),
+    (
+        &["normalize", "uri-ref", "é"],
+        "error: unexpected character at index 0\n",
+    ),
+    (
+        &["normalize", "iri", "foo"],
+        "error: unexpected character at index 3\n",
+    ),
+    (
+        &["normalize", "iri-ref", "a b"],
+        "error: unexpected character at index 1\n",
+    ),
+    (
+        &["normalize", "iri-ref", "%"],
+        "error: invalid percent-encoded octet at index 0\n",
+    ),
+    (
+        &["normalize", "uri", "http://[:]"],
+        "error: invalid IPv6 address at index 8\n",
+    ),
+    // A base, a reference or the target.
+    (
+        &["resolve", "uri", "foo", "%"],
+        "error: base: unexpected character at index 3\n",
+    ),
+    (
+        &["resolve", "iri", "/", "a"],
+        "error: base: unexpected character at index 0\n",
+    ),
+    (
+        &["resolve", "uri", "http://a/", "%"],
+        "error: reference: invalid percent-encoded octet at index 0\n",
+    ),
+    (
+        &["resolve", "uri", "http://a/", "é"],
+        "error: reference: unexpected character at index 0\n",
+    ),
+    (
+        &["resolve", "uri", "foo:bar#x", "//g"],
+        "error: base should not have fragment\n",
+    ),
+    (
+        &["resolve", "uri", "foo:bar", "//g"],
+        "error: when base has a rootless path and no authority, reference should either have scheme, be empty or start with '#'\n",
+    ),
+    // A base of links, or one of the references, of which the first is told.
+    (
+        &["links", "foo", "%"],
+        "error: base: unexpected character at index 3\n",
+    ),
+    (
+        &["links", "http://x/", "a", "%"],
+        "error: reference: invalid percent-encoded octet at index 0\n",
+    ),
+    (
+        &["links", "http://x/#f", "a b", "a", "%"],
+        "error: reference: unexpected character at index 1\n",
+    ),
+];
+
+#[test]
+fn says_why_words_are_refused(rt: HostRuntime) {
+    for &(words, err) in REFUSED {
+        ends_with(&rt, rt.alloc(), words, 1, "", err);
+    }
+}
+
+/// A text for each kind of fault.
+const FAULTS: &[&str] = &["a b", "text%a", "http://[:]"];
+
+const RESOLVE_ERRORS: &[ResolveError] = &[
+    ResolveError::BaseWithFragment,
+    ResolveError::InvalidReferenceAgainstOpaqueBase,
+    ResolveError::PathUnderflow,
+    ResolveError::OutOfMemory,
+];
+
+#[test]
+fn says_what_the_errors_say(rt: HostRuntime) {
+    let alloc = rt.alloc();
+    for &text in FAULTS {
+        let error = UriRef::<&str>::parse(text).err().expect(&rt, text);
+        let said = format!(in alloc; "{error}").expect(&rt, "memory");
+        prints(alloc, &Refusal::Text(error), said.as_str()).expect(&rt, text);
+        let said = format!(in alloc; "base: {error}").expect(&rt, "memory");
+        prints(alloc, &Refusal::Base(error), said.as_str()).expect(&rt, text);
+        let said = format!(in alloc; "reference: {error}").expect(&rt, "memory");
+        prints(alloc, &Refusal::Reference(error), said.as_str()).expect(&rt, text);
+    }
+    for &error in RESOLVE_ERRORS {
+        let said = format!(in alloc; "{error}").expect(&rt, "memory");
+        prints(alloc, &Refusal::Target(error), said.as_str()).expect(&rt, "target");
+    }
+}
+
+/// Words that are no command.
+const OTHERS: &[&[&str]] = &[
+    &[],
+    &["parse", "uri-ref"],
+    &["parse", "url", "foo"],
+    &["Parse", "uri-ref", "foo"],
+    &["parse", "uri-ref", "foo", "bar"],
+    &["normalize", "uri-ref"],
+    &["normalize", "url", "foo"],
+    &["normalize", "uri-ref", "foo", "bar"],
+    &["resolve", "uri", "http://a/"],
+    &["resolve", "uri-ref", "http://a/", "b"],
+    &["resolve", "iri-ref", "http://a/", "b"],
+    &["resolve", "uri", "http://a/", "b", "c"],
+    &["links"],
+    &["links", "http://x/"],
+    &["link", "http://x/", "a"],
+];
+
+#[test]
+fn shows_usage(rt: HostRuntime) {
+    for &words in OTHERS {
+        ends_with(&rt, rt.alloc(), words, 2, "", USAGE);
+    }
+}
+
+/// That the output fails after so many writes, and that this is said.
+fn output_fails<R: Abort>(rt: &R, alloc: Global, words: &[&str], writes: usize) {
+    let mut err = Vec::new(alloc);
+    let status = run_words(alloc, words, &mut Takes(writes), &mut err).expect(rt, "memory");
+    equal((words, writes, status), (words, writes, 1)).expect(rt, "status");
+    equal(err.as_slice(), b"error: output failed\n".as_slice()).expect(rt, "error output");
+}
+
+#[test]
+fn says_that_the_output_failed(rt: HostRuntime) {
+    let alloc = rt.alloc();
+    for writes in 0..5 {
+        output_fails(&rt, alloc, WHOLE, writes);
+    }
+    output_fails(&rt, alloc, &["normalize", "uri", "http://a/"], 0);
+    output_fails(&rt, alloc, &["resolve", "uri", "http://a/", "b"], 0);
+    for writes in 0..3 {
+        output_fails(&rt, alloc, &["links", "foo:bar", "//g", "foo:x"], writes);
+    }
+    let status = run_words(alloc, WHOLE, &mut Takes(100), &mut Vec::new(alloc));
+    equal(status.expect(&rt, "memory"), 0).expect(&rt, "status");
+}
+
+/// Whether the words have their answer where the output takes so many writes; else the output is
+/// said to have failed.
+fn is_answered<R: Abort>(rt: &R, alloc: Global, words: &[&str], writes: usize) -> bool {
+    let mut err = Vec::new(alloc);
+    let status = run_words(alloc, words, &mut Takes(writes), &mut err).expect(rt, "memory");
+    let line = if status == 0 {
+        ""
+    } else {
+        "error: output failed\n"
+    };
+    equal(err.as_slice(), line.as_bytes()).expect(rt, line);
+    equal((words, status <= 1), (words, true)).expect(rt, "status");
+    status == 0
+}
+
+/// Each write of each command fails in turn, up to a run in which none does.
+#[test]
+fn each_write_fails(rt: HostRuntime) {
+    let alloc = rt.alloc();
+    for &(words, _) in ANSWERED {
+        let mut is_done = false;
+        for writes in 0..100 {
+            is_done = is_done || is_answered(&rt, alloc, words, writes);
+        }
+        equal((words, is_done), (words, true)).expect(&rt, "an answer at last");
+    }
+    for &(words, _) in REFUSED {
+        for writes in 0..2 {
+            let status = run_words(alloc, words, &mut Vec::new(alloc), &mut Takes(writes));
+            equal(status.expect(&rt, "memory"), 1).expect(&rt, "status");
+        }
+    }
+    for &words in OTHERS {
+        for writes in 0..2 {
+            let status = run_words(alloc, words, &mut Vec::new(alloc), &mut Takes(writes));
+            equal(status.expect(&rt, "memory"), 2).expect(&rt, "status");
+        }
+    }
+}
+
+/// Words, and the status that they end with where the error output fails.
+const WITHOUT_ERRORS: &[(&[&str], u8)] = &[
+    (&["parse", "uri-ref", "a"], 0),
+    (&["parse", "uri-ref", "%"], 1),
+    (&["normalize", "uri-ref", "a"], 0),
+    (&["normalize", "uri-ref", "%"], 1),
+    (&["links", "http://x/#f", "a"], 0),
+    (&["links", "http://x/", "%"], 1),
+    (&["parse", "url", "a"], 2),
+];
+
+#[test]
+fn ends_alike_without_errors_shown(rt: HostRuntime) {
+    let alloc = rt.alloc();
+    for &(words, wanted) in WITHOUT_ERRORS {
+        let status = run_words(alloc, words, &mut Vec::new(alloc), &mut Takes(0));
+        let status = status.expect(&rt, "memory");
+        equal((words, status), (words, wanted)).expect(&rt, "status");
+    }
+    let status = run_words(alloc, WHOLE, &mut Takes(0), &mut Takes(0));
+    equal(status.expect(&rt, "memory"), 1).expect(&rt, "status");
+}
+
+#[test]
+fn goes_on_after_short_and_interrupted_writes(rt: HostRuntime) {
+    let alloc = rt.alloc();
+    let mut err = Slow {
+        taken: Vec::new(alloc),
+        is_interrupted: false,
+    };
+    let status = run_words(
+        alloc,
+        &["parse", "uri", "foo"],
+        &mut Vec::new(alloc),
+        &mut err,
+    );
+    equal(status.expect(&rt, "memory"), 1).expect(&rt, "status");
+    let line = b"error: unexpected character at index 3\n".as_slice();
+    equal(err.taken.as_slice(), line).expect(&rt, "error output");
+}

@@ -1,0 +1,94 @@
+//! What `uritool` prints for texts of 10 MB.
+use test_support::equal;
+use std::alloc::{AllocError, Global};
+use uri_commands::run::run;
+
+const LENGTH: usize = 10_000_000;
+
+/// What stands first, and the unit that is repeated behind it.
+type Large = (&'static str, &'static str);
+
+fn repeated(alloc: Global, (front, unit): Large, times: usize) -> Result<String, AllocError> {
+    let units = unit.repeat(alloc, times)?;
+    format!(in alloc; "{front}{units}")
+}
+
+/// What the words and then a text of so many units end with, and what they have printed.
+fn run_on(
+    alloc: Global,
+    words: &[&str],
+    text: Large,
+    times: usize,
+) -> Result<(u8, Vec<u8>, Vec<u8>), AllocError> {
+    let mut owned = Vec::new(alloc);
+    for word in words {
+        owned.push(String::from_str(alloc, word)?)?;
+    }
+    owned.push(repeated(alloc, text, times)?)?;
+    let (mut out, mut err) = (Vec::new(alloc), Vec::new(alloc));
+    let status = run(alloc, owned.as_slice(), &mut out, &mut err);
+    Ok((status, out, err))
+}
+
+/// Words, the text behind them, and the line that they have printed, which has as many units.
+const ANSWERED: &[(&[&str], Large, Large)] = &[
+    (&["parse", "uri-ref"], ("", "/a"), ("path=", "/a")),
+    (&["parse", "iri-ref"], ("?", "é"), ("path=\nquery=", "é")),
+    (&["normalize", "uri-ref"], ("", "%41"), ("", "A")),
+    (&["normalize", "iri-ref"], ("", "%C3%A9"), ("", "é")),
+    (&["normalize", "uri"], ("s:", "/../"), ("s:/", "")),
+    (&["normalize", "iri"], ("s://h", "/./"), ("s://h", "/")),
+    (
+        &["resolve", "uri", "http://h/a"],
+        ("", "../"),
+        ("http://h/", ""),
+    ),
+];
+
+#[test]
+fn prints_answers(rt: HostRuntime) {
+    let alloc = rt.alloc();
+    for &(words, text, line) in ANSWERED {
+        let times = LENGTH / text.1.len().max(1);
+        let (status, out, err) = run_on(alloc, words, text, times).expect(&rt, text.1);
+        let mut wanted = repeated(alloc, line, times).expect(&rt, text.1);
+        wanted.push('\n').expect(&rt, text.1);
+        let same = out.as_slice() == wanted.as_bytes();
+        equal((words, text, status, same), (words, text, 0, true)).expect(&rt, "output");
+        equal(err.as_slice(), b"".as_slice()).expect(&rt, "error output");
+    }
+}
+
+/// Words, the text behind them, and the line that tells why it is refused.
+const REFUSED: &[(&[&str], Large, &str)] = &[
+    (
+        &["parse", "uri-ref"],
+        ("", "["),
+        "error: unexpected character at index 0\n",
+    ),
+    (
+        &["parse", "uri"],
+        ("s://", ":"),
+        "error: unexpected character at index 10000003\n",
+    ),
+    (
+        &["normalize", "iri"],
+        ("", "+"),
+        "error: unexpected character at index 10000000\n",
+    ),
+    (
+        &["normalize", "uri-ref"],
+        ("//", "@"),
+        "error: unexpected character at index 3\n",
+    ),
+];
+
+#[test]
+fn says_why_texts_are_refused(rt: HostRuntime) {
+    for &(words, text, line) in REFUSED {
+        let (status, out, err) = run_on(rt.alloc(), words, text, LENGTH).expect(&rt, text.1);
+        equal((words, text, status), (words, text, 1)).expect(&rt, "status");
+        equal(out.as_slice(), b"".as_slice()).expect(&rt, "output");
+        equal(err.as_slice(), line.as_bytes()).expect(&rt, "error output");
+    }
+}

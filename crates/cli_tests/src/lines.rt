@@ -1,0 +1,151 @@
+//! What the programs of the calling guide print for stored lines, and what its functions answer.
+use cookbook::pairs::{Pair, query_of};
+use cookbook::parts::parts_of;
+use cookbook::reach::reach;
+use cookbook::refusal::Refusal;
+use cookbook::segments::{PathError, path_of};
+use cookbook::service::resource;
+use cookbook::task::Task;
+use cookbook::visits::count_visit;
+use test_support::{equal, prints};
+use fluent_uri::Uri;
+use fluent_uri::component::SocketTarget;
+use std::alloc::{AllocError, Global};
+use std::collections::BTreeMap;
+use std::process::Abort;
+
+fn owned(alloc: Global, words: &[&str]) -> Result<Vec<String>, AllocError> {
+    let mut owned = Vec::new(alloc);
+    for word in words {
+        owned.push(String::from_str(alloc, word)?)?;
+    }
+    Ok(owned)
+}
+
+/// What is printed for the lines, and how many are refused.
+fn run(alloc: Global, words: &[&str], lines: &[&str]) -> Result<(Vec<u8>, usize), Refusal> {
+    let mut task = Task::from_words(alloc, owned(alloc, words)?.as_slice())?.unwrap_or(Task::Query);
+    let mut out = Vec::new(alloc);
+    let mut refused: usize = 0;
+    for &line in lines {
+        if task.print_line(alloc, line, &mut out).is_err() {
+            refused = refused.saturating_add(1);
+        }
+    }
+    Ok((out, refused))
+}
+
+/// Words, lines, what they have printed, and how many lines are refused.
+const RUNS: &[(&[&str], &[&str], &str, usize)] = &[
+    // RFC 3986, section 6.2.2: case, octets, dot segments and the default port.
+    (
+        &["frontier"],
+        &[
+            "http://a/b",
+            "HTTP://A:80/c/../%62",
+            "http://a/B",
+            "a b",
+            "http://a/%7Eb",
+            "http://a/~b",
+        ],
+        "http://a/b\nhttp://a/B\nhttp://a/~b\n",
+        1,
+    ),
+    // RFC 3986, section 5.4, without the fragments.
+    (
+        &["links", "http://a/b/c/d;p?q"],
+        &["g:h", "g?y#s", "#s", "//g", "../../../g", "g;x=1/../y", "%"],
+        "g:h\nhttp://a/b/c/g?y\nhttp://a/b/c/d;p?q\nhttp://g\nhttp://a/g\nhttp://a/b/c/y\n",
+        1,
+    ),
+    // RFC 3986, section 5.1: a base has no fragment when it is used.
+    (&["links", "http://a/b#c"], &["d"], "", 1),
+    // RFC 3986, sections 2.1 and 2.4: `&` and `=` as data are octets, and so is `é` by its UTF-8.
+    (
+        &["query"],
+        &["name=ferret&page=2%263", "a=b=c&&caf%C3%A9", "#"],
+        "name is ferret\npage is 2&3\nname=ferret&page=2%263\n\
+         a is b=c\ncafé is \na=b%3Dc&caf%C3%A9=\n",
+        1,
+    ),
+];
+
+#[test]
+fn prints_what_stored_lines_come_to(rt: HostRuntime) {
+    for &(words, lines, out, refused) in RUNS {
+        let got = run(rt.alloc(), words, lines).expect(&rt, out);
+        equal(got.0.as_slice(), out.as_bytes()).expect(&rt, out);
+        equal(got.1, refused).expect(&rt, out);
+    }
+}
+
+#[test]
+fn takes_a_reference_apart(rt: HostRuntime) {
+    let got = parts_of("foo://user@example.com:8042/over/there?name=ferret#nose");
+    let got = got.expect(&rt, "parts");
+    equal(got.scheme, Some("foo")).expect(&rt, "scheme");
+    equal(got.host, Some("example.com")).expect(&rt, "host");
+    equal(got.path, "/over/there").expect(&rt, "path");
+}
+
+#[test]
+fn builds_from_what_was_typed(rt: HostRuntime) {
+    let alloc = rt.alloc();
+    let typed = owned(alloc, &["a b", "c/d", "é"]).expect(&rt, "memory");
+    let path = path_of(alloc, typed.as_slice()).expect(&rt, "path");
+    let pair = Pair {
+        name: String::from_str(alloc, "q").expect(&rt, "memory"),
+        value: String::from_str(alloc, "x&y").expect(&rt, "memory"),
+    };
+    let query = query_of(alloc, &[pair]).expect(&rt, "query");
+    let service = Uri::<&str>::parse("http://[::1]:8080/?z#z").expect(&rt, "service");
+    let authority = service.authority().expect(&rt, "authority");
+    let made = resource(alloc, authority, path.as_estr(), query.as_estr());
+    let made = made.expect(&rt, "made");
+    prints(
+        alloc,
+        &made,
+        "https://[::1]:8080/a%20b/c%2Fd/%C3%A9?q=x%26y",
+    )
+    .expect(&rt, "made");
+    let dots = owned(alloc, &["a", ".."]).expect(&rt, "memory");
+    equal(
+        path_of(alloc, dots.as_slice()).err(),
+        Some(PathError::DotSegment),
+    )
+    .expect(&rt, "dots");
+}
+
+#[test]
+fn counts_visits(rt: HostRuntime) {
+    let alloc = rt.alloc();
+    let mut visits = BTreeMap::new(alloc);
+    // RFC 3986, section 6.2.2: the first and the last mean the same.
+    for (text, wanted) in [("http://a/b", 1), ("http://a/c", 1), ("HTTP://A:80/%62", 2)] {
+        let count = count_visit(alloc, &mut visits, text).expect(&rt, text);
+        equal(count, wanted).expect(&rt, text);
+    }
+}
+
+/// URIs, and the ports at which they are reached with 7 as the last resort.
+const PORTS: &[(&str, Option<u16>)] = &[
+    ("https://[::1]/a", Some(443)),
+    ("HTTP://a:8080", Some(8080)),
+    ("foo://a", Some(7)),
+    ("mailto:a@b", None),
+];
+
+#[test]
+fn finds_where_to_connect_to(rt: HostRuntime) {
+    let alloc = rt.alloc();
+    for &(text, wanted) in PORTS {
+        let uri = Uri::<&str>::parse(text).expect(&rt, text);
+        let port = match reach(alloc, uri, 7) {
+            Some(Ok(SocketTarget::V4(_, port))) => Some(port),
+            Some(Ok(SocketTarget::V6(_, port))) => Some(port),
+            Some(Ok(SocketTarget::Name(_, port))) => Some(port),
+            _ => None,
+        };
+        equal(port, wanted).expect(&rt, text);
+    }
+}

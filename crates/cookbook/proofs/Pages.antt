@@ -1,0 +1,13 @@
+-- The target of a link, without its fragment, is the page.
+use Rattle.std.proofs.Common.{◌≡◌, ℕ, List, None, ap, subst, sym, ◌∙◌}
+use Rattle.std.specs.Prelude.{IsOkAnd, Ok}
+use Rattle.fluent_uri.specs.Fragments.{IsWithFragment}
+use Rattle.fluent_uri.specs.Target.{resolution_of_texts}
+use Rattle.cookbook.specs.Pages.{IsPage}
+
+pub page_of_target : (base link reference target page : List ℕ) → reference ≡ link
+    → resolution_of_texts base reference ≡ Ok target → IsWithFragment target None page
+    → IsPage base link page
+page_of_target base link reference target page e r made =
+    subst (λ answer. IsOkAnd answer (λ target. IsWithFragment target None page))
+    (sym r ∙ ap (resolution_of_texts base) e) made

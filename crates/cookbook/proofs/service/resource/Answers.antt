@@ -1,0 +1,111 @@
+use Rattle.std.proofs.Common.{◌≡◌, ◌∙◌, ℕ, Bool, true, false, List, refl, sym, ap}
+use Rattle.std.specs.Prelude.{Some, None, is_some}
+use Rattle.std.proofs.lemmas.Bool.{false≢true}
+use Rattle.fluent_uri.specs.AuthorityTexts.{authority_text}
+use Rattle.fluent_uri.specs.BuilderParts.{Adds, BuilderParts, as_components, no_parts, parts_text}
+use Rattle.fluent_uri.specs.BuilderParts.{with_authority, with_path, with_query, with_scheme}
+use Rattle.fluent_uri.specs.BuilderStates.{held_of, parts_at}
+use Rattle.fluent_uri.specs.Built.{IsTextOfParts}
+use Rattle.fluent_uri.specs.Components.{Components, components}
+use Rattle.fluent_uri.specs.EncodedTexts.{text_of}
+use Rattle.fluent_uri.specs.Grammar.{uri}
+use Rattle.fluent_uri.specs.Schemes.{scheme_text}
+use Rattle.fluent_uri.specs.Uris.{uri_text}
+use Rattle.cookbook.proofs.service.resource.Goals as goal
+
+unmarked : {A : Type 0} {x : A} (f : Bool) → (f ≡ true → None ≡ Some x) → f ≡ false
+unmarked true e = absurd (false≢true (ap is_some (e refl)))
+unmarked false e = refl
+
+abbrev four : List ℕ → List ℕ → List ℕ → List ℕ → Components
+four scheme authority path query = record {
+  scheme = Some scheme;
+  authority = Some authority;
+  path = path;
+  query = Some query;
+  fragment = None;
+}
+
+parts : (p0 p1 p2 p3 p4 : BuilderParts) (scheme authority path query : List ℕ) → p0 ≡ no_parts
+    → Adds (with_scheme scheme) p0 p1 → Adds (with_authority authority) p1 p2
+    → Adds (with_path path) p2 p3 → Adds (with_query query) p3 p4 → p4.failed ≡ false
+    → as_components p4 ≡ four scheme authority path query
+parts p0 p1 p2 p3 p4 scheme authority path query e0 a1 a2 a3 a4 f4 =
+    let e4 = a4 f4 in
+    let f3 : p3.failed ≡ false = sym (ap (λ (r : BuilderParts). r.failed) e4) ∙ f4 in
+    let e3 = a3 f3 in
+    let f2 : p2.failed ≡ false = sym (ap (λ (r : BuilderParts). r.failed) e3) ∙ f3 in
+    let e2 = a2 f2 in
+    let f1 : p1.failed ≡ false = sym (ap (λ (r : BuilderParts). r.failed) e2) ∙ f2 in
+    let e2 = e2 ∙ ap (with_authority authority) (a1 f1 ∙ ap (with_scheme scheme) e0) in
+    ap as_components (e4 ∙ ap (with_query query) (e3 ∙ ap (with_path path) e2))
+
+-- the components of what was built
+whole : (text : List ℕ) (p0 p1 p2 p3 p4 : BuilderParts) (scheme authority path query : List ℕ)
+    → p0 ≡ no_parts → Adds (with_scheme scheme) p0 p1 → Adds (with_authority authority) p1 p2
+    → Adds (with_path path) p2 p3 → Adds (with_query query) p3 p4 → p4.failed ≡ false
+    → text ≡ parts_text p4 → IsTextOfParts uri p4
+    → components text ≡ four scheme authority path query
+whole text p0 p1 p2 p3 p4 scheme authority path query e0 a1 a2 a3 a4 f4 value w =
+    let same = parts p0 p1 p2 p3 p4 scheme authority path query e0 a1 a2 a3 a4 f4 in
+    ap components value ∙ w.components ∙ same
+
+pub returns-clause-scheme : goal.returns-clause-scheme
+returns-clause-scheme c =
+    let f = unmarked (parts_at (held_of c.query.result)).failed c.in_ok-made.ensures.failed in
+    ap (λ (parts : Components). parts.scheme)
+    (whole (uri_text c.in_ok-made.made) (parts_at (held_of c.builder.result))
+    (parts_at (held_of c.scheme.result)) (parts_at (held_of c.authority.result))
+    (parts_at (held_of c.path.result)) (parts_at (held_of c.query.result))
+    (scheme_text c.new_or_panic.result) (authority_text c.args.authority)
+    (text_of c.args.path) (text_of c.args.query) c.builder.ensures c.scheme.ensures
+    c.authority.ensures c.path.ensures c.query.ensures f c.in_ok-made.ensures.value
+    ((c.in_ok-made.ensures.exactly f).0 refl)) ∙ ap Some c.new_or_panic.ensures
+
+pub returns-clause-authority : goal.returns-clause-authority
+returns-clause-authority c =
+    let f = unmarked (parts_at (held_of c.query.result)).failed c.in_ok-made.ensures.failed in
+    ap (λ (parts : Components). parts.authority)
+    (whole (uri_text c.in_ok-made.made) (parts_at (held_of c.builder.result))
+    (parts_at (held_of c.scheme.result)) (parts_at (held_of c.authority.result))
+    (parts_at (held_of c.path.result)) (parts_at (held_of c.query.result))
+    (scheme_text c.new_or_panic.result) (authority_text c.args.authority)
+    (text_of c.args.path) (text_of c.args.query) c.builder.ensures c.scheme.ensures
+    c.authority.ensures c.path.ensures c.query.ensures f c.in_ok-made.ensures.value
+    ((c.in_ok-made.ensures.exactly f).0 refl))
+
+pub returns-clause-path : goal.returns-clause-path
+returns-clause-path c =
+    let f = unmarked (parts_at (held_of c.query.result)).failed c.in_ok-made.ensures.failed in
+    ap (λ (parts : Components). parts.path)
+    (whole (uri_text c.in_ok-made.made) (parts_at (held_of c.builder.result))
+    (parts_at (held_of c.scheme.result)) (parts_at (held_of c.authority.result))
+    (parts_at (held_of c.path.result)) (parts_at (held_of c.query.result))
+    (scheme_text c.new_or_panic.result) (authority_text c.args.authority)
+    (text_of c.args.path) (text_of c.args.query) c.builder.ensures c.scheme.ensures
+    c.authority.ensures c.path.ensures c.query.ensures f c.in_ok-made.ensures.value
+    ((c.in_ok-made.ensures.exactly f).0 refl))
+
+pub returns-clause-query : goal.returns-clause-query
+returns-clause-query c =
+    let f = unmarked (parts_at (held_of c.query.result)).failed c.in_ok-made.ensures.failed in
+    ap (λ (parts : Components). parts.query)
+    (whole (uri_text c.in_ok-made.made) (parts_at (held_of c.builder.result))
+    (parts_at (held_of c.scheme.result)) (parts_at (held_of c.authority.result))
+    (parts_at (held_of c.path.result)) (parts_at (held_of c.query.result))
+    (scheme_text c.new_or_panic.result) (authority_text c.args.authority)
+    (text_of c.args.path) (text_of c.args.query) c.builder.ensures c.scheme.ensures
+    c.authority.ensures c.path.ensures c.query.ensures f c.in_ok-made.ensures.value
+    ((c.in_ok-made.ensures.exactly f).0 refl))
+
+pub returns-clause-fragment : goal.returns-clause-fragment
+returns-clause-fragment c =
+    let f = unmarked (parts_at (held_of c.query.result)).failed c.in_ok-made.ensures.failed in
+    ap (λ (parts : Components). parts.fragment)
+    (whole (uri_text c.in_ok-made.made) (parts_at (held_of c.builder.result))
+    (parts_at (held_of c.scheme.result)) (parts_at (held_of c.authority.result))
+    (parts_at (held_of c.path.result)) (parts_at (held_of c.query.result))
+    (scheme_text c.new_or_panic.result) (authority_text c.args.authority)
+    (text_of c.args.path) (text_of c.args.query) c.builder.ensures c.scheme.ensures
+    c.authority.ensures c.path.ensures c.query.ensures f c.in_ok-made.ensures.value
+    ((c.in_ok-made.ensures.exactly f).0 refl))

@@ -1,0 +1,16 @@
+-- The URIs that were met, by their normal forms: RFC 3986, section 6.2.2.
+use Rattle.std.specs.Prelude.{ℕ, Bool, List}
+use Rattle.std.specs.BTreeSet.{contains_text}
+use Rattle.fluent_uri.specs.Grammar.{uri}
+use Rattle.fluent_uri.specs.Meaning.{meaning_of}
+use Rattle.fluent_uri.specs.Normal.{normal_text}
+use Rattle.fluent_uri.specs.SchemePorts.{default_port}
+use Rattle.cookbook.specs.declared.frontier.Frontier.{Frontier}
+
+-- the text is among the normal forms that were met
+abbrev pub has_met : Frontier → List ℕ → Bool
+has_met f text = contains_text f.seen text
+
+-- the normal form of a URI
+abbrev pub normal_of : List ℕ → List ℕ
+normal_of text = normal_text (meaning_of uri default_port text)

@@ -1,0 +1,87 @@
+//! The URIs that were met, by what they mean.
+ghost use Rattle.std.specs.Prelude.{◌≡◌, ◌↔◌, ◌++◌, true, false, not, is_some, bytes_eq, codes};
+ghost use Rattle.std.specs.Prelude.{if◌then◌else◌, List, ℕ, [], IfErr, IfOk, IfSome, OnErr, OnOk};
+ghost use Rattle.std.specs.Io.KnownBytes.{Appends};
+ghost use Rattle.fluent_uri.specs.Grammar.{uri};
+ghost use Rattle.fluent_uri.specs.Meaning.{meaning_of};
+ghost use Rattle.fluent_uri.specs.Grammar.{IsTextOf};
+ghost use Rattle.fluent_uri.specs.SchemePorts.{default_port};
+ghost use Rattle.fluent_uri.specs.Uris.{uri_text};
+ghost use Rattle.cookbook.specs.Frontiers.{has_met, normal_of};
+ghost use Rattle.cookbook.specs.Refusals.{IsRefusedText};
+
+use crate::normal::normal_form;
+use crate::refusal::Refusal;
+use fluent_uri::Uri;
+use std::alloc::Global;
+use std::collections::BTreeSet;
+use std::io::Write;
+
+/// The normal forms of the URIs that were met.
+#[derive(Drop)]
+pub struct Frontier {
+    seen: BTreeSet<String>,
+}
+
+impl Frontier {
+    /// A frontier that has met nothing.
+    pub fn new(alloc: Global) -> Frontier
+        ensures { (text : List ℕ) → has_met result text ≡ false }
+    {
+        Frontier {
+            seen: BTreeSet::new(alloc),
+        }
+    }
+
+    /// The normal form of a URI, if none that was met means the same. It is then met.
+    ///
+    /// # Errors
+    ///
+    /// `Text` exactly if the text is no URI; `OutOfMemory` if memory is refused.
+    #[tactic(auto, using(crate::proofs::Keys::met_after))]
+    pub fn note(&mut self, alloc: Global, text: &str) -> Result<Option<Uri<String>>, Refusal>
+        ensures new { IfOk result (λ answer.
+            is_some answer ≡ not (has_met self.old (normal_of text.now))) }
+        ensures normal { IfOk result (λ answer.
+            IfSome answer (λ made. uri_text made ≡ normal_of text.now)) }
+        ensures met { OnOk result ((other : List ℕ) → has_met self.new other
+            ≡ (if bytes_eq (normal_of text.now) other then true else has_met self.old other)) }
+        ensures meaning { OnOk result ((other : List ℕ) → IsTextOf uri other
+            → (normal_of text.now ≡ normal_of other
+            ↔ meaning_of uri default_port text.now ≡ meaning_of uri default_port other)) }
+        ensures kept { OnErr result ((other : List ℕ) →
+            has_met self.new other ≡ has_met self.old other) }
+        ensures refused { IfErr result (IsRefusedText uri text.now) }
+    {
+        let normal = normal_form(alloc, text)?;
+        let key = String::from_str(alloc, normal.as_str())?;
+        if self.seen.insert(key)? {
+            Ok(Some(normal))
+        } else {
+            Ok(None)
+        }
+    }
+
+    /// Writes the normal form of a URI and a newline, unless one that was met means the same.
+    ///
+    /// # Errors
+    ///
+    /// As `note`, and `OutputFailed` if the writer fails; the URI is then met all the same.
+    pub fn print_new<O: Write>(
+        &mut self,
+        alloc: Global,
+        text: &str,
+        out: &mut O,
+    ) -> Result<(), Refusal>
+        ensures printed { OnOk result (Appends (O.contents out.old) (O.contents out.new)
+            (if has_met self.old (normal_of text.now) then []
+            else normal_of text.now ++ codes "\n")) }
+        ensures met { OnOk result ((other : List ℕ) → has_met self.new other
+            ≡ (if bytes_eq (normal_of text.now) other then true else has_met self.old other)) }
+    {
+        match self.note(alloc, text)? {
+            Some(normal) => Ok(writeln!(out, "{normal}")?),
+            None => Ok(()),
+        }
+    }
+}

@@ -1,0 +1,39 @@
+//! A reference, taken apart (RFC 3986, section 3).
+ghost use Rattle.std.specs.Prelude.{◌≡◌, ◌↔◌, option_map, IfOk, IsOk};
+ghost use Rattle.fluent_uri.specs.Authority.{authority_parts};
+ghost use Rattle.fluent_uri.specs.Components.{components};
+ghost use Rattle.fluent_uri.specs.Grammar.{IsOfKind, uri_ref};
+ghost use Rattle.cookbook.specs.Parts.{IsOf};
+
+use fluent_uri::component::{Authority, Scheme};
+use fluent_uri::{ParseError, UriRef};
+
+/// What a program mostly asks of a reference. It lives as long as the text.
+#[derive(Clone, Copy, Debug)]
+pub struct Parts<'a> {
+    pub scheme: Option<&'a str>,
+    pub host: Option<&'a str>,
+    pub path: &'a str,
+}
+
+/// The parts of a reference.
+///
+/// # Errors
+///
+/// Exactly if the text is no URI reference; the error says what is wrong, and where.
+///
+/// # Examples
+///
+/// Of `foo://user@example.com:8042/over/there?name=ferret#nose` they are `foo`, `example.com` and
+/// `/over/there`.
+pub fn parts_of(text: &str) -> Result<Parts<'_>, ParseError>
+    ensures accepts { IsOk result ↔ IsOfKind uri_ref text.now }
+    ensures parts { IfOk result (IsOf (components text.now)) }
+{
+    let reference = UriRef::<&str>::parse(text)?;
+    Ok(Parts {
+        scheme: reference.scheme().map(Scheme::as_str),
+        host: reference.authority().map(Authority::host),
+        path: reference.path().as_str(),
+    })
+}

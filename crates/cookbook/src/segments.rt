@@ -1,0 +1,65 @@
+//! A path from segments that a user typed.
+ghost use Rattle.std.specs.Prelude.{◌≡◌, false, string_bytes, IfErr, IfOk, IsOk, []};
+ghost use Rattle.std.specs.List.{list_any};
+ghost use Rattle.fluent_uri.specs.EStrings.{owned_text};
+ghost use Rattle.cookbook.specs.Segments.{is_dots, path_from};
+
+use fluent_uri::pct_enc::EString;
+use fluent_uri::pct_enc::encoder::{Data, Path};
+use std::alloc::{AllocError, Global};
+use thiserror::Error;
+
+/// Why segments have no path.
+#[derive(Clone, Copy, Debug, PartialEq, Eq, Error)]
+pub enum PathError {
+    /// One is `.` or `..`, which no encoding keeps from being removed (RFC 3986, sections 2.3
+    /// and 6.2.2.3).
+    #[error("segment is `.` or `..`")]
+    DotSegment,
+    /// Memory was refused.
+    #[error("out of memory")]
+    OutOfMemory,
+}
+
+impl From<AllocError> for PathError {
+    fn from(_: AllocError) -> PathError {
+        PathError::OutOfMemory
+    }
+}
+
+/// The path of the segments, whatever characters they have: each as data, behind a `/`.
+///
+/// # Errors
+///
+/// `DotSegment` exactly if a segment is `.` or `..`; `OutOfMemory` if memory is refused.
+///
+/// # Examples
+///
+/// Of `a b` and `c/d` it is `/a%20b/c%2Fd`.
+pub fn path_of(alloc: Global, segments: &[String]) -> Result<EString<Path>, PathError>
+    ensures path { IfOk result (λ path. owned_text path ≡ path_from [] segments.now) }
+    ensures no_dots { IsOk result → list_any is_dots segments.now ≡ false }
+{
+    if has_dots(segments) {
+        return Err(PathError::DotSegment);
+    }
+    Ok(joined(alloc, segments)?)
+}
+
+/// Whether a segment is `.` or `..`.
+fn has_dots(segments: &[String]) -> bool
+    ensures { result ≡ list_any is_dots segments.now }
+{
+    segments.iter().any(|segment| segment.as_str() == "." || segment.as_str() == "..")
+}
+
+fn joined(alloc: Global, segments: &[String]) -> Result<EString<Path>, AllocError>
+    ensures { IfOk result (λ path. owned_text path ≡ path_from [] segments.now) }
+{
+    let mut path = EString::new(alloc);
+    for segment in segments {
+        path.push('/')?;
+        path.encode_str::<Data>(segment.as_str())?;
+    }
+    Ok(path)
+}

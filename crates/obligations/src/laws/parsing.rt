@@ -1,0 +1,27 @@
+//! Parsing (RFC 3986, section 4.1), and the errors of texts (`docs/PARSE_ERRORS.md`).
+ghost use Rattle.std.specs.Prelude.{◌≡◌, ◌≤◌, ℕ, take};
+ghost use Rattle.std.specs.Result.{result_err};
+ghost use Rattle.std.specs.Str.{IsCharBoundary};
+ghost use Rattle.fluent_uri.specs.Prefixes.{valid_prefix};
+ghost use Rattle.fluent_uri.specs.Refusals.{refusal};
+ghost use Rattle.fluent_uri.specs.Sets.{path_set};
+ghost use Rattle.fluent_uri.specs.Tokens.{IsValidFor};
+
+use fluent_uri::roles::RefKind;
+use fluent_uri::{ParseError, Reference, laws};
+
+/// The error of a text is the one that `parse` returns, and where it has none it is parsed.
+pub fn parsed_or_its_error<K: RefKind>(text: &str) -> Result<Reference<K, &str>, ParseError>
+    ensures { result_err result ≡ refusal K.kind text.now }
+{
+    laws::accepted_exactly_if_no_error::<K>(text);
+    Reference::<K, &str>::parse(text)
+}
+
+/// No prefix that is valid for a path is longer than the one that a scan passes.
+pub fn scan_passes_the_longest(text: &str)
+    ensures { (n : ℕ) → IsCharBoundary text.now n → IsValidFor path_set (take n text.now)
+        → n ≤ valid_prefix path_set text.now }
+{
+    laws::valid_prefixes_are_longest();
+}

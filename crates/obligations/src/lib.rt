@@ -1,0 +1,23 @@
+//! What callers of `fluent_uri` write, with no proof of their own.
+//!
+//! Each condition of a public call is met twice: at a literal, and behind the public test that the
+//! docs of the call name. A module that begins with `#![tactic(auto)]` needs nothing, and the
+//! others need the one line that stands here for a whole crate. So this crate is refused where a
+//! condition, a law or a public name falls behind what callers need.
+#![tactic(auto, using(fluent_uri::proofs::Calling::calling))]
+
+pub mod building;
+pub mod characters;
+pub mod components;
+pub mod counts;
+pub mod delimiters;
+pub mod echoes;
+pub mod encoders;
+pub mod encoding;
+pub mod kinds;
+pub mod laws;
+pub mod literals;
+pub mod rules;
+pub mod tables;
+pub mod tested_by_rules;
+pub mod texts;

@@ -1,0 +1,66 @@
+//! What tests compare. Each answer is a `Result`, so that `expect` in a test ends it and shows what
+//! differs, with the place in the test.
+#![tactic(auto)]
+
+ghost use Rattle.std.specs.Prelude.{◌≡◌, ◌↔◌, IsOk, true};
+
+use std::alloc::{AllocError, Global};
+use std::fmt::Display;
+
+/// Two values that were to be equal.
+#[derive(Debug, Drop)]
+pub struct Differ<T> {
+    /// The value that is there.
+    pub got: T,
+    /// The value that was to be there.
+    pub wanted: T,
+}
+
+/// Compares two values.
+///
+/// # Errors
+///
+/// Both of them, if they are not equal.
+pub fn equal<T: PartialEq + Drop>(got: T, wanted: T) -> Result<(), Differ<T>>
+    ensures { IsOk result ↔ (T.eq got wanted ≡ true) }
+{
+    if got == wanted {
+        Ok(())
+    } else {
+        Err(Differ { got, wanted })
+    }
+}
+
+/// Why a value was not found to print as it was to.
+#[derive(Debug, Drop)]
+pub enum Misprint {
+    /// It prints as this text.
+    As(String),
+    /// Memory was refused.
+    OutOfMemory,
+}
+
+impl From<AllocError> for Misprint {
+    ghost use Rattle.std.specs.Prelude.{◌≡◌};
+    ghost use Rattle.test_support.specs.declared.Misprint.TheVariants.{OutOfMemory};
+
+    ghost from_gives = { λ _ misprint. misprint ≡ OutOfMemory };
+
+    fn from(_: AllocError) -> Misprint {
+        Misprint::OutOfMemory
+    }
+}
+
+/// Prints a value, and compares what that gives with a text.
+///
+/// # Errors
+///
+/// `As` with what it gives, if that is another text; `OutOfMemory` if memory is refused.
+pub fn prints<D: Display>(alloc: Global, value: &D, wanted: &str) -> Result<(), Misprint> {
+    let printed = format!(in alloc; "{value}")?;
+    if printed.as_str() == wanted {
+        Ok(())
+    } else {
+        Err(Misprint::As(printed))
+    }
+}
