@@ -12,8 +12,8 @@ use crate::reference::Reference;
 use crate::{Iri, IriRef, Uri, UriRef};
 use std::alloc::{AllocError, Global};
 use std::convert::{AsStr, TryFrom};
+use uri_ops::convert::encoded::encoded;
 use uri_ops::convert::{self, ConvertError};
-use uri_ops::encoded::encoded;
 use uri_ops::traits::RiMaybeRef;
 use uri_parts::core_text::Core;
 

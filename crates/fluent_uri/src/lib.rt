@@ -79,13 +79,14 @@ pub mod component {
 /// contract states the law. Code whose proof needs the law calls the function.
 pub mod laws {
     pub use error_laws::what_is_before_an_error_begins_a_text;
-    pub use uri_ops::across::{
+    pub use uri_ops::laws::iri_uri::{
         encoded_texts_mean_the_same, encoded_texts_resolve_alike, texts_of_wider_kinds,
     };
-    pub use uri_ops::canonical::{
+    pub use uri_ops::laws::normal_form::{
         four_kinds_have_component_sets, meaning_under_ports, meanings_are_equal_if_their_parts_are,
         normal_texts_are_canonical,
     };
+    pub use uri_ops::laws::resolve_normalize::{resolving_and_normalising_swap, targets_are_texts};
     pub use uri_ops::laws::{
         authorities_have_one_cut, bases_may_be_removed_before_merging,
         directories_are_taken_before_or_after_removing, front_pieces_may_be_removed_first,
@@ -93,7 +94,6 @@ pub mod laws {
         paths_without_dot_segments_are_left_as_they_are, removing_and_reading_swap,
         removing_twice_is_removing_once,
     };
-    pub use uri_ops::swap::{resolving_and_normalising_swap, targets_are_texts};
     pub use uri_parts::laws::{
         accepted_exactly_if_no_error, components_are_a_split, components_are_the_only_split,
         components_recompose, ipv4_addresses_compare_alike, ipv4_addresses_compare_by_octets,

@@ -3,7 +3,7 @@ pub mod Directories
 pub mod DraftPlaces
 pub mod EncodedPlaces
 pub mod LeadingSegments
-pub mod Pieces
+pub mod SegmentModes
 pub mod Places
 pub mod PlainFronts
 pub mod Readings

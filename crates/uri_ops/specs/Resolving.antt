@@ -2,7 +2,7 @@
 use Rattle.std.specs.Prelude.{Bool, ◌≡◌, ℕ, true, false, List, Ok, Err, is_ok}
 use Rattle.uri_parts.specs.Components.{Components, components}
 use Rattle.uri_ops.specs.declared.resolve.Resolver.{Resolver}
-use Rattle.uri_ops.specs.declared.placed.Placed.{Placed}
+use Rattle.uri_ops.specs.declared.resolve.text_view.TextView.{TextView}
 use Rattle.uri_ops.specs.declared.resolve.ResolveError.{ResolveError}
 use Rattle.uri_ops.specs.Target.{BaseWithFragment, InvalidReferenceAgainstOpaqueBase, cleaned_path}
 use Rattle.uri_ops.specs.Target.{guarded, target_underflows, resolution_of}
@@ -18,7 +18,7 @@ abbrev pub resolver_allows_underflow : {R : Type 0} → Resolver R → Bool
 resolver_allows_underflow r = r.allow_path_underflow
 
 -- the components of a text that a program holds with their places
-abbrev pub components_of : Placed → Components
+abbrev pub components_of : TextView → Components
 components_of p = components p.text.now
 
 -- the target's components, of those before dot segments are removed

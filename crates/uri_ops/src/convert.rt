@@ -8,6 +8,9 @@ ghost use Rattle.uri_parts.specs.Grammar.{IsOfKind, iri, iri_ref, uri, uri_ref};
 ghost use Rattle.uri_ops.specs.Conversions.{first_past_ascii, scheme_refusal, ascii_refusal};
 ghost use Rattle.uri_ops.specs.Conversions.{uri_refusal};
 
+#[doc(hidden)]
+pub mod encoded;
+
 use thiserror::Error;
 use uri_parts::core_text::Core;
 use uri_parts::kind::Kind;

@@ -15,6 +15,13 @@ ghost use Rattle.uri_ops.specs.Dots.{is_empty, remove_dot_segments, underflows, 
 ghost use Rattle.uri_ops.specs.Dots.{lacks_dot_segments, run_whole, IsAbsolute, EndsInSlash};
 ghost use Rattle.uri_ops.specs.Target.{is_fragment_only, target_of};
 
+#[doc(hidden)]
+pub mod iri_uri;
+#[doc(hidden)]
+pub mod normal_form;
+#[doc(hidden)]
+pub mod resolve_normalize;
+
 /// The loop that removes dot segments ends with nothing left to read (RFC 3986, section 5.2.4).
 ///
 /// # Examples

@@ -12,10 +12,22 @@ ghost use Rattle.uri_ops.specs.Normalizers.{normalizer_allows_underflow};
 ghost use Rattle.uri_ops.specs.Normalizers.{ports_of, text_underflows};
 ghost use Rattle.uri_ops.specs.declared.normalize.NormalizeError.TheVariants.{PathUnderflow};
 
+#[doc(hidden)]
+pub mod decode_unreserved;
+pub(crate) mod decoded_paths;
+#[doc(hidden)]
+pub mod formatting;
+#[doc(hidden)]
+pub mod normal_authority;
+#[doc(hidden)]
+pub mod normal_text;
+pub(crate) mod octets;
+pub(crate) mod unchanged;
+
 use crate::default_port::{DefaultPort, SchemeDefaults};
-use crate::normal_text::push_normal;
+use crate::normalize::normal_text::push_normal;
+use crate::normalize::unchanged::{copied, is_unchanged};
 use crate::traits::RiMaybeRef;
-use crate::unchanged::{copied, is_unchanged};
 use std::alloc::{AllocError, Global};
 use thiserror::Error;
 use uri_parts::core_text::Core;

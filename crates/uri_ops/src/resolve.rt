@@ -12,10 +12,16 @@ ghost use Rattle.uri_ops.specs.Resolving.{IsErrorFor, IsRefusalFor, IsTarget};
 ghost use Rattle.uri_ops.specs.Target.{resolution_of_texts};
 ghost use Rattle.uri_parts.specs.Grammar.{IsTextOf};
 
+pub(crate) mod base_prefix;
+#[doc(hidden)]
+pub mod target_text;
+#[doc(hidden)]
+pub mod text_view;
+
 use crate::default_port::DefaultPort;
 use crate::normalize::{Normalizer, normal_form_of};
-use crate::placed::Placed;
-use crate::target_text::{Target, target_text};
+use crate::resolve::target_text::{Target, target_text};
+use crate::resolve::text_view::TextView;
 use crate::traits::{RefOf, Ri, RiMaybeRef};
 use std::alloc::{AllocError, Global};
 use thiserror::Error;
@@ -95,8 +101,8 @@ fn resolved_text<B: Ri, Q: RefOf<B>>(
 {
     target_text(
         alloc,
-        &Placed::of(base),
-        &Placed::of(reference),
+        &TextView::of(base),
+        &TextView::of(reference),
         allow_path_underflow,
     )
 }

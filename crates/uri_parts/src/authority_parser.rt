@@ -29,9 +29,9 @@ ghost use Rattle.uri_parts.specs.Models.Cursors.{rest_of, cursor_text, place_of}
 
 use crate::cursor::Cursor;
 use crate::error::{ParseError, ParseErrorKind};
+use crate::ip_literal::literal_end;
 use crate::kind::Kind;
 use crate::kind_tables::KindTables;
-use crate::literal::literal_end;
 use crate::positions::AuthorityPositions;
 use uri_pct::table::DIGIT;
 

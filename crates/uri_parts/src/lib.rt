@@ -15,13 +15,13 @@ mod default_ports;
 pub mod error;
 #[doc(hidden)]
 pub mod fragment;
+mod ip_literal;
 #[doc(hidden)]
 pub mod kind;
 #[doc(hidden)]
 pub mod kind_tables;
 #[doc(hidden)]
 pub mod laws;
-mod literal;
 pub mod net;
 #[doc(hidden)]
 pub mod parse;

@@ -130,7 +130,7 @@ fn pass_authority<K: Kind>(
 /// What follows a scheme, before a path.
 #[tactic(auto, unfolding(crate::proofs::Steps::hier))]
 #[inline(always)]
-fn pass_hier<K: Kind>(
+fn pass_hier_part<K: Kind>(
     cursor: &mut Cursor<'_>,
     tables: &KindTables,
     scheme_end: usize,
@@ -242,7 +242,7 @@ fn pass_front<K: Kind>(
         if !cursor.text().as_bytes()[0].is_ascii_alphabetic() {
             return Err(not_a_letter);
         }
-        return pass_hier::<K>(cursor, tables, scheme_end);
+        return pass_hier_part::<K>(cursor, tables, scheme_end);
     }
     if tables.needs_scheme {
         return Err(cursor.unexpected());

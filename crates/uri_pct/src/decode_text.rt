@@ -9,7 +9,7 @@ ghost use Rattle.uri_pct.specs.Texts.{is_unencoded};
 
 use crate::cow::{CowStr, DecodeError};
 use crate::decode::Decode;
-use crate::parts::TakeParts;
+use crate::utf8_runs::TakeParts;
 use std::alloc::{AllocError, Global};
 
 /// The bytes of the parts, and whether no part was ill-formed.

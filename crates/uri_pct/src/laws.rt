@@ -1,6 +1,9 @@
 //! Laws of the definitions: each is the contract of a function that does nothing.
 #![tactic(auto, using(crate::proofs::Theorems::reading_laws))]
 
+#[doc(hidden)]
+pub mod tables;
+
 ghost use Rattle.std.specs.Prelude.{◌≡◌, ◌↔◌, ◌<◌, ◌/◌, ◌%◌, ◌&&◌, ℕ, Bool, true, false, List, ◌∷◌};
 ghost use Rattle.std.specs.Prelude.{◌++◌, ◌≤◌, map, take, All};
 ghost use Rattle.std.specs.Char.{IsScalar, encode_utf8};

@@ -18,11 +18,7 @@ pub mod lanes;
 pub mod laws;
 #[doc(hidden)]
 pub mod octet;
-#[doc(hidden)]
-pub mod parts;
 pub mod pct_enc;
-#[doc(hidden)]
-pub mod rules;
 #[doc(hidden)]
 pub mod scan;
 #[doc(hidden)]
@@ -32,4 +28,6 @@ pub mod split;
 pub mod table;
 #[doc(hidden)]
 pub mod utf8;
+#[doc(hidden)]
+pub mod utf8_runs;
 mod window;

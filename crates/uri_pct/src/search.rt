@@ -40,7 +40,7 @@ pub fn find_byte(byte: u8, bytes: &[u8], start: usize) -> usize
 /// How many of the sixteen bytes from `at` on are before the first `/` that has a `.` or a `%`
 /// after it.
 #[inline(always)]
-pub fn length_before_dots(bytes: &[u8], at: usize) -> usize
+pub fn len_before_slash_dot(bytes: &[u8], at: usize) -> usize
     requires { at + LANES < length bytes.now }
     ensures few { result ≤ 16 }
     ensures none { (k : ℕ) → k < result → (slice_index bytes.now (at + k) == slash

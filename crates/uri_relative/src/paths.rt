@@ -12,7 +12,7 @@ ghost use Rattle.uri_relative.specs.Relative.{is_misread, relative_path, slashes
 
 use crate::dots::has_dot_segments;
 use std::alloc::AllocError;
-use uri_ops::slashes::{begins_with_slash, begins_with_two_slashes};
+use uri_ops::path::slashes::{begins_with_slash, begins_with_two_slashes};
 
 /// Where the last `/` stands of the longest front that two paths share.
 fn last_shared_slash(base: &[u8], path: &[u8]) -> usize

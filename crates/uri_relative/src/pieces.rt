@@ -6,7 +6,7 @@ ghost use Rattle.uri_ops.specs.Models.Places.{before_path};
 ghost use Rattle.uri_ops.specs.Target.{is_opaque};
 ghost use Rattle.uri_relative.specs.Forms.{after_path, after_scheme};
 
-use uri_ops::slashes::begins_with_slash;
+use uri_ops::path::slashes::begins_with_slash;
 use uri_parts::core_text::Core;
 use uri_parts::kind::Kind;
 

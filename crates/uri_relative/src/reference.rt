@@ -15,7 +15,7 @@ use crate::pieces::{
 };
 use fluent_uri::roles::BaseKind;
 use std::alloc::AllocError;
-use uri_ops::slashes::begins_with_slash;
+use uri_ops::path::slashes::begins_with_slash;
 use uri_parts::core_text::Core;
 
 /// Whether the authorities are the same, and the paths.

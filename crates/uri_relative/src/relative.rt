@@ -18,8 +18,8 @@ use crate::pieces::{after_path, before_path, path};
 use crate::reference::push_reference;
 use fluent_uri::roles::BaseKind;
 use std::alloc::{AllocError, Global};
-use uri_ops::dot_segments::push_without_dot_segments;
-use uri_ops::slashes::{begins_with_slash, begins_with_two_slashes};
+use uri_ops::path::dot_segments::push_without_dot_segments;
+use uri_ops::path::slashes::{begins_with_slash, begins_with_two_slashes};
 use uri_parts::core_text::Core;
 use uri_parts::kind::{IriKind, IriRefKind, Kind, UriKind, UriRefKind};
 

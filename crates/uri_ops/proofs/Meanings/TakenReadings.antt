@@ -11,7 +11,7 @@ use Rattle.uri_pct.specs.Reading.{read_tokens, lower_token}
 use Rattle.uri_pct.specs.Sets.{TableSet}
 use Rattle.uri_pct.specs.Tables.{set_of}
 use Rattle.uri_pct.specs.Tokens.{Octet, Char, tokens, print, IsValidFor}
-use Rattle.uri_ops.specs.declared.reading.Reading.{Reading}
+use Rattle.uri_ops.specs.declared.normalize.decode_unreserved.Reading.{Reading}
 use Rattle.uri_ops.specs.Models.Readings.{TookReading, read_parts, cased, cased_text}
 use Rattle.uri_ops.proofs.Meanings.Cased.{AllowsReadable, print_cased, cased_octets, text_read}
 use Rattle.uri_ops.proofs.Meanings.Cased.{past_lower, text_read_lower}

@@ -7,7 +7,7 @@ use Rattle.std.proofs.lemmas.Str.Ascii.{lowercase_ascii}
 use Rattle.uri_pct.specs.Reading.{read_alone}
 use Rattle.uri_pct.specs.Sets.{is_unreserved}
 use Rattle.uri_pct.specs.Tokens.{Octet, print}
-use Rattle.uri_ops.specs.declared.fronts.TheConstants.{LOWERED, UNRESERVED}
+use Rattle.uri_ops.specs.declared.normalize.octets.TheConstants.{LOWERED, UNRESERVED}
 use Rattle.uri_ops.specs.Models.Readings.{cased, cased_code}
 
 abbrev pub code_table : Bool → List ℕ

@@ -11,9 +11,9 @@ use Rattle.uri_pct.specs.Tokens.{print}
 use Rattle.uri_ops.specs.ComponentSets.{IsComponentSet}
 use Rattle.uri_ops.specs.Dots.{IsAbsolute, remove_dot_segments, underflows}
 use Rattle.uri_ops.specs.Models.Directories.{IsPlainDirectory}
-use Rattle.uri_ops.specs.Models.Pieces.{IsInPieces, IsPathPiece, in_pieces}
-use Rattle.uri_ops.specs.declared.pieces.Pieces.{Pieces}
-use Rattle.uri_ops.specs.declared.pieces.Pieces.TheVariants.{Copied, Read}
+use Rattle.uri_ops.specs.Models.SegmentModes.{IsInPieces, IsPathPiece, in_pieces}
+use Rattle.uri_ops.specs.declared.path.segment_mode.SegmentMode.{SegmentMode}
+use Rattle.uri_ops.specs.declared.path.segment_mode.SegmentMode.TheVariants.{Copied, Read}
 use Rattle.uri_ops.proofs.Meanings.AllowedParts.{is_part, part_from, part_valid, reprinted}
 use Rattle.uri_ops.proofs.Meanings.AllowedParts.{reprinted-nil}
 use Rattle.uri_ops.proofs.Paths.LeftPaths.{directory_slashed}
@@ -24,22 +24,22 @@ use Rattle.uri_ops.proofs.Paths.SlashedSegments.{slashed}
 use Rattle.uri_ops.proofs.Paths.TakenSegments.{absolute_is}
 
 -- which texts may be pieces
-abbrev pub is_piece : Pieces → List ℕ → Bool
+abbrev pub is_piece : SegmentMode → List ℕ → Bool
 is_piece Copied text = true
 is_piece (Read table) text = is_part (set_of table.now) text
 
-pub piecewise : (pieces : Pieces) (path : List ℕ) → IsInPieces pieces path
+pub piecewise : (pieces : SegmentMode) (path : List ℕ) → IsInPieces pieces path
     → IsPiecewise (in_pieces pieces) (is_piece pieces)
 unfolding reprinted
 piecewise Copied path h = unchanged
 piecewise (Read table) path h = reading (set_of table.now) h.component h.slash
 
-pub whole_piece : (pieces : Pieces) (path : List ℕ) → IsUtf8 path → IsInPieces pieces path
+pub whole_piece : (pieces : SegmentMode) (path : List ℕ) → IsUtf8 path → IsInPieces pieces path
     → is_piece pieces path ≡ true
 whole_piece Copied path u h = refl
 whole_piece (Read table) path u h = part_from (set_of table.now) path u h.valid
 
-pub each_piece : (pieces : Pieces) (path piece : List ℕ) → IsInPieces pieces path
+pub each_piece : (pieces : SegmentMode) (path piece : List ℕ) → IsInPieces pieces path
     → is_piece pieces piece ≡ true → IsInPieces pieces piece
 each_piece Copied path piece h e = tt
 each_piece (Read table) path piece h e = record {

@@ -4,8 +4,8 @@ use Rattle.std.specs.Prelude.{List, [], ◌∷◌, length, take, drop, slice_ind
 use Rattle.std.specs.Str.{IsCharBoundary}
 use Rattle.uri_pct.specs.Delimiters.{full_stop, percent_sign, slash}
 use Rattle.uri_parts.specs.Components.{IsRooted}
-use Rattle.uri_ops.specs.declared.dots.Leading.{Leading}
-use Rattle.uri_ops.specs.declared.dots.Leading.TheVariants.{SingleDot, DoubleDot, NoDots}
+use Rattle.uri_ops.specs.declared.path.leading_segment.Leading.{Leading}
+use Rattle.uri_ops.specs.declared.path.leading_segment.Leading.TheVariants.{SingleDot, DoubleDot, NoDots}
 use Rattle.uri_ops.specs.Dots.{has_slash, is_dot_segment, is_double_dot, is_single_dot}
 use Rattle.uri_ops.specs.Dots.{lacks_dot_segments}
 use Rattle.uri_ops.specs.Models.Directories.{IsClosed}

@@ -13,7 +13,7 @@ use Rattle.uri_pct.specs.Reading.{read_piece, read_tokens, lower_token}
 use Rattle.uri_pct.specs.Sets.{TableSet}
 use Rattle.uri_pct.specs.Tables.{set_of}
 use Rattle.uri_pct.specs.Tokens.{Token, Char, text_of_token, tokens, print}
-use Rattle.uri_ops.specs.declared.reading.Reading.{Reading}
+use Rattle.uri_ops.specs.declared.normalize.decode_unreserved.Reading.{Reading}
 
 -- the tokens that are read of a part
 abbrev pub read_part : TableSet → Part → List Token

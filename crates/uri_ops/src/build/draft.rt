@@ -16,7 +16,7 @@ use crate::build::BuildError;
 use crate::build::appending::{append, append_host, append_port, grown};
 use crate::build::host_port::{AsPort, WithEncoder};
 use crate::build::places::{HostPlace, positions_by};
-use crate::slashes::{begins_with_slash, begins_with_two_slashes};
+use crate::path::slashes::{begins_with_slash, begins_with_two_slashes};
 use std::alloc::Global;
 use uri_parts::positions::Positions;
 use uri_pct::encoder::Encoder;

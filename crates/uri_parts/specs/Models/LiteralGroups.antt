@@ -1,8 +1,8 @@
 -- What the code answers for the groups of an IPv6 address.
 use Rattle.std.specs.Prelude.{ℕ, List, ⊤}
 use Rattle.std.specs.Str.{IsCharBoundary}
-use Rattle.uri_parts.specs.declared.literal.GroupsEnd.{GroupsEnd}
-use Rattle.uri_parts.specs.declared.literal.GroupsEnd.TheVariants as Of
+use Rattle.uri_parts.specs.declared.ip_literal.GroupsEnd.{GroupsEnd}
+use Rattle.uri_parts.specs.declared.ip_literal.GroupsEnd.TheVariants as Of
 use Rattle.uri_parts.specs.LiteralErrors.{Groups, Groups_end, Elision, Malformed}
 
 abbrev pub groups_of : GroupsEnd → Groups

@@ -1,0 +1,12 @@
+use Rattle.std.proofs.Common.{map, refl}
+use Rattle.std.proofs.lemmas.Result.{on_ok_weaker}
+use Rattle.uri_pct.specs.Tables.{set_of}
+use Rattle.uri_pct.specs.Tokens.{Octet, print}
+use Rattle.uri_ops.proofs.Meanings.TakenReadings.{grown, octets_cased}
+use Rattle.uri_ops.proofs.normalize.decode_unreserved.ReadingTakeParts.take_ill_formed.Goals as goal
+
+pub returns : goal.returns
+returns c = on_ok_weaker c.push_octets.result
+    (λ written. grown c.args.self.now _ _ (print (map Octet c.args.bytes.now)) refl refl refl written
+    (octets_cased c.args.self.now.lowers (set_of c.args.self.now.table) c.args.bytes.now))
+    c.push_octets.ensures.ok

@@ -1,0 +1,18 @@
+use Rattle.std.proofs.Common.{◌≡◌, ◌++◌, take, drop, sym, ap, ◌∙◌, string_bytes}
+use Rattle.std.proofs.lemmas.List.{take-append-drop}
+use Rattle.uri_pct.specs.Reading.{written_text}
+use Rattle.uri_ops.proofs.Meanings.WrittenFormatting.{written_text-none}
+use Rattle.uri_ops.proofs.normalize.formatting.encode_formatting.Goals as goal
+
+pub returns-then-not-has_formatting : goal.returns-then-not-has_formatting
+returns-then-not-has_formatting c =
+    let start = c.args.start in
+    let whole = string_bytes c.args.out.now in
+    let text = c.range_from.result.now in
+    let place : text ≡ drop start whole = c.range_from.ensures.value
+    ∙ ap (drop start) c.as_str.ensures.value in
+    let stays : written_text text ≡ text =
+    written_text-none text c.range_from.utf8
+    (sym c.has_formatting.ensures ∙ c.if-not-has_formatting.true) in
+    sym (ap (λ x. take start whole ++ written_text x) (sym place)
+    ∙ ap (λ x. take start whole ++ x) (stays ∙ place) ∙ take-append-drop start whole)

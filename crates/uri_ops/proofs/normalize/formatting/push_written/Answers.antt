@@ -1,0 +1,27 @@
+use Rattle.std.proofs.Common.{◌++◌, sym, ap, ◌∙◌, append_assoc, append-nil, string_bytes}
+use Rattle.std.specs.List.{flat_map}
+use Rattle.std.specs.Str.Iter.{chars_rest}
+use Rattle.std.proofs.lemmas.Str.{IsUtf8-past_char, chars_past_char}
+use Rattle.uri_pct.specs.Reading.{written_char, written_text}
+use Rattle.uri_ops.proofs.Meanings.WrittenFormatting.{no_chars}
+use Rattle.uri_ops.proofs.normalize.formatting.push_written.Goals as goal
+
+pub loop-ch-preserved : goal.loop-ch-preserved
+loop-ch-preserved c =
+    let held = c.loop-ch.invariant in
+    let out = string_bytes c.loop-ch.out in
+    let rest = written_text (chars_rest c.next.new.self) in
+    let parts = c.in-Some.ensures.steps.0 in
+    let step = ap (flat_map written_char) (chars_past_char _ _ c.in-Some.ch held.0 parts) in (
+      IsUtf8-past_char _ _ c.in-Some.ch held.0 parts,
+      ap (λ x. x ++ rest) c.in_ok-push_char.ensures
+          ∙ append_assoc out (written_char c.in-Some.ch) rest ∙ ap (λ x. out ++ x) (sym step)
+          ∙ held.1,
+    )
+
+pub returns : goal.returns
+returns c =
+    let out = string_bytes c.loop-ch.out in
+    sym (append-nil out)
+    ∙ ap (λ x. out ++ flat_map written_char x) (sym (no_chars _ c.in-None.ensures.steps.0.0))
+    ∙ c.loop-ch.invariant.1

@@ -1,0 +1,37 @@
+use Rattle.std.proofs.Common.{◌≡◌, ◌-◌, length, take, sym, ap, ◌∙◌, arith, string_bytes}
+use Rattle.std.proofs.lemmas.Str.{IsCharBoundary-after_ascii, IsUtf8-string_bytes}
+use Rattle.uri_ops.proofs.Paths.LastSlashes.{popped, popped_slash, none_popped}
+use Rattle.uri_ops.proofs.path.dot_segments.pop_segment.Goals as goal
+
+pub truncate-requires : goal.truncate-requires
+truncate-requires c =
+    let text = string_bytes c.args.out.now in
+    let all = take (c.len-end.result - 1) c.as_bytes.result.now in
+    let end_is : c.len-end.result ≡ length text = c.len-end.ensures ∙ sym c.as_bytes.ensures.len
+    ∙ ap length c.as_bytes.ensures.value in
+    let all_is : all ≡ take (length text - 1) text =
+    ap (λ n. take (n - 1) c.as_bytes.result.now) end_is
+    ∙ ap (take (length text - 1)) c.as_bytes.ensures.value in
+    let slash = popped_slash text c.args.start c.requires all all_is c.near_slash-slash.result
+    c.near_slash-slash.ensures.place in
+    let place = IsCharBoundary-after_ascii text c.near_slash-slash.result
+    (IsUtf8-string_bytes c.args.out.now) slash.0 (omega (arith, slash.1)) in
+    λ _. (place.0, λ _. place.1)
+
+pub returns-clause-bytes : goal.returns-clause-bytes
+returns-clause-bytes c =
+    let text = string_bytes c.args.out.now in
+    let all = take (c.len-end.result - 1) c.as_bytes.result.now in
+    let end_is : c.len-end.result ≡ length text = c.len-end.ensures ∙ sym c.as_bytes.ensures.len
+    ∙ ap length c.as_bytes.ensures.value in
+    let all_is : all ≡ take (length text - 1) text =
+    ap (λ n. take (n - 1) c.as_bytes.result.now) end_is
+    ∙ ap (take (length text - 1)) c.as_bytes.ensures.value in
+    c.truncate.ensures.bytes
+    ∙ popped text c.args.start c.requires all all_is c.near_slash-slash.result
+    c.near_slash-slash.ensures.place c.near_slash-slash.ensures.front
+
+pub returns-clause-none : goal.returns-clause-none
+returns-clause-none c =
+    none_popped (string_bytes c.args.out.now) c.args.start c.requires c.len-end.result
+    (c.len-end.ensures ∙ sym c.as_bytes.ensures.len ∙ ap length c.as_bytes.ensures.value)

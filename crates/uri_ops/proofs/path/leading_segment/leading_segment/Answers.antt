@@ -1,0 +1,72 @@
+use Rattle.std.proofs.Common.{◌≡◌, ◌+◌, ◌<◌, drop, false, ap, ◌∙◌, arith}
+use Rattle.uri_ops.specs.Models.LeadingSegments.{dot_len, ends_segment}
+use Rattle.uri_ops.proofs.Paths.DotLengths.{dot_behind, double_told, end_behind, ends_rooted}
+use Rattle.uri_ops.proofs.Paths.DotLengths.{none_told, single_told}
+use Rattle.uri_ops.proofs.path.leading_segment.leading_segment.Goals as goal
+use Rattle.uri_ops.proofs.path.leading_segment.leading_segment.Goals.{then-end-eq0-via-then-end-eq0}
+use Rattle.uri_ops.proofs.path.leading_segment.leading_segment.Goals.{}
+use Rattle.uri_ops.proofs.path.leading_segment.leading_segment.Goals.{then-end-eq0-via-else-end-eq0+then-not-ends_segment}
+
+pub returns-then-end-eq0-clause-leading : goal.returns-then-end-eq0-clause-leading
+returns-then-end-eq0-clause-leading c =
+    let path = c.args.path.now in
+    let first = c.dot_len-first.result in
+    let second = c.dot_len-second.result in
+    let value = c.as_bytes-bytes.ensures.value in
+    let first_is : first ≡ dot_len path = c.dot_len-first.ensures.bytes ∙ ap dot_len value in
+    let second_is : second ≡ dot_len (drop first path) =
+    dot_behind path c.as_bytes-bytes.result.now first value second
+    c.dot_len-second.ensures.bytes in
+    let none : 0 < first + second → ends_segment (drop (first + second) path) ≡ false =
+    λ some. elim c.then-end-eq0.branch [
+      | then-end-eq0-via-then-end-eq0 w ↦ absurd (omega (arith, w.if-end-eq0.true, some))
+      | then-end-eq0-via-else-end-eq0+then-not-ends_segment w ↦
+          end_behind path c.as_bytes-bytes.result.now (first + second) value w.ends_segment.result
+          w.ends_segment.ensures
+          ∙ w.if-not-ends_segment.true
+    ] in
+    none_told path first second first_is second_is none
+
+pub returns-then-second-eq0-clause-leading : goal.returns-then-second-eq0-clause-leading
+returns-then-second-eq0-clause-leading c =
+    let path = c.args.path.now in
+    let first = c.dot_len-first.result in
+    let second = c.dot_len-second.result in
+    let value = c.as_bytes-bytes.ensures.value in
+    let first_is : first ≡ dot_len path = c.dot_len-first.ensures.bytes ∙ ap dot_len value in
+    let second_is : second ≡ dot_len (drop first path) =
+    dot_behind path c.as_bytes-bytes.result.now first value second
+    c.dot_len-second.ensures.bytes in
+    let told = single_told path first second first_is second_is c.if-second-eq0.true
+    (omega (arith, c.if-end-eq0.false)) in
+    record {
+      end = first + second;
+      segment = told.0;
+      behind = ends_rooted (drop (first + second) path)
+          (end_behind path c.as_bytes-bytes.result.now (first + second) value c.ends_segment.result
+          c.ends_segment.ensures ∙ c.if-not-ends_segment.false);
+      passes = told.1;
+      rest = c.next_segment-next.ensures.rest;
+    }
+
+pub returns-clause-leading : goal.returns-clause-leading
+returns-clause-leading c =
+    let path = c.args.path.now in
+    let first = c.dot_len-first.result in
+    let second = c.dot_len-second.result in
+    let value = c.as_bytes-bytes.ensures.value in
+    let first_is : first ≡ dot_len path = c.dot_len-first.ensures.bytes ∙ ap dot_len value in
+    let second_is : second ≡ dot_len (drop first path) =
+    dot_behind path c.as_bytes-bytes.result.now first value second
+    c.dot_len-second.ensures.bytes in
+    let told = double_told path first second first_is second_is
+    (omega (arith, c.if-second-eq0.false)) in
+    record {
+      end = first + second;
+      segment = told.0;
+      behind = ends_rooted (drop (first + second) path)
+          (end_behind path c.as_bytes-bytes.result.now (first + second) value c.ends_segment.result
+          c.ends_segment.ensures ∙ c.if-not-ends_segment.false);
+      passes = told.1;
+      rest = c.next_segment-next.ensures.rest;
+    }

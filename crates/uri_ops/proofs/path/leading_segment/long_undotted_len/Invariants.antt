@@ -1,0 +1,10 @@
+use Rattle.std.proofs.Common.{◌≡◌, ◌≤◌, ◌<◌, ◌+◌, ◌-◌, ℕ, false}
+use Rattle.uri_ops.specs.Models.LeadingSegments.{begins_at}
+use Rattle.uri_ops.proofs.path.leading_segment.long_undotted_len.Given as goal
+
+abbrev pub invariant-loop-i : goal.invariant-loop-i
+invariant-loop-i l =
+    record { within : l.i ≤ l.last + 16; none : (k : ℕ) → k < l.i → begins_at l.bytes k ≡ false }
+
+abbrev pub decreases-loop-i : goal.decreases-loop-i
+decreases-loop-i l = l.last - l.i

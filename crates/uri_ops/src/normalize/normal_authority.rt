@@ -1,0 +1,168 @@
+//! Authorities in normal form (RFC 3986, sections 6.2.2 and 6.2.3; RFC 3987, section 5.3.2).
+ghost use Rattle.std.specs.Prelude.{◌≡◌, ◌==◌, [], IfOk, OnOk, codes, false, length, option_map};
+ghost use Rattle.std.specs.Prelude.{string_bytes};
+ghost use Rattle.std.specs.Option.{option_map_or};
+ghost use Rattle.uri_pct.specs.Delimiters.{left_bracket};
+ghost use Rattle.uri_pct.specs.Texts.{Pushes};
+ghost use Rattle.uri_parts.specs.Authority.{authority_parts};
+ghost use Rattle.uri_parts.specs.AuthorityTexts.{authority_text};
+ghost use Rattle.uri_parts.specs.Components.{marked, starts};
+ghost use Rattle.uri_parts.specs.Grammar.{Kind};
+ghost use Rattle.uri_parts.specs.Hosts.{host_kind};
+ghost use Rattle.uri_parts.specs.Schemes.{scheme_text};
+ghost use Rattle.uri_ops.specs.Meaning.{authority_meaning, host_meaning, port_meaning};
+ghost use Rattle.uri_ops.specs.Normal.{host_text, normal_authority, normal_part, normal_parts};
+ghost use Rattle.uri_ops.specs.Normal.{default_of};
+ghost use Rattle.uri_ops.specs.Models.Written.{authority_parts_at};
+
+use crate::default_port::DefaultPort;
+use crate::normalize::decode_unreserved::{push_component, push_lower, push_read_host};
+use std::alloc::AllocError;
+use uri_parts::component::{Authority, HostOf, Scheme};
+use uri_parts::positions::AuthorityPositions;
+use uri_pct::encoder::Encoder;
+
+/// Appends the normal form of an authority after its scheme: the userinfo and the host as they are
+/// read, and the port unless it is empty or the scheme's default. It returns where it is.
+///
+/// After an error, part of it may have been appended.
+#[doc(hidden)]
+pub fn push_authority<U: Encoder, R: Encoder, P: DefaultPort>(
+    authority: Authority<'_, U, R>,
+    scheme: Option<Scheme<'_>>,
+    ports: &P,
+    out: &mut String,
+) -> Result<AuthorityPositions, AllocError>
+    ensures text { let default = default_of (P.port_of ports.now)
+        (option_map scheme_text scheme.entry) in
+        (kind : Kind) → kind.userinfo ≡ U.set → kind.reg_name ≡ R.set
+        → OnOk result (Pushes out.old out.new
+        (normal_authority (authority_meaning kind default (authority_text authority.entry)))) }
+    ensures places { let default = default_of (P.port_of ports.now)
+        (option_map scheme_text scheme.entry) in
+        (kind : Kind) → kind.userinfo ≡ U.set → kind.reg_name ≡ R.set
+        → IfOk result (λ places. places ≡ authority_parts_at (length (string_bytes out.old))
+        (normal_parts (authority_meaning kind default (authority_text authority.entry)))) }
+{
+    let start = out.len();
+    push_userinfo(authority, out)?;
+    let host_start = out.len();
+    push_host(authority, out)?;
+    let host_end = out.len();
+    push_port(authority, scheme, ports, out)?;
+    Ok(AuthorityPositions {
+        start,
+        host_start,
+        host_end,
+        end: out.len(),
+    })
+}
+
+/// Appends what is read of the userinfo, and its `@`.
+fn push_userinfo<U: Encoder, R: Encoder>(
+    authority: Authority<'_, U, R>,
+    out: &mut String,
+) -> Result<(), AllocError>
+    ensures { let p = authority_parts (authority_text authority.entry) in
+        OnOk result (Pushes out.old out.new
+        (marked [] (normal_part U.set p.userinfo) (codes "@"))) }
+{
+    let Some(userinfo) = authority.userinfo() else {
+        return Ok(());
+    };
+    push_component(userinfo, out)?;
+    out.push('@')
+}
+
+/// Appends the normal form of the host: an IPv6 address by its numbers (RFC 5952), and every other
+/// host with its ASCII letters in lower case, a name as it is read.
+///
+/// After an error, part of it may have been appended.
+#[doc(hidden)]
+pub fn push_host<U: Encoder, R: Encoder>(
+    authority: Authority<'_, U, R>,
+    out: &mut String,
+) -> Result<(), AllocError>
+    ensures { let host = (authority_parts (authority_text authority.entry)).host in
+        OnOk result (Pushes out.old out.new
+        (host_text (host_meaning R.set host (host_kind host)))) }
+{
+    let host = authority.host();
+    if !is_bracketed(host) {
+        return push_read_host(&R::table(), host, out);
+    }
+    match authority.host_parsed() {
+        HostOf::Ipv6(address) => write!(out, "[{address}]"),
+        _ => push_lower(host, out),
+    }
+}
+
+/// Whether the host is an address in brackets.
+pub(crate) fn is_bracketed(host: &str) -> bool
+    ensures { result ≡ starts left_bracket host.now }
+{
+    matches!(host.as_bytes(), [b'[', ..])
+}
+
+/// Appends the port's `:` and its digits, unless it is empty or the scheme's default.
+fn push_port<U: Encoder, R: Encoder, P: DefaultPort>(
+    authority: Authority<'_, U, R>,
+    scheme: Option<Scheme<'_>>,
+    ports: &P,
+    out: &mut String,
+) -> Result<(), AllocError>
+    ensures { let p = authority_parts (authority_text authority.entry) in
+        let default = default_of (P.port_of ports.now) (option_map scheme_text scheme.entry) in
+        OnOk result (Pushes out.old out.new (marked (codes ":") (port_meaning default p.port) [])) }
+{
+    let default = default_behind(authority, scheme, ports);
+    let Some(digits) = kept_port(authority, default) else {
+        return Ok(());
+    };
+    out.push(':')?;
+    out.push_str(digits)
+}
+
+/// The port's digits, unless there are none or they write the default. A port over 65535 is no
+/// default.
+fn kept_port<'a, U: Encoder, R: Encoder>(
+    authority: Authority<'a, U, R>,
+    default: Option<u16>,
+) -> Option<&'a str>
+    ensures { let p = authority_parts (authority_text authority.entry) in
+        option_map (λ digits. digits.now) result ≡ port_meaning default p.port }
+{
+    let port = authority.port()?;
+    match authority.port_to_u16() {
+        Ok(None) => None,
+        Ok(Some(number)) if is_number_of(default, number) => None,
+        _ => Some(port.as_str()),
+    }
+}
+
+/// The default port of the scheme, which is asked for only where there is a port that isn't empty.
+fn default_behind<U: Encoder, R: Encoder, P: DefaultPort>(
+    authority: Authority<'_, U, R>,
+    scheme: Option<Scheme<'_>>,
+    ports: &P,
+) -> Option<u16>
+    ensures { let port = (authority_parts (authority_text authority.entry)).port in
+        port_meaning result port
+        ≡ port_meaning (default_of (P.port_of ports.now) (option_map scheme_text scheme.entry))
+        port }
+{
+    if authority.port()?.is_empty() {
+        return None;
+    }
+    ports.default_port(scheme?)
+}
+
+/// Whether there is a default port, and it is this number.
+fn is_number_of(default: Option<u16>, number: u16) -> bool
+    ensures { result ≡ option_map_or (λ port. number == port) default false }
+{
+    match default {
+        Some(port) => number == port,
+        None => false,
+    }
+}

@@ -1,0 +1,239 @@
+//! The normal text of a value (RFC 3986, section 6.2.2; RFC 3987, section 5.3.2).
+ghost use Rattle.std.specs.Prelude.{◌≡◌, ◌+◌, ◌<◌, ◌++◌, ◌∷◌, ℕ, List, Option, [], IfOk, OnOk};
+ghost use Rattle.std.specs.Prelude.{codes, is_some, length, option_map, string_bytes, true};
+ghost use Rattle.uri_pct.specs.Delimiters.{slash};
+ghost use Rattle.uri_pct.specs.EncodedTexts.{text_of};
+ghost use Rattle.uri_pct.specs.Reading.{read};
+ghost use Rattle.uri_pct.specs.Tokens.{print, IsValidFor};
+ghost use Rattle.uri_pct.specs.Texts.{Pushes};
+ghost use Rattle.uri_parts.specs.AuthorityTexts.{authority_text};
+ghost use Rattle.uri_parts.specs.Components.{components, has_authority, marked};
+ghost use Rattle.uri_parts.specs.CoreTexts.{core_text};
+ghost use Rattle.uri_parts.specs.Grammar.{Kind};
+ghost use Rattle.uri_parts.specs.Schemes.{scheme_text};
+ghost use Rattle.uri_ops.specs.ComponentSets.{HasComponentSets, IsComponentSet};
+ghost use Rattle.uri_ops.specs.Dots.{IsAbsolute, remove_dot_segments, underflows};
+ghost use Rattle.uri_ops.specs.Meaning.{authority_meaning, meaning_of};
+ghost use Rattle.uri_ops.specs.Normal.{marked_authority, normal_components, normal_part};
+ghost use Rattle.uri_ops.specs.Normal.{normal_parts, normal_scheme, normal_text};
+ghost use Rattle.uri_ops.specs.Normal.{path_text, path_underflows};
+ghost use Rattle.uri_ops.specs.Normal.{default_of};
+ghost use Rattle.uri_ops.specs.Target.{guarded};
+ghost use Rattle.uri_ops.specs.Models.Written.{authority_parts_at, written_at};
+
+use crate::default_port::DefaultPort;
+use crate::normalize::decode_unreserved::{push_component, push_lower, push_read};
+use crate::normalize::decoded_paths::push_read_path;
+use crate::normalize::normal_authority::push_authority;
+use crate::normalize::octets::push_some;
+use crate::path::dot_segments::has_dot_segments;
+use crate::path::slashes::{begins_with_two_slashes, guard_path};
+use std::alloc::AllocError;
+use uri_parts::component::{Authority, Scheme};
+use uri_parts::core_text::Core;
+use uri_parts::kind::Kind;
+use uri_parts::positions::{AuthorityPositions, Positions};
+use uri_pct::encoder::{Encoder, PathEncoder};
+use uri_pct::pct_enc::EStr;
+
+/// Appends the scheme in lower case, and its `:`, and returns where it ends.
+fn push_scheme(scheme: Option<Scheme<'_>>, out: &mut String) -> Result<Option<usize>, AllocError>
+    ensures text { OnOk result (Pushes out.old out.new
+        (marked [] (normal_scheme (option_map scheme_text scheme.entry)) (codes ":"))) }
+    ensures end { IfOk result (λ end. end
+        ≡ option_map (λ s. length (string_bytes out.old) + length s)
+        (normal_scheme (option_map scheme_text scheme.entry))) }
+{
+    let Some(scheme) = scheme else {
+        return Ok(None);
+    };
+    push_lower(scheme.as_str(), out)?;
+    let end = out.len();
+    out.push(':')?;
+    Ok(Some(end))
+}
+
+/// Appends `//` and the normal form of the authority after this scheme, and returns where it is.
+fn push_marked_authority<U: Encoder, R: Encoder, P: DefaultPort>(
+    authority: Option<Authority<'_, U, R>>,
+    scheme: Option<Scheme<'_>>,
+    ports: &P,
+    out: &mut String,
+) -> Result<Option<AuthorityPositions>, AllocError>
+    ensures text { let default = default_of (P.port_of ports.now)
+        (option_map scheme_text scheme.entry) in
+        (kind : Kind) → kind.userinfo ≡ U.set → kind.reg_name ≡ R.set
+        → OnOk result (Pushes out.old out.new
+        (marked_authority kind default (option_map authority_text authority.entry))) }
+    ensures places { let default = default_of (P.port_of ports.now)
+        (option_map scheme_text scheme.entry) in
+        (kind : Kind) → kind.userinfo ≡ U.set → kind.reg_name ≡ R.set
+        → IfOk result (λ places. places
+        ≡ option_map (λ a. authority_parts_at (length (string_bytes out.old) + 2)
+        (normal_parts (authority_meaning kind default a)))
+        (option_map authority_text authority.entry)) }
+{
+    let Some(authority) = authority else {
+        return Ok(None);
+    };
+    out.push('/')?;
+    out.push('/')?;
+    let places = push_authority(authority, scheme, ports, out)?;
+    Ok(Some(places))
+}
+
+/// Appends what is read of a query or a fragment, after its mark, and returns where it ends.
+fn push_marked<E: Encoder>(
+    mark: char,
+    part: Option<EStr<'_, E>>,
+    out: &mut String,
+) -> Result<Option<usize>, AllocError>
+    requires { mark < 128 }
+    ensures text { OnOk result (Pushes out.old out.new
+        (marked (mark ∷ []) (normal_part E.set (option_map text_of part.entry)) [])) }
+    ensures end { IfOk result (λ end. end
+        ≡ option_map (λ s. length (string_bytes out.old) + 1 + length s)
+        (normal_part E.set (option_map text_of part.entry))) }
+{
+    let Some(part) = part else {
+        return Ok(None);
+    };
+    out.push(mark)?;
+    push_component(part, out)?;
+    Ok(Some(out.len()))
+}
+
+/// What is before a path under a scheme: `/.` if it would be read as an authority.
+fn guard_before(follows_authority: bool, path: &str) -> &'static str
+    ensures { (authority : Option (List ℕ)) → is_some authority ≡ follows_authority
+        → (text : List ℕ) → has_authority text ≡ has_authority path.now
+        → result.now ++ text ≡ guarded authority text }
+{
+    if !follows_authority && begins_with_two_slashes(path.as_bytes()) {
+        "/."
+    } else {
+        ""
+    }
+}
+
+/// Appends what is read of a path, with `/.` before it where it would be read as an authority.
+fn push_read_guarded<E: Encoder>(
+    follows_authority: bool,
+    path: &str,
+    out: &mut String,
+) -> Result<(), AllocError>
+    requires valid { IsValidFor E.set path.now }
+    requires set { IsComponentSet (codes "?#[]") E.set }
+    ensures { (authority : Option (List ℕ)) → is_some authority ≡ follows_authority
+        → OnOk result (Pushes out.old out.new (guarded authority (print (read E.set path.now)))) }
+{
+    push_some(guard_before(follows_authority, path), out)?;
+    push_read(&E::table(), path, out)
+}
+
+/// Appends what is read of a path without its dot segments, with `/.` before it where it would be
+/// read as an authority, and returns whether a double dot had nothing left to remove.
+fn push_read_cleaned<E: Encoder>(
+    has_authority: bool,
+    path: EStr<'_, E>,
+    out: &mut String,
+) -> Result<bool, AllocError>
+    requires absolute { IsAbsolute (text_of path) }
+    requires set { IsComponentSet (codes "?#[]") E.set }
+    requires slash { E.set.ascii slash ≡ true }
+    ensures text { (authority : Option (List ℕ)) → is_some authority ≡ has_authority
+        → OnOk result (Pushes out.old out.new
+        (guarded authority (print (read E.set (remove_dot_segments (text_of path.entry)))))) }
+    ensures underflow { IfOk result (λ underflowed. underflowed ≡ underflows (text_of path.entry)) }
+{
+    let start = out.len();
+    let underflowed = push_read_path(&E::table(), path.as_str(), out)?;
+    if !has_authority {
+        guard_path(start, out)?;
+    }
+    Ok(underflowed)
+}
+
+/// Appends what is read of a path that is under a scheme and begins with `/`, without its dot
+/// segments, and returns whether a double dot had nothing left to remove.
+fn push_absolute<E: Encoder>(
+    has_authority: bool,
+    path: EStr<'_, E>,
+    out: &mut String,
+) -> Result<bool, AllocError>
+    requires absolute { IsAbsolute (text_of path) }
+    requires set { IsComponentSet (codes "?#[]") E.set }
+    requires slash { E.set.ascii slash ≡ true }
+    ensures text { (authority : Option (List ℕ)) → is_some authority ≡ has_authority
+        → OnOk result (Pushes out.old out.new
+        (guarded authority (print (read E.set (remove_dot_segments (text_of path.entry)))))) }
+    ensures underflow { IfOk result (λ underflowed. underflowed ≡ underflows (text_of path.entry)) }
+{
+    if has_dot_segments(path.as_str()) {
+        return push_read_cleaned(has_authority, path, out);
+    }
+    push_read_guarded::<E>(has_authority, path.as_str(), out)?;
+    Ok(false)
+}
+
+/// Appends a path as it is in a normal text, and returns whether a double dot had nothing left
+/// to remove. Only under a scheme and from a `/` on are dot segments removed.
+fn push_normal_path<E: PathEncoder>(
+    has_scheme: bool,
+    has_authority: bool,
+    path: EStr<'_, E>,
+    out: &mut String,
+) -> Result<bool, AllocError>
+    requires set { IsComponentSet (codes "?#[]") E.set }
+    requires slash { E.set.ascii slash ≡ true }
+    ensures text { (scheme authority : Option (List ℕ)) → is_some scheme ≡ has_scheme
+        → is_some authority ≡ has_authority
+        → OnOk result (Pushes out.old out.new
+        (path_text E.set scheme authority (text_of path.entry))) }
+    ensures underflow { (scheme : Option (List ℕ)) → is_some scheme ≡ has_scheme
+        → IfOk result (λ underflowed. underflowed ≡ path_underflows scheme (text_of path.entry)) }
+{
+    if has_scheme && path.is_absolute() {
+        return push_absolute(has_authority, path, out);
+    }
+    push_component(path, out)?;
+    Ok(false)
+}
+
+/// Appends the normal text of a value to what is empty, and returns where its components are, and
+/// whether the removal of its dot segments underflows.
+///
+/// After an error, part of it may have been appended.
+#[doc(hidden)]
+pub fn push_normal<K: Kind, P: DefaultPort>(
+    core: Core<K, &str>,
+    ports: &P,
+    out: &mut String,
+) -> Result<(Positions, bool), AllocError>
+    requires { HasComponentSets K.kind }
+    ensures text { OnOk result (Pushes out.old out.new
+        (normal_text (meaning_of K.kind (P.port_of ports.now) (core_text core.entry)))) }
+    ensures places { let m = meaning_of K.kind (P.port_of ports.now) (core_text core.entry) in
+        string_bytes out.old ≡ [] → IfOk result (λ written.
+        written.0 ≡ written_at (normal_components m) (option_map normal_parts m.authority)) }
+    ensures underflow { let p = components (core_text core.entry) in
+        IfOk result (λ written. written.1 ≡ path_underflows p.scheme p.path) }
+{
+    let scheme = core.scheme();
+    let scheme_end = push_scheme(scheme, out)?;
+    let authority = push_marked_authority(core.authority(), scheme, ports, out)?;
+    let path_start = out.len();
+    let path = core.path();
+    let underflows = push_normal_path(core.has_scheme(), core.has_authority(), path, out)?;
+    let path_end = out.len();
+    let query_end = push_marked('?', core.query(), out)?;
+    push_marked('#', core.fragment(), out)?;
+    let positions = Positions {
+        scheme_end,
+        authority,
+        path_start,
+        path_end,
+        query_end,
+    };
+    Ok((positions, underflows))
+}

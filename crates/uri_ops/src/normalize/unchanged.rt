@@ -1,0 +1,137 @@
+//! Values whose normal text is their own (RFC 3986, section 6.2.2), as a look at them tells. A few
+//! others are passed over, so that the look is cheap.
+ghost use Rattle.std.specs.Prelude.{◌≡◌, ◌+◌, ◌≤◌, ◌<◌, ℕ, List, Option, IfOk, IfSome, false};
+ghost use Rattle.std.specs.Prelude.{length, is_some, option_map, slice_index, string_bytes, true};
+ghost use Rattle.std.specs.Str.{str_to_ascii_lowercase};
+ghost use Rattle.uri_parts.specs.AuthorityTexts.{authority_text};
+ghost use Rattle.uri_parts.specs.CoreTexts.{core_text};
+ghost use Rattle.uri_parts.specs.Positions.{AreAt};
+ghost use Rattle.uri_parts.specs.Schemes.{scheme_text};
+ghost use Rattle.uri_ops.specs.ComponentSets.{HasComponentSets};
+ghost use Rattle.uri_ops.specs.Models.Unchanged.{IsKeptAuthority, IsKeptPath, IsPlain};
+ghost use Rattle.uri_ops.specs.Models.Unchanged.{is_plain_byte};
+ghost use Rattle.uri_ops.specs.Normal.{normal_scheme};
+ghost use Rattle.uri_ops.specs.Normalizers.{HasNormalText, text_underflows};
+ghost use Rattle.uri_parts.specs.Ports.{PortFunction};
+
+use crate::normalize::Normalized;
+use crate::normalize::normal_authority::is_bracketed;
+use crate::path::dot_segments::has_dot_segments;
+use crate::path::slashes::begins_with_slash;
+use std::alloc::{AllocError, Global};
+use uri_parts::component::{Authority, Scheme};
+use uri_parts::core_text::Core;
+use uri_parts::kind::Kind;
+use uri_pct::encoder::Encoder;
+use uri_pct::lanes::LANES;
+use uri_pct::search::{len_before_slash_dot, places_of};
+
+/// Whether the byte begins neither an octet nor a formatting character of bidirectional text.
+fn is_plain_byte(byte: u8) -> bool
+    ensures { result ≡ is_plain_byte byte }
+{
+    byte != b'%' && byte != 0xE2
+}
+
+/// Whether none of the sixteen bytes from `at` on begins one.
+#[inline(always)]
+fn is_plain_block(bytes: &[u8], at: usize) -> bool
+    requires { at + LANES ≤ length bytes.now }
+    ensures { result ≡ true → (k : ℕ) → k < 16
+        → is_plain_byte (slice_index bytes.now (at + k)) ≡ true }
+{
+    let found = places_of(b'%', bytes, at) | places_of(0xE2, bytes, at);
+    found == 0
+}
+
+/// Whether no byte begins one. The last sixteen are read again, as far as they were read.
+fn is_plain(bytes: &[u8]) -> bool
+    ensures { result ≡ true → IsPlain bytes.now }
+{
+    if bytes.len() < LANES {
+        return bytes.iter().all(|byte| is_plain_byte(*byte));
+    }
+    let last = bytes.len() - LANES;
+    let mut i = 0;
+    while i < last {
+        if !is_plain_block(bytes, i) {
+            return false;
+        }
+        i += LANES;
+    }
+    is_plain_block(bytes, last)
+}
+
+/// Whether no ASCII letter is in upper case.
+fn is_lower(text: &str) -> bool
+    ensures { result ≡ true → str_to_ascii_lowercase text.now ≡ text.now }
+{
+    !text.as_bytes().iter().any(|byte| byte.is_ascii_uppercase())
+}
+
+/// Whether there is no scheme, or none that is lowered.
+fn keeps_scheme(scheme: Option<Scheme<'_>>) -> bool
+    ensures { result ≡ true → normal_scheme (option_map scheme_text scheme.entry)
+        ≡ option_map scheme_text scheme.entry }
+{
+    match scheme {
+        Some(scheme) => is_lower(scheme.as_str()),
+        None => true,
+    }
+}
+
+/// Whether there is no authority, or one with a name in lower case and no port.
+fn keeps_authority<U: Encoder, R: Encoder>(authority: Option<Authority<'_, U, R>>) -> bool
+    ensures { result ≡ true → IfSome (option_map authority_text authority.entry) IsKeptAuthority }
+{
+    let Some(authority) = authority else {
+        return true;
+    };
+    let host = authority.host();
+    !authority.has_port() && !is_bracketed(host) && is_lower(host)
+}
+
+/// Whether the path has no dot segments, or none that are removed.
+fn keeps_path(has_scheme: bool, path: &str) -> bool
+    ensures { result ≡ true → (scheme : Option (List ℕ)) → is_some scheme ≡ has_scheme
+        → IsKeptPath scheme path.now }
+{
+    if !has_scheme || !begins_with_slash(path.as_bytes()) {
+        return true;
+    }
+    !has_dot_segments(path)
+}
+
+/// Whether the normal text of a value is its own, under any default ports, as a look tells. Where a
+/// long path begins with dots or octets, no more is read.
+pub(crate) fn is_unchanged<K: Kind>(core: Core<K, &str>) -> bool
+    requires { HasComponentSets K.kind }
+    ensures text { result ≡ true → (ports : PortFunction)
+        → HasNormalText K.kind ports (core_text core.entry) (core_text core.entry) }
+    ensures underflow { result ≡ true → text_underflows (core_text core.entry) ≡ false }
+{
+    let path = core.path().as_str();
+    if path.len() > LANES && len_before_slash_dot(path.as_bytes(), 0) < LANES {
+        return false;
+    }
+    if !is_plain(core.as_str().as_bytes())
+        || !keeps_scheme(core.scheme())
+        || !keeps_authority(core.authority())
+    {
+        return false;
+    }
+    keeps_path(core.has_scheme(), path)
+}
+
+/// A copy of the text with its positions.
+pub(crate) fn copied<K: Kind>(alloc: Global, core: Core<K, &str>) -> Result<Normalized, AllocError>
+    ensures text { IfOk result (λ made. string_bytes made.text ≡ core_text core.entry) }
+    ensures at { IfOk result (λ made. AreAt (string_bytes made.text) made.positions) }
+    ensures underflow { IfOk result (λ made. made.underflows ≡ false) }
+{
+    Ok(Normalized {
+        text: String::from_str(alloc, core.as_str())?,
+        positions: core.positions(),
+        underflows: false,
+    })
+}

@@ -1,0 +1,313 @@
+//! The removal of dot segments (RFC 3986, section 5.2.4).
+ghost use Rattle.std.specs.Prelude.{◌≡◌, ◌≤◌, ◌<◌, ◌++◌, ◌+◌, IfOk, OnOk, false, true, length};
+ghost use Rattle.std.specs.Prelude.{drop, take, string_bytes};
+ghost use Rattle.std.specs.Str.{IsCharBoundary};
+ghost use Rattle.uri_pct.specs.Texts.{Pushes};
+ghost use Rattle.uri_parts.specs.Components.{IsRooted};
+ghost use Rattle.uri_ops.specs.Models.Directories.{IsLeft, IsPlainDirectory, parent_directory};
+ghost use Rattle.uri_ops.specs.Models.LeadingSegments.{IsNoDots};
+ghost use Rattle.uri_ops.specs.Models.SegmentModes.{IsInPieces, in_pieces};
+ghost use Rattle.uri_ops.specs.Models.Places.{IsSlashOrAt};
+ghost use Rattle.uri_ops.specs.Dots.{EndsInSlash, IsAbsolute, before_last_slash, directory};
+ghost use Rattle.uri_ops.specs.Dots.{has_slash, is_double_dot, is_empty, lacks_dot_segments};
+ghost use Rattle.uri_ops.specs.Dots.{remove_dot_segments, underflows};
+ghost use Rattle.uri_ops.specs.Target.{merged};
+
+use crate::path::leading_segment::{
+    Leading, begins_with_dot, is_double_dot, leading_dots, undotted_len,
+};
+use crate::path::segment_mode::SegmentMode;
+use std::alloc::AllocError;
+use uri_pct::lanes::LANES;
+use uri_pct::search::places_of;
+
+/// Where the bytes end that are left of a text without the blocks of sixteen, from its end back to
+/// `start`, in which no `/` stands.
+fn end_of_slashes(bytes: &[u8], start: usize) -> usize
+    requires { start ≤ length bytes.now }
+    ensures from { start ≤ result }
+    ensures within { result ≤ length bytes.now }
+    ensures none { has_slash (drop result bytes.now) ≡ false }
+{
+    let mut left = bytes.len();
+    while left - start >= LANES {
+        if places_of(b'/', bytes, left - LANES) != 0 {
+            return left;
+        }
+        left -= LANES;
+    }
+    left
+}
+
+/// Where the last `/` stands that is not before `start`, or `start` if there is none, of a text
+/// that has none from `limit` on.
+#[inline(always)]
+fn slash_before(bytes: &[u8], start: usize, limit: usize) -> usize
+    requires from { start ≤ limit }
+    requires within { limit ≤ length bytes.now }
+    requires none { has_slash (drop limit bytes.now) ≡ false }
+    ensures front { take result bytes.now
+        ≡ take start bytes.now ++ before_last_slash (drop start bytes.now) }
+    ensures last { has_slash (drop (result + 1) bytes.now) ≡ false }
+    ensures place { IsSlashOrAt bytes.now start result }
+{
+    let mut end = limit;
+    while start < end {
+        end -= 1;
+        if bytes[end] == b'/' {
+            return end;
+        }
+    }
+    start
+}
+
+/// Where the last `/` stands that is not before `start`, or `start` if there is none. It is looked
+/// for sixteen bytes at a time.
+pub(crate) fn last_slash(bytes: &[u8], start: usize) -> usize
+    requires { start ≤ length bytes.now }
+    ensures front { take result bytes.now
+        ≡ take start bytes.now ++ before_last_slash (drop start bytes.now) }
+    ensures last { has_slash (drop (result + 1) bytes.now) ≡ false }
+    ensures place { IsSlashOrAt bytes.now start result }
+{
+    slash_before(bytes, start, end_of_slashes(bytes, start))
+}
+
+/// The same, looked for byte by byte: most segments are short.
+fn near_slash(bytes: &[u8], start: usize) -> usize
+    requires { start ≤ length bytes.now }
+    ensures front { take result bytes.now
+        ≡ take start bytes.now ++ before_last_slash (drop start bytes.now) }
+    ensures place { IsSlashOrAt bytes.now start result }
+{
+    slash_before(bytes, start, bytes.len())
+}
+
+/// Cuts off the last segment of the directory that is in `out` from `start` on, with the `/`
+/// after it, and returns whether there is none.
+fn pop_segment(start: usize, out: &mut String) -> bool
+    requires { IsPlainDirectory (drop start (string_bytes out.old)) }
+    ensures bytes { string_bytes out.new
+        ≡ take start (string_bytes out.old)
+        ++ parent_directory (drop start (string_bytes out.old)) }
+    ensures none { result ≡ is_empty (before_last_slash (drop start (string_bytes out.old))) }
+{
+    let end = out.len() - 1;
+    let slash = near_slash(&out.as_bytes()[..end], start);
+    out.truncate(slash + 1);
+    end == start
+}
+
+/// Whether a path that begins with `/` has a dot segment (RFC 3986, section 3.3). A dot counts
+/// percent-encoded too.
+pub(crate) fn has_dot_segments(path: &str) -> bool
+    requires { IsAbsolute path.now }
+    ensures { result ≡ false → lacks_dot_segments path.now ≡ true }
+{
+    let mut done = 1;
+    while done < path.len() {
+        let rest = &path[done..];
+        match leading_dots(rest) {
+            Leading::NoDots => done += undotted_len(rest),
+            Leading::SingleDot(_) | Leading::DoubleDot(_) => return true,
+        }
+    }
+    false
+}
+
+/// Appends what the pieces make of the segments of a path, without dot segments, to the directory
+/// that is in `out` from `start` on, and returns whether a double dot had nothing left to
+/// remove.
+///
+/// Segments that can't be dot segments are one piece, with the `/` between them. It is inlined, so
+/// that for each caller it is a constant how the pieces are appended.
+#[inline(always)]
+pub(crate) fn push_segments(
+    pieces: SegmentMode<'_>,
+    path: &str,
+    start: usize,
+    out: &mut String,
+) -> Result<bool, AllocError>
+    requires directory { IsPlainDirectory (drop start (string_bytes out.old)) }
+    requires pieces { IsInPieces pieces path.now }
+    ensures before { IfOk result (λ _.
+        take start (string_bytes out.new) ≡ take start (string_bytes out.old)) }
+    ensures text { IfOk result (λ _. drop start (string_bytes out.new)
+        ≡ remove_dot_segments
+        (drop start (string_bytes out.old) ++ in_pieces pieces.entry path.now)) }
+    ensures underflow { IfOk result (λ underflowed. underflowed
+        ≡ underflows (drop start (string_bytes out.old) ++ in_pieces pieces.entry path.now)) }
+{
+    let mut underflowed = false;
+    let mut rest = path;
+    while !rest.is_empty() {
+        match leading_dots(rest) {
+            Leading::SingleDot(next) => rest = &rest[next..],
+            Leading::DoubleDot(next) => {
+                underflowed |= pop_segment(start, out);
+                rest = &rest[next..];
+            }
+            Leading::NoDots => {
+                let next = undotted_len(rest);
+                pieces.push(&rest[..next], out)?;
+                rest = &rest[next..];
+            }
+        }
+    }
+    Ok(underflowed)
+}
+
+/// Appends a path that begins with `/`, without its dot segments, and returns whether a double dot
+/// had nothing left to remove (RFC 3986, section 5.2.4). A dot counts percent-encoded too.
+///
+/// # Errors
+///
+/// Only if allocation fails; part of the path may then have been appended.
+#[doc(hidden)]
+pub fn push_without_dot_segments(path: &str, out: &mut String) -> Result<bool, AllocError>
+    requires { IsAbsolute path.now }
+    ensures text { OnOk result (Pushes out.old out.new (remove_dot_segments path.now)) }
+    ensures underflow { IfOk result (λ underflowed. underflowed ≡ underflows path.now) }
+{
+    let start = out.len();
+    let plain = undotted_len(path);
+    out.push_str(&path[..plain])?;
+    if plain == path.len() {
+        return Ok(false);
+    }
+    let underflowed = push_segments(SegmentMode::Copied, &path[plain..], start, out)?;
+    Ok(underflowed)
+}
+
+/// Where the directory of a base's path ends (RFC 3986, section 5.2.3): after its last `/`, or at
+/// its end where it ends in a double dot, which stands for a directory.
+fn directory_end(path: &str) -> usize
+    requires { IsAbsolute path.now }
+    ensures text { remove_dot_segments (take result path.now)
+        ≡ remove_dot_segments (directory path.now) }
+    ensures underflow { underflows (take result path.now) ≡ underflows (directory path.now) }
+    ensures closed { EndsInSlash (take result path.now)
+        → take result path.now ≡ directory path.now }
+    ensures absolute { 0 < result }
+    ensures place { IsCharBoundary path.now result }
+{
+    let slash = last_slash(path.as_bytes(), 0);
+    if is_double_dot(&path[slash + 1..]) {
+        return path.len();
+    }
+    slash + 1
+}
+
+/// The path, or `/` for an empty one, which has the same directory.
+fn root_or(path: &str) -> &str
+    requires { IsRooted path.now }
+    ensures absolute { IsAbsolute result.now }
+    ensures directory { directory result.now ≡ directory path.now }
+{
+    if path.is_empty() { "/" } else { path }
+}
+
+/// Whether a path is a directory without dot segments, as a look at where segments begin tells.
+fn is_plain_directory(path: &str) -> bool
+    requires { IsAbsolute path.now }
+    ensures { result ≡ true → IsPlainDirectory path.now }
+{
+    path.as_bytes()[path.len() - 1] == b'/' && undotted_len(path) == path.len()
+}
+
+/// The parent of a directory; that of `/` is `/`.
+fn parent(directory: &str) -> &str
+    requires { IsPlainDirectory directory.now }
+    ensures { result.now ≡ parent_directory directory.now }
+{
+    let end = directory.len() - 1;
+    let slash = near_slash(&directory.as_bytes()[..end], 0);
+    &directory[..slash + 1]
+}
+
+/// What is left of a directory where the dot segments that a reference begins with lead from it,
+/// what is left of the reference, and whether a double dot had nothing left to remove.
+#[inline(always)]
+fn seam<'a>(directory: &'a str, reference: &'a str) -> (&'a str, &'a str, bool)
+    requires { IsPlainDirectory directory.now }
+    ensures kept { IsPlainDirectory result.0.now }
+    ensures first { IsNoDots result.1.now }
+    ensures left { IsLeft (directory.now ++ reference.now) result.0.now result.1.now result.2 }
+{
+    let mut kept = directory;
+    let mut rest = reference;
+    let mut underflowed = false;
+    while begins_with_dot(rest.as_bytes()) {
+        match leading_dots(rest) {
+            Leading::SingleDot(next) => rest = &rest[next..],
+            Leading::DoubleDot(next) => {
+                underflowed |= kept.len() == 1;
+                kept = parent(kept);
+                rest = &rest[next..];
+            }
+            Leading::NoDots => return (kept, rest, underflowed),
+        }
+    }
+    (kept, rest, underflowed)
+}
+
+/// Appends segments like `push_segments`, of which the first is none of dots.
+#[inline(always)]
+fn push_from_plain(path: &str, start: usize, out: &mut String) -> Result<bool, AllocError>
+    requires directory { IsPlainDirectory (drop start (string_bytes out.old)) }
+    requires first { IsNoDots path.now }
+    ensures before { IfOk result (λ _.
+        take start (string_bytes out.new) ≡ take start (string_bytes out.old)) }
+    ensures text { IfOk result (λ _. drop start (string_bytes out.new)
+        ≡ remove_dot_segments (drop start (string_bytes out.old) ++ path.now)) }
+    ensures underflow { IfOk result (λ underflowed. underflowed
+        ≡ underflows (drop start (string_bytes out.old) ++ path.now)) }
+{
+    if path.is_empty() {
+        return Ok(false);
+    }
+    let front = undotted_len(path);
+    out.push_str(&path[..front])?;
+    if front == path.len() {
+        return Ok(false);
+    }
+    let underflowed = push_segments(SegmentMode::Copied, &path[front..], start, out)?;
+    Ok(underflowed)
+}
+
+/// Appends a reference's path after a directory without dot segments like `push_merged`. What the
+/// dot segments at its beginning remove of the directory is not appended.
+fn push_behind(directory: &str, reference: &str, out: &mut String) -> Result<bool, AllocError>
+    requires { IsPlainDirectory directory.now }
+    ensures text { OnOk result (Pushes out.old out.new
+        (remove_dot_segments (directory.now ++ reference.now))) }
+    ensures underflow { IfOk result (λ underflowed. underflowed
+        ≡ underflows (directory.now ++ reference.now)) }
+{
+    let (kept, rest, underflowed) = seam(directory, reference);
+    let start = out.len();
+    out.push_str(kept)?;
+    let of_rest = push_from_plain(rest, start, out)?;
+    Ok(underflowed | of_rest)
+}
+
+/// Appends a reference's path after the directory of a base's path (RFC 3986, section 5.2.3),
+/// without dot segments, and returns whether a double dot had nothing left to remove. The two are
+/// read one after the other, and never joined.
+pub(crate) fn push_merged(base: &str, reference: &str, out: &mut String) -> Result<bool, AllocError>
+    requires { IsRooted base.now }
+    ensures text { OnOk result (Pushes out.old out.new
+        (remove_dot_segments (merged base.now reference.now))) }
+    ensures underflow { IfOk result (λ underflowed. underflowed
+        ≡ underflows (merged base.now reference.now)) }
+{
+    let base = root_or(base);
+    let directory = &base[..directory_end(base)];
+    if is_plain_directory(directory) {
+        return push_behind(directory, reference, out);
+    }
+    let start = out.len();
+    let of_base = push_without_dot_segments(directory, out)?;
+    let of_reference = push_segments(SegmentMode::Copied, reference, start, out)?;
+    Ok(of_base | of_reference)
+}

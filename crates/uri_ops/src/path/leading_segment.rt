@@ -1,0 +1,191 @@
+//! What a path begins with: dot segments, told by their bytes, or segments that are none
+//! (RFC 3986, section 3.3).
+ghost use Rattle.std.specs.Prelude.{◌≡◌, ◌≤◌, ◌<◌, ◌==◌, ◌||◌, ◌+◌, ◌&&◌, length, drop};
+ghost use Rattle.std.specs.Prelude.{slice_index};
+ghost use Rattle.std.specs.Str.{IsCharBoundary};
+ghost use Rattle.uri_pct.specs.Delimiters.{full_stop, percent_sign, slash};
+ghost use Rattle.uri_parts.specs.Components.{IsRooted};
+ghost use Rattle.uri_ops.specs.Models.LeadingSegments.{IsBeforeDots, IsLeading, IsNoDots, IsPart};
+ghost use Rattle.uri_ops.specs.Models.LeadingSegments.{IsPlainFront, begins_with_dot, dot_len};
+ghost use Rattle.uri_ops.specs.Models.LeadingSegments.{ends_segment};
+ghost use Rattle.uri_ops.specs.Dots.{is_double_dot};
+
+use uri_pct::lanes::LANES;
+use uri_pct::search::len_before_slash_dot;
+
+/// How many bytes the dot takes that a text begins with, which may be percent-encoded; without a
+/// dot none.
+#[inline(always)]
+fn dot_len(text: &[u8]) -> usize
+    ensures bytes { result ≡ dot_len text.now }
+    ensures within { result ≤ length text.now }
+{
+    match text {
+        [b'.', ..] => 1,
+        [b'%', b'2', b'E' | b'e', ..] => 3,
+        _ => 0,
+    }
+}
+
+/// Whether a segment ends before the text: it is empty or begins with `/`.
+fn ends_segment(text: &[u8]) -> bool
+    ensures { result ≡ ends_segment text.now }
+{
+    matches!(text, [] | [b'/', ..])
+}
+
+/// Whether a segment is `..`, where each dot may be percent-encoded.
+pub(crate) fn is_double_dot(segment: &str) -> bool
+    ensures { result ≡ is_double_dot segment.now }
+{
+    let bytes = segment.as_bytes();
+    let first = dot_len(bytes);
+    if first == 0 {
+        return false;
+    }
+    let second = dot_len(&bytes[first..]);
+    0 < second && first + second == bytes.len()
+}
+
+/// Whether a path begins with a dot or an octet, as each dot segment does.
+#[inline(always)]
+pub(crate) fn begins_with_dot(path: &[u8]) -> bool
+    ensures { result ≡ begins_with_dot path.now }
+{
+    matches!(path, [b'.' | b'%', ..])
+}
+
+/// Whether a dot segment begins with this byte.
+fn is_dot_start(byte: u8) -> bool
+    ensures { result ≡ (byte == full_stop || byte == percent_sign) }
+{
+    byte == b'.' || byte == b'%'
+}
+
+/// How far a text reads up to the first `/` that has a dot or an octet after it, and with it.
+///
+/// The last window begins so that it ends with the text: what is read twice has no such `/`.
+fn long_undotted_len(bytes: &[u8]) -> usize
+    requires { LANES < length bytes.now }
+    ensures { IsBeforeDots bytes.now result }
+{
+    let last = bytes.len() - LANES - 1;
+    let mut i = 0;
+    while i < last {
+        let plain = len_before_slash_dot(bytes, i);
+        if plain < LANES {
+            return i + plain + 1;
+        }
+        i += LANES;
+    }
+    let plain = len_before_slash_dot(bytes, last);
+    last + plain + 1
+}
+
+/// The same of a text that may be short.
+fn short_undotted_len(bytes: &[u8]) -> usize
+    requires { 0 < length bytes.now }
+    ensures { IsBeforeDots bytes.now result }
+{
+    if bytes.len() > LANES {
+        return long_undotted_len(bytes);
+    }
+    let mut i = 0;
+    while i + 1 < bytes.len() {
+        if bytes[i] == b'/' && is_dot_start(bytes[i + 1]) {
+            return i + 1;
+        }
+        i += 1;
+    }
+    bytes.len()
+}
+
+/// How far a path whose first segment is none of dots reads before a segment that begins with a
+/// dot or an octet, as each dot segment does.
+pub(crate) fn undotted_len(path: &str) -> usize
+    requires some { 0 < length path.now }
+    requires first { IsNoDots path.now }
+    ensures plain { IsPlainFront path.now result }
+    ensures some { 0 < result }
+    ensures place { IsCharBoundary path.now result }
+{
+    short_undotted_len(path.as_bytes())
+}
+
+/// Where the second segment begins, or the end of the path: after the `/` that may be at `end`.
+#[inline(always)]
+fn next_segment(path: &str, end: usize) -> usize
+    requires within { end ≤ length path.now }
+    requires behind { IsRooted (drop end path.now) }
+    ensures rest { drop result path.now ≡ drop 1 (drop end path.now) }
+    ensures place { IsCharBoundary path.now result }
+    ensures from { end ≤ result }
+{
+    if end < path.len() { end + 1 } else { end }
+}
+
+/// The dot segment that a path begins with, and how many bytes that takes, with the `/` after it.
+pub(crate) enum Leading {
+    /// A single dot.
+    SingleDot(usize),
+    /// A double dot.
+    DoubleDot(usize),
+    /// Neither.
+    NoDots,
+}
+
+/// The dot segment that a path begins with, told by the dots that stand first.
+fn leading_segment(path: &str) -> Leading
+    requires { 0 < length path.now }
+    ensures leading { IsLeading path.now result }
+    ensures part { IsPart path.now result }
+{
+    let bytes = path.as_bytes();
+    let first = dot_len(bytes);
+    let second = dot_len(&bytes[first..]);
+    let end = first + second;
+    if end == 0 || !ends_segment(&bytes[end..]) {
+        return Leading::NoDots;
+    }
+    let next = next_segment(path, end);
+    if second == 0 {
+        return Leading::SingleDot(next);
+    }
+    Leading::DoubleDot(next)
+}
+
+/// Whether the first segment is `.`.
+fn is_first_dot(path: &[u8]) -> bool
+    ensures { result ≡ (slice_index path.now 0 == full_stop
+        && (length path.now == 1 || slice_index path.now 1 == slash)) }
+{
+    matches!(path, [b'.'] | [b'.', b'/', ..])
+}
+
+/// Whether the first segment is `..`.
+fn is_first_double_dot(path: &[u8]) -> bool
+    ensures { result ≡ (slice_index path.now 0 == full_stop && slice_index path.now 1 == full_stop
+        && (length path.now == 2 || slice_index path.now 2 == slash)) }
+{
+    matches!(path, [b'.', b'.'] | [b'.', b'.', b'/', ..])
+}
+
+/// The dot segment that a path begins with. One of dots that are no octets is told at once.
+#[inline(always)]
+pub(crate) fn leading_dots(path: &str) -> Leading
+    requires { 0 < length path.now }
+    ensures leading { IsLeading path.now result }
+    ensures part { IsPart path.now result }
+{
+    let bytes = path.as_bytes();
+    if is_first_double_dot(bytes) {
+        return Leading::DoubleDot(next_segment(path, 2));
+    }
+    if is_first_dot(bytes) {
+        return Leading::SingleDot(next_segment(path, 1));
+    }
+    if begins_with_dot(bytes) {
+        return leading_segment(path);
+    }
+    Leading::NoDots
+}

@@ -1,0 +1,215 @@
+//! A text with where its components are, and the pieces that a target has of it as they are (RFC
+//! 3986, section 5.3).
+ghost use Rattle.std.specs.Prelude.{◌≡◌, ◌≤◌, ◌+◌, ◌++◌, ℕ, List, [], codes, length, Some, None};
+ghost use Rattle.std.specs.Prelude.{is_some, option_map};
+ghost use Rattle.std.specs.Str.{IsUtf8};
+ghost use Rattle.uri_parts.specs.Components.{components, marked};
+ghost use Rattle.uri_parts.specs.Grammar.{IsOfKind};
+ghost use Rattle.uri_parts.specs.Positions.{AreAt, authority_at, host_end_of, positions_of};
+
+use crate::traits::RiMaybeRef;
+use uri_parts::positions::{AuthorityPositions, Positions};
+
+/// A text with where its components are, whose host is in its authority.
+#[doc(hidden)]
+#[derive(Drop)]
+pub struct TextView<'a> {
+    text: &'a str,
+    positions: Positions,
+    pub ghost at: { AreAt text.now positions },
+    pub ghost host: { (a : List ℕ) → (components text.now).authority ≡ Some a
+        → host_end_of a ≤ length a },
+}
+
+impl<'a> TextView<'a> {
+    ghost use Rattle.std.specs.Prelude.{take};
+    ghost use Rattle.uri_ops.specs.Dots.{IsAbsolute};
+    ghost use Rattle.uri_ops.specs.Models.Places.{IsSlashOrAt, before_path};
+    ghost use Rattle.uri_ops.specs.Resolving.{components_of};
+
+    /// The text of a value of a kind.
+    pub(crate) fn of<R: RiMaybeRef>(value: &'a R) -> TextView<'a>
+        ensures components { components_of result ≡ components (R.text value.now) }
+        ensures of_kind { IsOfKind R.kind (R.text value.now) }
+        ensures utf8 { IsUtf8 (R.text value.now) }
+    {
+        let core = value.core();
+        TextView {
+            text: core.as_str(),
+            positions: core.positions(),
+        }
+    }
+
+    /// The text.
+    pub(crate) fn as_str(&self) -> &'a str
+        ensures text { result.now ≡ self.now.text.now }
+        ensures at { AreAt result.now self.now.positions }
+    {
+        self.text
+    }
+
+    /// How long the text is.
+    pub(crate) fn len(&self) -> usize {
+        self.text.len()
+    }
+
+    /// Whether there is a scheme.
+    pub(crate) fn has_scheme(&self) -> bool
+        ensures { result ≡ is_some (components_of self.now).scheme }
+    {
+        self.positions.has_scheme(self.text)
+    }
+
+    /// Whether there is an authority.
+    pub(crate) fn has_authority(&self) -> bool
+        ensures { result ≡ is_some (components_of self.now).authority }
+    {
+        self.positions.has_authority(self.text)
+    }
+
+    /// Whether there is a query.
+    pub(crate) fn has_query(&self) -> bool
+        ensures { result ≡ is_some (components_of self.now).query }
+    {
+        self.positions.has_query(self.text)
+    }
+
+    /// Whether there is a fragment.
+    pub(crate) fn has_fragment(&self) -> bool
+        ensures { result ≡ is_some (components_of self.now).fragment }
+    {
+        self.positions.has_fragment(self.text)
+    }
+
+    /// The path.
+    pub(crate) fn path(&self) -> &'a str
+        ensures { result.now ≡ (components_of self.now).path }
+    {
+        self.positions.path(self.text)
+    }
+
+    /// The scheme with its `:`, or no text.
+    pub(crate) fn marked_scheme(&self) -> &'a str
+        ensures { result.now ≡ marked [] (components_of self.now).scheme (codes ":") }
+    {
+        let text = self.as_str();
+        match self.positions.scheme_end {
+            Some(end) => &text[..end + 1],
+            None => "",
+        }
+    }
+
+    /// The scheme and the authority with their marks: what is before the path.
+    pub(crate) fn before_path(&self) -> &'a str
+        ensures { result.now ≡ before_path (components_of self.now) }
+    {
+        let text = self.as_str();
+        &text[..self.positions.path_start]
+    }
+
+    /// The text up to the last `/` of its path, and with it.
+    pub(crate) fn through_slash(&self, slash: usize) -> &'a str
+        requires absolute { IsAbsolute (components_of self.now).path }
+        requires place { IsSlashOrAt (components_of self.now).path 0 slash }
+        ensures { let p = components_of self.now in
+            result.now ≡ before_path p ++ take (slash + 1) p.path }
+    {
+        let text = self.as_str();
+        &text[..self.positions.path_start + slash + 1]
+    }
+
+    /// The text up to the end of its path.
+    pub(crate) fn through_path(&self) -> &'a str
+        ensures { let p = components_of self.now in result.now ≡ before_path p ++ p.path }
+    {
+        let text = self.as_str();
+        &text[..self.positions.path_end]
+    }
+
+    /// The text up to its fragment.
+    pub(crate) fn before_fragment(&self) -> &'a str
+        ensures { let p = components_of self.now in
+            result.now ≡ (before_path p ++ p.path) ++ marked (codes "?") p.query [] }
+    {
+        let text = self.as_str();
+        &text[..self.positions.before_fragment()]
+    }
+
+    /// The query and the fragment with their marks: what is after the path.
+    pub(crate) fn behind_path(&self) -> &'a str
+        ensures { let p = components_of self.now in result.now
+            ≡ marked (codes "?") p.query [] ++ marked (codes "#") p.fragment [] }
+    {
+        let text = self.as_str();
+        &text[self.positions.path_end..]
+    }
+
+    /// The query with its `?`, or no text.
+    pub(crate) fn marked_query(&self) -> &'a str
+        ensures { result.now ≡ marked (codes "?") (components_of self.now).query [] }
+    {
+        let text = self.as_str();
+        &text[self.positions.path_end..self.positions.before_fragment()]
+    }
+
+    /// The fragment with its `#`, or no text.
+    pub(crate) fn marked_fragment(&self) -> &'a str
+        ensures { result.now ≡ marked (codes "#") (components_of self.now).fragment [] }
+    {
+        let text = self.as_str();
+        &text[self.positions.before_fragment()..]
+    }
+
+    /// Where its components are.
+    pub(crate) fn positions(&self) -> Positions
+        ensures { result ≡ positions_of (components_of self.now) }
+    {
+        self.positions
+    }
+
+    /// Where the scheme ends, if there is one.
+    pub(crate) fn scheme_end(&self) -> Option<usize>
+        ensures { result ≡ option_map length (components_of self.now).scheme }
+    {
+        self.positions.scheme_end
+    }
+
+    /// Where the authority is, if there is one.
+    pub(crate) fn authority(&self) -> Option<AuthorityPositions>
+        ensures { result ≡ (positions_of (components_of self.now)).authority }
+    {
+        self.positions.authority
+    }
+
+    /// Where the authority is, if there is one, when what is before the path is after
+    /// this scheme with its `:`.
+    pub(crate) fn authority_behind(&self, scheme: &str) -> Option<AuthorityPositions>
+        requires { (components_of self.now).scheme ≡ None }
+        ensures { result ≡ option_map (authority_at (length scheme.now + 2))
+            (components_of self.now).authority }
+    {
+        let places = self.positions.authority?;
+        Some(moved(places, self.before_path(), scheme))
+    }
+}
+
+/// Where an authority is that ends a text, when that is after a scheme with its `:`.
+fn moved(places: AuthorityPositions, text: &str, scheme: &str) -> AuthorityPositions
+    requires start { places.start ≤ places.end }
+    requires host_start { places.host_start ≤ places.end }
+    requires host_end { places.host_end ≤ places.end }
+    requires end { places.end ≡ length text.now }
+    ensures start { result.start ≡ length scheme.now + places.start }
+    ensures host_start { result.host_start ≡ length scheme.now + places.host_start }
+    ensures host_end { result.host_end ≡ length scheme.now + places.host_end }
+    ensures end { result.end ≡ length scheme.now + places.end }
+{
+    let by = scheme.len();
+    let end = by + text.len();
+    AuthorityPositions {
+        start: by + places.start,
+        host_start: by + places.host_start,
+        host_end: by + places.host_end,
+        end,
+    }
+}

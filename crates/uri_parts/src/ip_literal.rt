@@ -1,0 +1,305 @@
+//! Addresses in brackets (RFC 3986, section 3.2.2).
+ghost use Rattle.std.specs.Prelude.{◌≡◌, ◌≤◌, ◌<◌, ◌+◌, length, IsTrue, IfSome, IfOk, IfErr, is_ok};
+ghost use Rattle.std.specs.Prelude.{drop, ◌||◌, ◌&&◌, not, nat_lt, Ok, Err, true, false};
+ghost use Rattle.uri_parts.specs.Components.{is_end, starts};
+ghost use Rattle.uri_parts.specs.LiteralErrors.{digits_end as digits_end_at};
+ghost use Rattle.uri_parts.specs.LiteralErrors.{octet_end as octet_end_at, ipv4_end as ipv4_end_at};
+ghost use Rattle.uri_parts.specs.LiteralErrors.{literal, groups_from, after_elision};
+ghost use Rattle.uri_parts.specs.LiteralErrors.{ipv6_end as ipv6_end_at};
+ghost use Rattle.uri_parts.specs.LiteralErrors.{is_no_ipv6 as is_no_ipv6_at};
+ghost use Rattle.uri_parts.specs.Scanning.{scan_to_mark};
+ghost use Rattle.std.specs.Str.{IsCharBoundary};
+ghost use Rattle.uri_pct.specs.Tables.{set_of};
+ghost use Rattle.uri_parts.specs.Models.Literals.{IsLiteralRefusal, parses_literal, literal_length};
+ghost use Rattle.uri_parts.specs.Models.Literals.{IsMissing, parses_marked, length_to_mark};
+ghost use Rattle.uri_parts.specs.Models.Literals.{parses_future, future_length};
+ghost use Rattle.uri_pct.specs.Delimiters.{full_stop, right_bracket};
+ghost use Rattle.uri_pct.specs.Sets.{hexdig_set, ipv_future_set};
+ghost use Rattle.uri_parts.specs.Models.LiteralGroups.{groups_of, IsAtBoundary};
+ghost use Rattle.std.specs.Prelude.{if◌then◌else◌};
+
+use crate::address_parser::after_ipv6;
+use crate::error::{ParseError, ParseErrorKind};
+use uri_pct::table::{HEXDIG, IPV_FUTURE, Table};
+
+/// Whether this ASCII character stands at `index`.
+#[tactic(auto, using(crate::proofs::Parsing::NextBytes::starts_at))]
+fn sees(text: &str, index: usize, byte: u8) -> bool
+    requires { byte < 128 }
+    ensures value { result ≡ starts byte (drop index text.now) }
+    ensures behind { IsTrue result → IsCharBoundary text.now (index + 1) }
+{
+    let bytes = text.as_bytes();
+    index < bytes.len() && bytes[index] == byte
+}
+
+/// Whether `v` or `V` stands at `index`.
+fn starts_ipvfuture(text: &str, index: usize) -> bool
+    ensures value { result ≡ (starts 118 (drop index text.now) || starts 86 (drop index text.now)) }
+    ensures behind { IsTrue result → IsCharBoundary text.now (index + 1) }
+{
+    sees(text, index, b'v') || sees(text, index, b'V')
+}
+
+/// Where the digits end that stand at `start`, of which at most so many are passed.
+#[tactic(auto, using(crate::proofs::Steps::digits))]
+fn digits_end(text: &str, start: usize, radix: u32, most: usize) -> usize
+    requires boundary { IsCharBoundary text.now start }
+    requires low { 2 ≤ radix }
+    requires high { radix ≤ 36 }
+    ensures boundary { IsCharBoundary text.now result }
+    ensures start { start ≤ result }
+    ensures exact { result ≡ digits_end_at text.now radix most start }
+{
+    let bytes = text.as_bytes();
+    let mut end = start;
+    while end < bytes.len() && end - start < most && char::from(bytes[end]).is_digit(radix) {
+        end += 1;
+    }
+    end
+}
+
+/// Where the decimal number of at most 255 ends that stands at `start`, or `None` if there is none.
+/// A `0` is a number by itself.
+#[tactic(auto, unfolding(crate::specs::LiteralErrors::octet_end))]
+fn octet_end(text: &str, start: usize) -> Option<usize>
+    requires { IsCharBoundary text.now start }
+    ensures boundary { IfSome result (IsCharBoundary text.now) }
+    ensures exact { result ≡ octet_end_at text.now start }
+{
+    if sees(text, start, b'0') {
+        return Some(start + 1);
+    }
+    let end = digits_end(text, start, 10, 3);
+    let is_octet = text[start..end].parse::<u8>().is_ok();
+    if is_octet { Some(end) } else { None }
+}
+
+/// Where the IPv4 address ends that stands at `start`, or `None` if there is none.
+#[tactic(auto, using(crate::proofs::Steps::octets))]
+fn ipv4_end(text: &str, start: usize) -> Option<usize>
+    requires { IsCharBoundary text.now start }
+    ensures boundary { IfSome result (IsCharBoundary text.now) }
+    ensures exact { result ≡ ipv4_end_at text.now start }
+{
+    let mut end = octet_end(text, start)?;
+    for dots in 0..3u32 {
+        if !sees(text, end, b'.') {
+            return None;
+        }
+        end = octet_end(text, end + 1)?;
+    }
+    Some(end)
+}
+
+/// How the groups of an IPv6 address end, and where: with how many more there might have been.
+#[derive(Clone, Copy)]
+enum GroupsEnd {
+    /// Nothing goes on.
+    End(usize, usize),
+    /// A `::` ends there.
+    Elision(usize, usize),
+    Malformed,
+}
+
+/// Passes a `:`, if it is next.
+#[inline]
+fn behind_colon(text: &str, start: usize) -> usize
+    requires { IsCharBoundary text.now start }
+    ensures boundary { IsCharBoundary text.now result }
+    ensures exact { result ≡ (if starts 58 (drop start text.now) then start + 1 else start) }
+{
+    if sees(text, start, b':') {
+        start + 1
+    } else {
+        start
+    }
+}
+
+/// Whether one to three digits were passed, at the end of the text.
+#[tactic(auto, using(crate::proofs::Parsing::NextBytes::is_end_at))]
+fn ends_text(text: &str, first: usize, last: usize) -> bool
+    requires order { first ≤ last }
+    requires within { last ≤ length text.now }
+    ensures { result ≡ (nat_lt last (first + 4) && is_end (drop last text.now)) }
+{
+    last - first < 4 && last == text.len()
+}
+
+/// Whether one to three digits were passed, and `.` is next.
+fn is_dotted(text: &str, first: usize, last: usize) -> bool
+    requires { first ≤ last }
+    ensures { result ≡ (nat_lt last (first + 4) && starts full_stop (drop last text.now)) }
+{
+    last - first < 4 && sees(text, last, b'.')
+}
+
+/// Each group has a `:` before it but the first.
+fn is_malformed_turn(has_colon: bool, is_first: bool) -> bool
+    ensures { result ≡ (has_colon && is_first || not has_colon && not is_first) }
+{
+    has_colon == is_first
+}
+
+/// Reads groups of one to four hexadecimal digits, at most so many, each with a `:` before it but
+/// the first. An IPv4 address is two of them, and the last. Up to three digits at the end of the
+/// text are passed and make no group.
+fn groups_end(text: &str, start: usize, room: usize) -> GroupsEnd
+    requires { IsCharBoundary text.now start }
+    ensures boundary { IsAtBoundary text.now result }
+    ensures exact { groups_of result ≡ groups_from text.now room true start }
+{
+    let mut end = start;
+    for counted in 0..room {
+        let has_colon = sees(text, end, b':');
+        let first = behind_colon(text, end);
+        let last = digits_end(text, first, 16, 4);
+        if last == first {
+            if !has_colon {
+                return GroupsEnd::End(room - counted, end);
+            }
+            if sees(text, first, b':') {
+                return GroupsEnd::Elision(room - counted, first + 1);
+            }
+            return GroupsEnd::Malformed;
+        }
+        if ends_text(text, first, last) {
+            return GroupsEnd::End(room - counted, last);
+        }
+        if is_malformed_turn(has_colon, counted == 0) {
+            return GroupsEnd::Malformed;
+        }
+        if is_dotted(text, first, last) {
+            if room - counted == 1 {
+                return GroupsEnd::Malformed;
+            }
+            return match ipv4_end(text, first) {
+                Some(end) => GroupsEnd::End(room - counted - 2, end),
+                None => GroupsEnd::Malformed,
+            };
+        }
+        end = last;
+    }
+    GroupsEnd::End(0, end)
+}
+
+/// Where the groups of an IPv6 address end that stand behind its `::`, or `None` if there are too
+/// many of them.
+fn elided_end(text: &str, start: usize, room: usize) -> Option<usize>
+    requires { IsCharBoundary text.now start }
+    ensures boundary { IfSome result (IsCharBoundary text.now) }
+    ensures exact { result ≡ after_elision text.now (groups_from text.now room true start) }
+{
+    match groups_end(text, start, room) {
+        GroupsEnd::End(room, end) if room > 0 => Some(end),
+        _ => None,
+    }
+}
+
+/// Where the IPv6 address ends that stands at `start`, so far as it can be read, or `None` if that
+/// is none.
+#[tactic(auto, unfolding(crate::specs::LiteralErrors::ipv6_end))]
+fn ipv6_end(text: &str, start: usize) -> Option<usize>
+    requires { IsCharBoundary text.now start }
+    ensures boundary { IfSome result (IsCharBoundary text.now) }
+    ensures exact { result ≡ ipv6_end_at text.now start }
+{
+    match groups_end(text, start, 8) {
+        GroupsEnd::End(0, end) => Some(end),
+        GroupsEnd::Elision(room, end) => elided_end(text, end, room),
+        _ => None,
+    }
+}
+
+/// Neither `:` nor a group is next.
+#[tactic(auto, unfolding(crate::specs::LiteralErrors::is_no_ipv6))]
+fn is_no_ipv6(text: &str, start: usize) -> bool
+    requires { IsCharBoundary text.now start }
+    ensures { result ≡ is_no_ipv6_at text.now start }
+{
+    if sees(text, start, b':') {
+        return false;
+    }
+    let last = digits_end(text, start, 16, 4);
+    last == start || is_dotted(text, start, last)
+}
+
+/// Why what stands at `start`, and begins with no `v`, is no address with a `]` behind it.
+fn refusal(text: &str, start: usize) -> ParseError
+    requires boundary { IsCharBoundary text.now start }
+    requires refused { parses_literal (drop start text.now) ≡ false }
+    requires unlettered { (starts 118 (drop start text.now) || starts 86 (drop start text.now))
+        ≡ false }
+    ensures error { IsLiteralRefusal text.now start result }
+    ensures exact { literal text.now start ≡ Err result }
+{
+    if is_no_ipv6(text, start) {
+        return ParseError::new(start, ParseErrorKind::UnexpectedChar);
+    }
+    match ipv6_end(text, start) {
+        Some(end) => ParseError::new(end, ParseErrorKind::UnexpectedChar),
+        None => ParseError::new(start, ParseErrorKind::InvalidIpv6Addr),
+    }
+}
+
+/// Where one or more characters of the table end that stand at `start`, with the `mark` behind
+/// them; or where one of these is missing.
+#[tactic(auto, unfolding(crate::proofs::Steps::future))]
+fn marked_end(text: &str, start: usize, table: &Table, mark: u8) -> Result<usize, ParseError>
+    requires boundary { IsCharBoundary text.now start }
+    requires ascii { mark < 128 }
+    ensures accepts { is_ok result ≡ parses_marked (set_of table.now) mark (drop start text.now) }
+    ensures end { IfOk result (λ end.
+        end ≡ start + length_to_mark (set_of table.now) (drop start text.now)) }
+    ensures boundary { IfOk result (λ end. IsCharBoundary text.now end) }
+    ensures err { IfErr result (IsMissing text.now) }
+    ensures exact { result ≡ scan_to_mark text.now (set_of table.now) mark (λ end. Ok end) start }
+{
+    let end = table.scan(text, start);
+    if start < end && sees(text, end, mark) {
+        Ok(end + 1)
+    } else {
+        Err(ParseError::new(end, ParseErrorKind::UnexpectedChar))
+    }
+}
+
+/// Where the rest of an IPvFuture address ends that stands at `start`, behind its `v`, with the `]`
+/// behind it; or where something of these is missing.
+///
+/// No hexadecimal digit is a `.`, and none of its characters a `]`: so each is found by a scan.
+#[tactic(auto, using(crate::proofs::Steps::futures), unfolding(crate::proofs::Steps::future))]
+fn future_end(text: &str, start: usize) -> Result<usize, ParseError>
+    requires { IsCharBoundary text.now start }
+    ensures accepts { is_ok result ≡ parses_future (drop start text.now) }
+    ensures end { IfOk result (λ end. end ≡ start + future_length (drop start text.now)) }
+    ensures boundary { IfOk result (λ end. IsCharBoundary text.now end) }
+    ensures err { IfErr result (IsMissing text.now) }
+    ensures exact { result ≡ scan_to_mark text.now hexdig_set full_stop
+        (scan_to_mark text.now ipv_future_set right_bracket (λ end. Ok end)) start }
+{
+    let address = marked_end(text, start, &HEXDIG, b'.')?;
+    marked_end(text, address, &IPV_FUTURE, b']')
+}
+
+/// Where the address that stands at `start`, behind a `[`, and the `]` behind it end; or why there
+/// is none.
+pub(crate) fn literal_end(text: &str, start: usize) -> Result<usize, ParseError>
+    requires { IsCharBoundary text.now start }
+    ensures accepts { is_ok result ≡ parses_literal (drop start text.now) }
+    ensures end { IfOk result (λ end. end ≡ start + literal_length (drop start text.now)) }
+    ensures boundary { IfOk result (λ end. IsCharBoundary text.now end) }
+    ensures err { IfErr result (IsLiteralRefusal text.now start) }
+    ensures exact { result ≡ literal text.now start }
+{
+    if starts_ipvfuture(text, start) {
+        return future_end(text, start + 1);
+    }
+    let address = &text[start..];
+    if let Some(rest) = after_ipv6(address.as_bytes()) {
+        let end = text.len() - rest.len();
+        if sees(text, end, b']') {
+            return Ok(end + 1);
+        }
+    }
+    Err(refusal(text, start))
+}
