@@ -54,7 +54,7 @@ module _ (kind : Kind) (f : Facts kind) (text : List ℕ) (u : IsUtf8 text) wher
       → Begun r.index
   at_error e r s b = subst (λ x. Begun x.index) (same_Some e r s) b
 
-  pub over_ok : (i : ℕ) (r : ParseError) → Begun i → from_end kind text i ≡ Some r → Begun r.index
+  over_ok : (i : ℕ) (r : ParseError) → Begun i → from_end kind text i ≡ Some r → Begun r.index
   unfolding from_end
   over_ok i r b e = ⊎_elim
       (λ o. absurd (none-some r (sym (cond-true _ _ _ o) ∙ e)))
@@ -76,7 +76,7 @@ module _ (kind : Kind) (f : Facts kind) (text : List ℕ) (u : IsUtf8 text) wher
       (λ s. other s (sym (cond-false _ _ _ s) ∙ t))
       (cases_Bool (set.pct_encoded && is_next text 37 end))
 
-  pub fragment_ok : (i : ℕ) (r : ParseError) → At text i → Closed (IsFragmentTail kind) i
+  fragment_ok : (i : ℕ) (r : ParseError) → At text i → Closed (IsFragmentTail kind) i
       → from_fragment kind text i ≡ Some r → Begun r.index
   unfolding from_fragment
   fragment_ok i r a closed e = ⊎_elim
@@ -101,7 +101,7 @@ module _ (kind : Kind) (f : Facts kind) (text : List ℕ) (u : IsUtf8 text) wher
       (sym (cond-false _ _ _ s) ∙ e))
       (cases_Bool (is_next text 35 i))
 
-  pub query_ok : (i : ℕ) (r : ParseError) → At text i → Closed (IsQueryTail kind) i
+  query_ok : (i : ℕ) (r : ParseError) → At text i → Closed (IsQueryTail kind) i
       → from_query kind text i ≡ Some r → Begun r.index
   unfolding from_query
   query_ok i r a closed e = ⊎_elim

@@ -108,9 +108,6 @@ first_seen : (bs : List ℕ) → starts 58 bs ≡ true → slice_index bs 0 ≡ 
 first_seen [] e = absurd (false≢true e)
 first_seen (b ∷ bs) e = eqb-true b 58 e
 
-with_scheme : (n : Bool) → (true || n) ≡ true
-with_scheme n = refl
-
 -- a path goes on with `/` where its first segment does not, and `:` is not next
 segment_first : (kind : Kind) → Facts kind → (bs : List ℕ)
     → valid_prefix (first_segment_set kind) bs ≡ 0 → starts 58 bs ≡ false

@@ -91,7 +91,7 @@ command_named-words_of (Resolve bases.Iri s r) = refl
 command_named-words_of (Links s r rs) = refl
 
 -- no two commands have the same words
-pub words_of_injective : (a b : Command) → words_of a ≡ words_of b → a ≡ b
+words_of_injective : (a b : Command) → words_of a ≡ words_of b → a ≡ b
 words_of_injective a b same = sym (command_named-words_of a) ∙ ap command_named same
     ∙ command_named-words_of b
 

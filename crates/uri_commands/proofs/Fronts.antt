@@ -19,11 +19,6 @@ pub front_kept : (a b c : Option (List ℕ)) (front rest text : List ℕ) → Ap
 front_kept a b c front rest text p q e =
     front_taken a c front rest text (Appends-kept a b c front p q) e
 
-pub whole_taken : (a b : Option (List ℕ)) (front rest text : List ℕ) → Appends a b front
-    → text ≡ front ++ rest → rest ≡ [] → Appends a b text
-whole_taken a b front rest text p e none =
-    subst (Appends a b) (sym (e ∙ ap (λ l. front ++ l) none ∙ append-nil front)) p
-
 pub more_taken : (a b c : Option (List ℕ)) (n : ℕ) (front rest text : List ℕ) → Appends a b front
     → Appends b c (take n rest) → text ≡ front ++ rest
     → (more : List ℕ) × Appends a c more × (text ≡ more ++ drop n rest)
@@ -34,7 +29,3 @@ more_taken a b c n front rest text p q e = (
       ∙ ap (λ l. front ++ l) (sym (take-append-drop n rest))
       ∙ sym (append_assoc front (take n rest) (drop n rest)),
 )
-
-pub whole_is_front : (a b : Option (List ℕ)) (text : List ℕ) → Appends a b text
-    → AppendsFront a b text
-whole_is_front a b text p = front_taken a b text [] text p (sym (append-nil text))

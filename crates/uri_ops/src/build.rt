@@ -13,8 +13,7 @@ ghost use Rattle.uri_ops.specs.Builders.{draft_parts};
 ghost use Rattle.uri_ops.specs.Models.DraftPlaces.{KnowsHost};
 
 mod appending;
-#[doc(hidden)]
-pub mod draft;
+pub(crate) mod draft;
 #[doc(hidden)]
 pub mod held;
 #[doc(hidden)]

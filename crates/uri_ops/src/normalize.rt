@@ -12,13 +12,11 @@ ghost use Rattle.uri_ops.specs.Normalizers.{normalizer_allows_underflow};
 ghost use Rattle.uri_ops.specs.Normalizers.{ports_of, text_underflows};
 ghost use Rattle.uri_ops.specs.declared.normalize.NormalizeError.TheVariants.{PathUnderflow};
 
-#[doc(hidden)]
-pub mod decode_unreserved;
+pub(crate) mod decode_unreserved;
 pub(crate) mod decoded_paths;
 #[doc(hidden)]
 pub mod formatting;
-#[doc(hidden)]
-pub mod normal_authority;
+pub(crate) mod normal_authority;
 #[doc(hidden)]
 pub mod normal_text;
 pub(crate) mod octets;

@@ -15,8 +15,7 @@ ghost use Rattle.uri_parts.specs.Grammar.{IsTextOf};
 pub(crate) mod base_prefix;
 #[doc(hidden)]
 pub mod target_text;
-#[doc(hidden)]
-pub mod text_view;
+pub(crate) mod text_view;
 
 use crate::default_port::DefaultPort;
 use crate::normalize::{Normalizer, normal_form_of};

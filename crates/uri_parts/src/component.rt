@@ -49,8 +49,7 @@ impl<'a, U: Encoder, R: Encoder> Authority<'a, U, R> {
     ghost use Rattle.uri_parts.specs.AuthorityTexts.{authority_text};
     ghost use Rattle.uri_parts.specs.AuthorityTexts.{host_kind_of, IsNamed};
 
-    #[doc(hidden)]
-    pub fn new_unchecked(text: &'a str, host_start: usize, host_end: usize) -> Self
+    pub(crate) fn new_unchecked(text: &'a str, host_start: usize, host_end: usize) -> Self
         requires valid { is_authority_for U.set R.set text.now ≡ true }
         requires starts { host_start ≡ host_start_of text.now }
         requires ends { host_end ≡ host_end_of text.now }

@@ -24,8 +24,7 @@ use std::marker::PhantomData;
 use uri_pct::pct_enc::EStr;
 
 /// Where the components lie of a text that is known to be of the kind.
-#[doc(hidden)]
-pub fn positions_in<K: Kind>(text: &str) -> Positions
+pub(crate) fn positions_in<K: Kind>(text: &str) -> Positions
     requires { IsOfKind K.kind text.now }
     ensures { AreAt text.now result }
 {

@@ -28,8 +28,7 @@ pub struct KindTables {
 /// The tables of URIs, where a scheme is needed (RFC 3986, section 3), and else of URI references
 /// (section 4.1).
 #[tactic(auto, using(uri_pct::proofs::TableSets::Constants::segment_nz_nc_table))]
-#[doc(hidden)]
-pub fn uri_tables(needs_scheme: bool) -> KindTables
+pub(crate) fn uri_tables(needs_scheme: bool) -> KindTables
     ensures kind { kind_of result ≡ record uri_ref { needs_scheme = needs_scheme } }
     ensures segment { set_of result.segment_nz_nc ≡ segment_nz_nc_set }
 {
@@ -47,8 +46,7 @@ pub fn uri_tables(needs_scheme: bool) -> KindTables
 /// The tables of IRIs, where a scheme is needed, and else of IRI references (RFC 3987, section
 /// 2.2).
 #[tactic(auto, using(uri_pct::proofs::TableSets::Constants::isegment_nz_nc_table))]
-#[doc(hidden)]
-pub fn iri_tables(needs_scheme: bool) -> KindTables
+pub(crate) fn iri_tables(needs_scheme: bool) -> KindTables
     ensures kind { kind_of result ≡ record iri_ref { needs_scheme = needs_scheme } }
     ensures segment { set_of result.segment_nz_nc ≡ isegment_nz_nc_set }
 {

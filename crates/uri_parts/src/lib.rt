@@ -2,15 +2,12 @@
 #![tactic(auto)]
 
 mod address_parser;
-#[doc(hidden)]
-pub mod authority_parser;
+mod authority_parser;
 pub mod component;
-#[doc(hidden)]
-pub mod connect;
+mod connect;
 #[doc(hidden)]
 pub mod core_text;
-#[doc(hidden)]
-pub mod cursor;
+mod cursor;
 mod default_ports;
 pub mod error;
 #[doc(hidden)]
@@ -18,8 +15,7 @@ pub mod fragment;
 mod ip_literal;
 #[doc(hidden)]
 pub mod kind;
-#[doc(hidden)]
-pub mod kind_tables;
+mod kind_tables;
 #[doc(hidden)]
 pub mod laws;
 pub mod net;
@@ -31,5 +27,4 @@ pub mod port;
 pub mod positions;
 #[doc(hidden)]
 pub mod scheme;
-#[doc(hidden)]
-pub mod slicing;
+mod slicing;

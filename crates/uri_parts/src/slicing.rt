@@ -22,8 +22,7 @@ fn length_before(bytes: &[u8], marks: &[u8]) -> usize
 }
 
 /// The text before the first of these ASCII characters, and from it on.
-#[doc(hidden)]
-pub fn cut_before<'a>(text: &'a str, marks: &[u8]) -> (&'a str, &'a str)
+pub(crate) fn cut_before<'a>(text: &'a str, marks: &[u8]) -> (&'a str, &'a str)
     requires { IsTrue (list_all (λ b. nat_lt b 128) marks.now) }
     ensures before { result.0.now ≡ before_any marks.now text.now }
     ensures from { result.1.now ≡ from_any marks.now text.now }

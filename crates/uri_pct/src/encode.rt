@@ -89,8 +89,7 @@ pub fn push_text(table: &Table, text: &str, out: &mut String) -> Result<(), Allo
 /// an octet.
 ///
 /// After an error, part of it may have been appended.
-#[doc(hidden)]
-pub fn push_bytes(table: &Table, bytes: &[u8], out: &mut String) -> Result<(), AllocError>
+pub(crate) fn push_bytes(table: &Table, bytes: &[u8], out: &mut String) -> Result<(), AllocError>
     ensures ok { OnOk result
         (string_bytes out.new ≡ string_bytes out.old
         ++ print (encode_bytes (set_of table.now) bytes.now)) }
@@ -105,8 +104,7 @@ pub fn push_bytes(table: &Table, bytes: &[u8], out: &mut String) -> Result<(), A
 }
 
 /// Appends what `push_text` does. After an error the text is as it was.
-#[doc(hidden)]
-pub fn append_text(table: &Table, text: &str, out: &mut String) -> Result<(), AllocError>
+pub(crate) fn append_text(table: &Table, text: &str, out: &mut String) -> Result<(), AllocError>
     ensures ok { OnOk result
         (string_bytes out.new ≡ string_bytes out.old
         ++ print (encode_text (set_of table.now) text.now)) }
@@ -121,8 +119,7 @@ pub fn append_text(table: &Table, text: &str, out: &mut String) -> Result<(), Al
 }
 
 /// Appends what `push_bytes` does. After an error the text is as it was.
-#[doc(hidden)]
-pub fn append_bytes(table: &Table, bytes: &[u8], out: &mut String) -> Result<(), AllocError>
+pub(crate) fn append_bytes(table: &Table, bytes: &[u8], out: &mut String) -> Result<(), AllocError>
     ensures ok { OnOk result
         (string_bytes out.new ≡ string_bytes out.old
         ++ print (encode_bytes (set_of table.now) bytes.now)) }

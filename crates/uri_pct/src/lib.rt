@@ -5,13 +5,11 @@
 pub mod cow;
 #[doc(hidden)]
 pub mod decode;
-#[doc(hidden)]
-pub mod decode_text;
+mod decode_text;
 #[doc(hidden)]
 pub mod encode;
 pub mod encoder;
-#[doc(hidden)]
-pub mod estring;
+mod estring;
 #[doc(hidden)]
 pub mod lanes;
 #[doc(hidden)]

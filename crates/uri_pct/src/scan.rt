@@ -29,8 +29,7 @@ impl Table {
     /// Where the run of ASCII characters ends that begins at `start` and that the table allows,
     /// both as byte offsets.
     #[inline(always)]
-    #[doc(hidden)]
-    pub fn pass_ascii(&self, text: &str, start: usize) -> usize
+    pub(crate) fn pass_ascii(&self, text: &str, start: usize) -> usize
         requires { IsCharBoundary text.now start }
         ensures total { result + valid_prefix (set_of self.now) (drop result text.now)
             ≡ start + valid_prefix (set_of self.now) (drop start text.now) }

@@ -192,8 +192,7 @@ impl Table {
     }
 
     /// Whether the ASCII character of the code `byte` is allowed; from 128 on no byte is.
-    #[doc(hidden)]
-    pub fn allows_ascii(&self, byte: u8) -> bool
+    pub(crate) fn allows_ascii(&self, byte: u8) -> bool
         ensures value { result ≡ (set_of self.now).ascii byte }
         ensures ascii { IsTrue result → byte < 128 }
     {
@@ -202,8 +201,7 @@ impl Table {
 
     /// The bits of the codes below 64, and of those from 64 on.
     #[inline(always)]
-    #[doc(hidden)]
-    pub fn masks(&self) -> (u64, u64)
+    pub(crate) fn masks(&self) -> (u64, u64)
         ensures { has_bit result.0 result.1 ≡ (set_of self.now).ascii }
     {
         (self.low, self.high)

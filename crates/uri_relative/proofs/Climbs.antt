@@ -275,6 +275,3 @@ pub path_stays_below : (n : ℕ) (base path : List ℕ) → IsAbsolute base
 path_stays_below n base path base_absolute base_plain absolute plain s =
     shared_leads underflows underflowing n base path base_absolute base_plain s
     ∙ underflows_of_plain path absolute plain
-
--- a relative path leads to the path that it was made for
-pub ruleset climbing = (path_leads, path_stays_below)

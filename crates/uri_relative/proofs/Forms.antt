@@ -72,10 +72,6 @@ of_rules kind r m needs =
 or_true : (a b : Bool) → a ≡ true → (a || b) ≡ true
 or_true a b e = ap (λ c. c || b) e
 
-not_none : (o : Option (List ℕ)) (P : Type 0) → is_some o ≡ true → IfNone o P
-not_none None P h = absurd (false≢true h)
-not_none (Some x) P h = tt
-
 -- what a reference is that has neither scheme nor authority
 by_itself : (base t r : Components) → r.scheme ≡ None → r.authority ≡ None → IsRelativeTo base t r
 by_itself base t r s a = λ _. λ _. λ _. λ _. (s, a)
@@ -105,7 +101,7 @@ unguarded_lacks t path e h =
     unguarded (Lacks (codes "?#")) t.authority path t.path e
     (λ k. test_lacks (codes "?#") path (lacks_test (codes "?#") (codes "/." ++ path) k)) h
 
-pub valid_none : (set : TableSet) → is_valid_for set [] ≡ true
+valid_none : (set : TableSet) → is_valid_for set [] ≡ true
 unfolding is_valid_for tokens_of chars
 valid_none set = refl
 
@@ -161,7 +157,7 @@ module _ (kind : Kind) (prefers : Bool) (base t : Components) (w : IsTargetOf ki
   network_lacks None rest e = absurd (false≢true e)
   network_lacks (Some a) rest e = refl
 
-  pub network : base.scheme ≡ t.scheme → is_some t.authority ≡ true
+  network : base.scheme ≡ t.scheme → is_some t.authority ≡ true
       → IsRelativeTo base t (record t { scheme = None })
       → is_opaque base ≡ false
       → IsReferenceTo kind prefers base t (record t { scheme = None })

@@ -46,15 +46,9 @@ target_of_text kind text e h done = record {
 }
 
 -- the text of a reference has its components, and is of the kind
-pub reference_parts : (kind : Kind) (prefers : Bool) (base target r : Components)
+reference_parts : (kind : Kind) (prefers : Bool) (base target r : Components)
     → IsReferenceTo kind prefers base target r → components (recompose r) ≡ r
 reference_parts kind prefers base target r w = components-recompose (recompose r) r w.split
-
-pub reference_of_kind : (kind : Kind) (prefers : Bool) (base target r : Components)
-    → IsReferenceTo kind prefers base target r → IsOfKind (reference_kind kind) (recompose r)
-reference_of_kind kind prefers base target r w =
-    subst (λ c. are_components (reference_kind kind) c ≡ true)
-    (sym (reference_parts kind prefers base target r w)) w.meets
 
 -- what it resolves to
 resolves : (base r : Components) (t : Components) → target_of base r ≡ t
@@ -69,7 +63,7 @@ itself base t e =
     (let j : joined base t ≡ t = cond-true _ _ _ e in ap finished j)
     (ap (λ b. is_opaque base && not (b || is_fragment_only t)) e ∙ none_and (is_opaque base))
 
-pub leads_to : (kind : Kind) (prefers : Bool) (base target reference : List ℕ)
+leads_to : (kind : Kind) (prefers : Bool) (base target reference : List ℕ)
     → is_some (components target).scheme ≡ true
     → IsReferenceTo kind prefers (components base) (settled target) (components reference)
     → LeadsTo base target reference
@@ -88,7 +82,7 @@ pushed_after old mid new way tail tail' e f h =
 target_itself : (base t : Components) → is_some t.scheme ≡ true → target_of base t ≡ finished t
 target_itself base t e = let j : joined base t ≡ t = cond-true _ _ _ e in ap finished j
 
-pub settled_components : (text : List ℕ) → is_some (components text).scheme ≡ true
+settled_components : (text : List ℕ) → is_some (components text).scheme ≡ true
     → components (recompose (settled text)) ≡ settled text
 settled_components text some =
     let c = components text in
@@ -129,14 +123,6 @@ pub pieces_joined : (scheme authority path rest old : List ℕ) (o0 o1 o2 o3 : L
 pieces_joined scheme authority path rest old o0 o1 o2 o3 e f g h =
     h ∙ ap (λ t. t ++ rest) (g ∙ ap (λ t. t ++ path) (f ∙ ap (λ t. t ++ (scheme ++ authority)) e))
     ∙ append_assoc (scheme ++ authority) path rest ∙ append_assoc scheme authority (path ++ rest)
-
--- a text of the kind is one of its references
-pub text_of_references : (kind : Kind) (text : List ℕ) → kind.needs_scheme ≡ true
-    → IsOfKind kind text → IsOfKind (reference_kind kind) text
-text_of_references kind text e h =
-    let p = and_parts _ _ h in
-    and_from _ _ p.0 (ap (λ b. b || (is_some (components text).authority
-    || not (has_colon_first (components text).path))) (scheme_of kind text e h))
 
 -- what is made of the text of a reference
 pub made_reference : (kind : Kind) (prefers : Bool) (base target r : Components)

@@ -137,7 +137,7 @@ guard_dotted rest e =
     (absolute_is rest (true_to _ (authority_first rest e)))
     ∙ dotted (drop 1 rest)
 
-pub unguarded_found : (t : Components) (rest : List ℕ) → is_some t.authority ≡ false
+unguarded_found : (t : Components) (rest : List ℕ) → is_some t.authority ≡ false
     → IsAbsolute t.path → finished t ≡ t → t.path ≡ codes "/." ++ rest
     → has_authority rest ≡ true → IsUnguarded t rest
 unguarded_found t rest none h done whole double =
@@ -156,7 +156,7 @@ unguarded_found t rest none h done whole double =
       guards = ap (guarded t.authority) (sym same) ∙ same_path t h done;
     }
 
-pub unguarded_none : (t : Components) → is_some t.authority ≡ false → IsAbsolute t.path
+unguarded_none : (t : Components) → is_some t.authority ≡ false → IsAbsolute t.path
     → finished t ≡ t
     → ((rest : List ℕ) → t.path ≡ codes "/." ++ rest → has_authority rest ≡ false)
     → IsUnguarded t t.path

@@ -199,7 +199,7 @@ of_segments (c ∷ s) (t ∷ rest) lack single double =
     first_turn (is_single_dot (c ∷ s)) (is_double_dot (c ∷ s)) c s (t ∷ rest)
     (first_lacks (c ∷ s) (t ∷ rest) lack).0 (first_lacks (c ∷ s) (t ∷ rest) lack).1 double
 
-pub room_for_guard : (path : List ℕ) → IsAbsolute path → Shrinks path
+room_for_guard : (path : List ℕ) → IsAbsolute path → Shrinks path
 unfolding Shrinks
 room_for_guard = by_segments Shrinks
     (λ s rest lack single double.

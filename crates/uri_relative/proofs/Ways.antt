@@ -143,13 +143,13 @@ module _ (set : TableSet) (w : IsComponentSet (codes "?#[]") set)
       (ap (is_part set) (sym (append_assoc front (codes "/") (drop n path))
       ∙ ap (λ t. t ++ drop n path) (sym closed) ∙ take-append-drop n path) ∙ e)).1
 
-  pub relative_valid : (n : ℕ) (base path : List ℕ) → IsUtf8 path → IsSharedFront n base path
+  relative_valid : (n : ℕ) (base path : List ℕ) → IsUtf8 path → IsSharedFront n base path
       → is_valid_for set path ≡ true → is_valid_for set (relative_from n base path) ≡ true
   relative_valid n base path utf8 s e =
       part_valid set _ (relative_part (slashes (drop n base)) (drop n path)
       (behind_part n path s.closed.0 (sym s.same ∙ s.closed.1) (part_from set path utf8 e)))
 
-  pub absolute_valid : (path : List ℕ) → IsUtf8 path → is_valid_for set path ≡ true
+  absolute_valid : (path : List ℕ) → IsUtf8 path → is_valid_for set path ≡ true
       → is_valid_for set (guarded None path) ≡ true
   absolute_valid path utf8 e =
       part_valid set _ (part_guarded set w slash None path (part_from set path utf8 e))

@@ -62,7 +62,7 @@ ascii_component marks set w = record {
   ends = w.ends;
 }
 
-pub ascii_sets : (kind : Kind) → HasComponentSets kind → HasComponentSets (ascii_kind kind)
+ascii_sets : (kind : Kind) → HasComponentSets kind → HasComponentSets (ascii_kind kind)
 ascii_sets kind sets = record {
   userinfo = ascii_component (codes "/?#[]@") kind.userinfo sets.userinfo;
   reg_name = ascii_component (codes "/?#[]@:") kind.reg_name sets.reg_name;
@@ -143,7 +143,7 @@ module _ (names : TableSet) (w : IsComponentSet (codes "/?#[]@:") names)
             ∙ name_meaning names w apart text (ipv4_value text));
       }
 
-  pub host_kept : (text : List ℕ) (h : HostKind) → IsUtf8 text → IsHost names text h
+  host_kept : (text : List ℕ) (h : HostKind) → IsUtf8 text → IsHost names text h
       → KeepsHost names text
   host_kept text (Ipv6 segments) u (address, e, groups) =
       kept_host names text (Ipv6 segments) (address, e, groups)

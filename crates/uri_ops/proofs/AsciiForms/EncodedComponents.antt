@@ -80,7 +80,7 @@ scheme_encoded (Some s) u h = (
   Lacks-encoded (codes ":/?#") refl s u h.1,
 )
 
-pub rooted_encoded : (path : List ℕ) → IsRooted path → IsRooted (encoded_text path)
+rooted_encoded : (path : List ℕ) → IsRooted path → IsRooted (encoded_text path)
 rooted_encoded path h = ⊎_elim (λ e. inl (ap encoded_text e ∙ encoded-nil))
     (λ e. inr (true_to _ (starts_encoded 47 refl path ∙ true_of _ e))) h
 

@@ -100,7 +100,7 @@ module _ (p : ℕ → Bool) (percent : p 37 ≡ true)
       ∙ and_from _ _ (octet_passes b q.0) (bytes_pass text q.1 r.1))
       (cases_lt b 128)
 
-  pub encoded_passes : (text : List ℕ) → IsUtf8 text → list_all p text ≡ true
+  encoded_passes : (text : List ℕ) → IsUtf8 text → list_all p text ≡ true
       → list_all p (encoded_text text) ≡ true
   encoded_passes text u e = bytes_pass text (utf8_bytes text u) e
 
@@ -225,7 +225,7 @@ no_slashes (s ∷ rest) e f =
     let q = first_lacks s rest f in
     and_from _ _ (not_from_false _ (no_slash s p.0 q.0)) (no_slashes rest p.1 q.1)
 
-pub removed_encoded : (path : List ℕ) → IsAbsolute path → IsUtf8 path
+removed_encoded : (path : List ℕ) → IsAbsolute path → IsUtf8 path
     → remove_dot_segments (encoded_text path) ≡ encoded_text (remove_dot_segments path)
 removed_encoded = by_segments (λ path. IsUtf8 path → remove_dot_segments (encoded_text path)
     ≡ encoded_text (remove_dot_segments path))

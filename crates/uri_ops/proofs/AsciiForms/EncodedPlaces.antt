@@ -40,13 +40,6 @@ between old new bytes i j h o e =
     e ∙ ap (λ t. t ++ encoded_text slice) o ∙ sym (encoded-append (take i bytes) slice)
     ∙ ap encoded_text (sym (take-add i (j - i) bytes) ∙ ap (λ n. take n bytes) k)
 
-pub nothing_before : (out bytes : List ℕ) → out ≡ [] → out ≡ encoded_text (take 0 bytes)
-nothing_before out bytes e = e ∙ sym encoded-nil
-
-pub all_before : (out bytes : List ℕ) (n : ℕ) → n ≡ length bytes → out ≡ encoded_text (take n bytes)
-    → out ≡ encoded_text bytes
-all_before out bytes n k e = e ∙ ap encoded_text (take_all n bytes (omega (arith, k)))
-
 -- a place between two texts
 seam : (text before behind : List ℕ) (n : ℕ) → text ≡ before ++ behind → n ≡ length before
     → moved text n ≡ length (encoded_text before)

@@ -136,13 +136,6 @@ octet_total old mid new bytes i h high o e =
 pub nothing_total : (old : List ℕ) → old ≡ old ++ encoded_text []
 nothing_total old = sym (ap (λ t. old ++ t) encoded-nil ∙ append-nil old)
 
-pub high_ahead : (bytes : List ℕ) (i n : ℕ) → i + n < length bytes
-    → (n < length (from bytes i) → 128 ≤ get_or (from bytes i) n 0) → 128 ≤ get_or bytes (i + n) 0
-high_ahead bytes i n h stops =
-    let d : length (drop i bytes) ≡ length bytes - i = length-drop i bytes in
-    subst (λ b. 128 ≤ b) (get_or-drop i bytes n 0)
-    (subst (λ t. n < length t → 128 ≤ get_or t n 0) (from_drop bytes i) stops (omega arith))
-
 pub end_inside : (bytes : List ℕ) (i n : ℕ) → i ≤ length bytes → n ≤ length (from bytes i)
     → i + n ≤ length bytes
 end_inside bytes i n h k =

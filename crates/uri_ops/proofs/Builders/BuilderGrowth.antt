@@ -67,32 +67,10 @@ held_at : (takes : List ℕ → Bool) (o : Option ℕ) (rest : List ℕ)
 held_at takes None rest e = absurd (false≢true e)
 held_at takes (Some n) rest e = (n, refl, e)
 
-taken_inside : (o : Option ℕ) (text rest : List ℕ) → length rest ≤ length text
-    → option_map length (part_in 2 o rest) ≡ o → IfSome o (λ n. n ≤ length text)
-taken_inside None text rest shorter e = tt
-taken_inside (Some n) text rest shorter e =
-    let count : length (take n (drop 2 rest)) ≡ n = some_injective e in
-    omega (arith, count, length-take n (drop 2 rest), length-drop 2 rest, shorter)
-  where
-    some_injective : {a b : ℕ} → Some a ≡ Some b → a ≡ b
-    some_injective e = ap (λ o. unwrap_or o 0) e
-
-behind_shorter : (marks : ℕ) (o : Option ℕ) (text : List ℕ)
-    → length (behind_part marks o text) ≤ length text
-behind_shorter marks None text = omega arith
-behind_shorter marks (Some n) text = omega (arith, length-drop (marks + n) text)
-
 module _ (a : Draft) (whole : a.failed ≡ false) where
   abbrev rest : List ℕ
   rest = behind_part 1 a.lengths.scheme (string_bytes a.text)
 
-  pub authority_inside : IfSome a.lengths.authority (λ n. n ≤ length (string_bytes a.text))
-  authority_inside = taken_inside a.lengths.authority (string_bytes a.text) rest
-      (behind_shorter 1 a.lengths.scheme (string_bytes a.text))
-      (ap (λ (l : Lengths). l.authority) (a.ok whole).counted)
-
-module _ (a : Draft) (x new : List ℕ) (g : Bool) (kept : g ≡ false → a.failed ≡ false) (m n : ℕ)
-    (before_len : m ≡ length (string_bytes a.text)) (after_len : n ≡ length new) where
   abbrev text : List ℕ
   text = string_bytes a.text
 

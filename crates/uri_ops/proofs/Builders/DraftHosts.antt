@@ -30,7 +30,7 @@ use Rattle.uri_ops.proofs.Builders.PartRules.{at_place, unmarked}
 use Rattle.uri_ops.proofs.Normal.WrittenPlaces.{length-behind, length-before}
 
 -- an authority is as long as its parts
-pub parts_length : (users names : TableSet) (a : List ℕ) → is_authority_for users names a ≡ true
+parts_length : (users names : TableSet) (a : List ℕ) → is_authority_for users names a ≡ true
     → length a ≡ marked_length 1 (authority_parts a).userinfo + length (authority_parts a).host
     + marked_length 1 (authority_parts a).port
 parts_length users names a e =

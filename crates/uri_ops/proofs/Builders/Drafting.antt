@@ -62,7 +62,7 @@ same_parts {failed = failed} s a p q f =
           failed;
     }
 
-pub parts_found : (p : BuilderParts) → parts_in (lengths_of p) (parts_text p) p.failed ≡ p
+parts_found : (p : BuilderParts) → parts_in (lengths_of p) (parts_text p) p.failed ≡ p
 parts_found p =
     let F : List ℕ = marked (codes "#") p.fragment [] in
     let Q : List ℕ = marked (codes "?") p.query [] ++ F in
@@ -90,12 +90,12 @@ parts_found p =
     ∙ in_marked (codes "#") [] p.fragment [])
 
 -- a text with its lengths is known by the parts whose text it is
-pub parts_by_lengths : (p : BuilderParts) (lengths : Lengths) (text : List ℕ)
+parts_by_lengths : (p : BuilderParts) (lengths : Lengths) (text : List ℕ)
     → lengths ≡ lengths_of p → text ≡ parts_text p → parts_in lengths text p.failed ≡ p
 parts_by_lengths p lengths text n t = ap (λ l. parts_in l text p.failed) n
     ∙ ap (λ x. parts_in (lengths_of p) x p.failed) t ∙ parts_found p
 
-pub drafted : (p : BuilderParts) (lengths : Lengths) (text : List ℕ) → p.failed ≡ false
+drafted : (p : BuilderParts) (lengths : Lengths) (text : List ℕ) → p.failed ≡ false
     → lengths ≡ lengths_of p → text ≡ parts_text p → IsDraft lengths text
 drafted p lengths text f n t =
     let same : parts_in lengths text false ≡ p = ap (parts_in lengths text) (sym f)
@@ -143,13 +143,6 @@ pub none_in : (mark : ℕ) (n : Option ℕ) (text : List ℕ) → is_none (part_
     → n ≡ None
 none_in mark None text e = refl
 none_in mark (Some n) text e = absurd (false≢true e)
-
--- the text of the parts with one more at its end
-pub scheme_text : (s : List ℕ)
-    → [] ++ (s ++ codes ":")
-    ≡ recompose
-    (record { scheme = Some s; authority = None; path = []; query = None; fragment = None })
-scheme_text s = sym (append-nil (s ++ codes ":"))
 
 pub authority_text : (scheme : Option (List ℕ)) (a : List ℕ)
     → recompose

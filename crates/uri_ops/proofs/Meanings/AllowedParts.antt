@@ -60,7 +60,7 @@ module _ (set : TableSet) (lacks : LacksPercent set) where
       → list_all is_printable (read set text) ≡ true
   printable_read text e = printable-read set text (printable_part text e)
 
-  pub tokens-reprinted : (text : List ℕ) → is_part set text ≡ true
+  tokens-reprinted : (text : List ℕ) → is_part set text ≡ true
       → tokens (reprinted set text) ≡ read set text
   unfolding reprinted
   tokens-reprinted text e = tokens-print (read set text) (printable_read text e)
@@ -113,13 +113,13 @@ unfolding chars
 chars-slash [] = refl
 chars-slash (b ∷ y) = refl
 
-pub tokens-cut : (x y : List ℕ) → IsUtf8 x → tokens (x ++ 47 ∷ y) ≡ tokens x ++ Char 47 ∷ tokens y
+tokens-cut : (x y : List ℕ) → IsUtf8 x → tokens (x ++ 47 ∷ y) ≡ tokens x ++ Char 47 ∷ tokens y
 tokens-cut x y u =
     ap tokens_of (chars-append x (47 ∷ y) u ∙ ap (λ cs. chars x ++ cs) (chars-slash y))
     ∙ tokens_of-cut (chars x) (chars y)
 
 -- so it parts what is read before it from what is read after it
-pub read-cut : (set : TableSet) (x y : List ℕ) → IsUtf8 x
+read-cut : (set : TableSet) (x y : List ℕ) → IsUtf8 x
     → read set (x ++ 47 ∷ y) ≡ read set x ++ Char 47 ∷ read set y
 read-cut set x y u =
     ap (encode_formatting set) (ap (read_tokens set) (tokens-cut x y u)

@@ -193,7 +193,7 @@ module _ (kind : Kind) (sets : HasComponentSets kind) (default : Option ℕ) (a 
     port = port_kept default parts.port IsUtf8 utf8.port;
   }
 
-  pub printed_utf8 : IsUtf8 (recompose_authority normal)
+  printed_utf8 : IsUtf8 (recompose_authority normal)
   printed_utf8 = utf8_text normal normal_utf8
 
   normal_grammar : IsAuthorityFor users names (recompose_authority normal) normal
@@ -205,7 +205,7 @@ module _ (kind : Kind) (sets : HasComponentSets kind) (default : Option ℕ) (a 
     port = port_kept default parts.port (IsValidFor digit_set) grammar.port;
   }
 
-  pub printed_meets : is_authority kind (recompose_authority normal) ≡ true
+  printed_meets : is_authority kind (recompose_authority normal) ≡ true
   printed_meets = is_authority_for-complete users names apart (recompose_authority normal) normal
       printed_utf8 normal_grammar
 
@@ -213,7 +213,7 @@ module _ (kind : Kind) (sets : HasComponentSets kind) (default : Option ℕ) (a 
   printed_parts = authority_parts-only users names apart (recompose_authority normal) normal
       printed_utf8 normal_grammar
 
-  pub printed_bare : authority_meaning kind None (recompose_authority normal)
+  printed_bare : authority_meaning kind None (recompose_authority normal)
       ≡ authority_meaning kind default a
   printed_bare =
       let of_parts : AuthorityParts → AuthorityMeaning =
@@ -233,7 +233,7 @@ module _ (kind : Kind) (sets : HasComponentSets kind) (default : Option ℕ) (a 
   user_outside = excludes_front (codes "/?#") (codes "[]@") users
       (ends_outside (codes "/?#[]@") users refl sets.userinfo.ends)
 
-  pub printed_lacks : Lacks (codes "/?#") (recompose_authority normal)
+  printed_lacks : Lacks (codes "/?#") (recompose_authority normal)
   printed_lacks =
       lacks_text normal (part_cut_at users (codes "/?#[]@") sets.userinfo (codes "/?#") user_outside
       normal.userinfo normal_user) host.lacks

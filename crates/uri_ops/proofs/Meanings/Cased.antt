@@ -25,7 +25,7 @@ use Rattle.uri_ops.specs.Models.Readings.{cased, cased_text}
 use Rattle.uri_pct.proofs.Readings.Formatting.{lower_octets, past_same}
 
 -- text that stands for itself
-pub print_chars : (cs : List ℕ) → print (map Char cs) ≡ encode_utf8_all cs
+print_chars : (cs : List ℕ) → print (map Char cs) ≡ encode_utf8_all cs
 print_chars [] = refl
 print_chars (c ∷ cs) = ap (λ x. encode_utf8 c ++ x) (print_chars cs)
 
@@ -54,7 +54,7 @@ high_char c h =
     ∙ ap (λ x. x ∷ map to_ascii_lowercase w.more) (past_same w.first first)
     ∙ ap (λ x. w.first ∷ x) (past_lower w.more (high_past w.more w.high)) ∙ sym w.spelt
 
-pub lower_char : (c : ℕ)
+lower_char : (c : ℕ)
     → encode_utf8 (to_ascii_lowercase c) ≡ map to_ascii_lowercase (encode_utf8 c)
 lower_char c = ⊎_elim
     (λ h. encode_ascii (to_ascii_lowercase c) (lowercase_ascii c h)

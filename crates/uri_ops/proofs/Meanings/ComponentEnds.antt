@@ -36,13 +36,6 @@ excludes_front [] more set e = refl
 excludes_front (m ∷ some) more set e = let p = and_parts _ (excludes set (some ++ more)) e in
     and_from _ _ p.0 (excludes_front some more set p.1)
 
--- a text that lacks some marks lacks fewer
-pub lacks_fewer : (all some text : List ℕ)
-    → ((c : ℕ) → is_one_of all c ≡ false → is_one_of some c ≡ false) → Lacks all text
-    → Lacks some text
-lacks_fewer all some text fewer lacks =
-    All-weaker (λ c. is_one_of all c ≡ false) (λ c. is_one_of some c ≡ false) fewer text lacks
-
 -- a text whose first segment has no `:` begins with no scheme
 no_scheme_first : (path tail : List ℕ) → has_colon_first path ≡ false → Begins (codes "?#") tail
     → starts 58 (from_any (codes ":/?#") (path ++ tail)) ≡ false

@@ -26,14 +26,14 @@ abbrev pub lacks_any : List ℕ → List ℕ → Bool
 lacks_any marks text = list_all (λ c. not (is_one_of marks c)) text
 
 -- what a set allows has no character that the set excludes
-pub part_lacks : (marks : List ℕ) (set : TableSet) → LacksPercent set → excludes set marks ≡ true
+part_lacks : (marks : List ℕ) (set : TableSet) → LacksPercent set → excludes set marks ≡ true
     → (text : List ℕ) → is_part set text ≡ true → lacks_any marks text ≡ true
 part_lacks marks set lacks outside text e =
     lacks_test marks text
     (valid_lacks set marks lacks outside text (part_utf8 set text e) (part_valid set text e))
 
 -- the set without one of its characters
-abbrev pub without : ℕ → TableSet → TableSet
+abbrev without : ℕ → TableSet → TableSet
 without m set = record {
   ascii = λ c. not (eqb c m) && set.ascii c;
   pct_encoded =

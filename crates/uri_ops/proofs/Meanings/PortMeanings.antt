@@ -13,13 +13,13 @@ use Rattle.uri_ops.specs.Meaning.{AuthorityMeaning, Meaning, port_meaning, autho
 use Rattle.uri_ops.specs.Meaning.{components_meaning, meaning_of, bare_meaning_of, under}
 
 -- a port may be left out where it is empty first, and where it is the default then
-pub port_meaning-bare : (default : Option ℕ) (port : Option (List ℕ))
+port_meaning-bare : (default : Option ℕ) (port : Option (List ℕ))
     → port_meaning default (port_meaning None port) ≡ port_meaning default port
 port_meaning-bare default None = refl
 port_meaning-bare default (Some []) = refl
 port_meaning-bare default (Some (d ∷ digits)) = refl
 
-pub no_default : (scheme : Option (List ℕ)) → option_and_then no_defaults scheme ≡ None
+no_default : (scheme : Option (List ℕ)) → option_and_then no_defaults scheme ≡ None
 no_default None = refl
 no_default (Some scheme) = refl
 
@@ -72,7 +72,7 @@ authorities kind default other e (Some authority) =
 with_authority : Meaning → Option AuthorityMeaning → Meaning
 with_authority m authority = record m { authority = authority }
 
-pub meaning-under : (kind : Kind) (ports : PortFunction) (p : Components)
+meaning-under : (kind : Kind) (ports : PortFunction) (p : Components)
     → components_meaning kind ports p ≡ under ports (components_meaning kind no_defaults p)
 unfolding with_authority
 meaning-under kind ports p =

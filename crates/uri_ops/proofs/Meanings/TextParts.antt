@@ -28,12 +28,12 @@ pub record AreParts (kind : Kind) (p : Components) : Type 0 where
       || (not kind.needs_scheme && (is_some p.authority || not (has_colon_first p.path))))
       ≡ true
 
-pub some_if : (o : Option (List ℕ)) (test : List ℕ → Bool) → if_some o test ≡ true
+some_if : (o : Option (List ℕ)) (test : List ℕ → Bool) → if_some o test ≡ true
     → IfSome o (λ x. test x ≡ true)
 some_if None test e = tt
 some_if (Some x) test e = e
 
-pub if_from : (o : Option (List ℕ)) (P : List ℕ → Type 0) (test : List ℕ → Bool)
+if_from : (o : Option (List ℕ)) (P : List ℕ → Type 0) (test : List ℕ → Bool)
     → ((x : List ℕ) → P x → test x ≡ true) → IfSome o P → if_some o test ≡ true
 if_from None P test f h = refl
 if_from (Some x) P test f h = f x h

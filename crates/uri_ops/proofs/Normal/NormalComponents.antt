@@ -70,7 +70,7 @@ scheme_cut (Some s) h =
     let q = and_parts (is_ascii_alphabetic (slice_index s 0)) (is_valid_for scheme_set s) h.1 in
     (some_first s q.0, valid_lacks scheme_set (codes ":/?#") scheme_lacks scheme_marks s h.0 q.1)
 
-pub lowered_twice : (scheme : Option (List ℕ))
+lowered_twice : (scheme : Option (List ℕ))
     → option_map str_to_ascii_lowercase (option_map str_to_ascii_lowercase scheme)
     ≡ option_map str_to_ascii_lowercase scheme
 lowered_twice None = refl

@@ -24,16 +24,6 @@ use Rattle.uri_ops.proofs.Paths.ReadPaths.{part_removed}
 use Rattle.uri_ops.proofs.Paths.ReadStarts.{has_authority_reprinted, no_authority_first}
 use Rattle.uri_pct.proofs.Tests.{some_map}
 
--- a path without its dot segments is made of the same characters
-pub removed_valid : (set : TableSet) → IsComponentSet (codes "?#[]") set → set.ascii 47 ≡ true
-    → (path text : List ℕ) → IsAbsolute path → IsUtf8 path → IsValidFor set path
-    → text ≡ remove_dot_segments path → IsValidFor set text
-removed_valid set w slash path text absolute utf8 valid e =
-    ap (λ t. is_valid_for set t) e
-    ∙ part_valid set (remove_dot_segments path)
-    (part_removed set w.percent w.unreserved slash path absolute
-    (part_from set path utf8 valid))
-
 -- what is read of a path begins with `//` where the path does
 read_authority : (set : TableSet) → IsComponentSet (codes "?#[]") set → (path : List ℕ)
     → IsUtf8 path → IsValidFor set path → has_authority (print (read set path)) ≡ has_authority path
@@ -68,11 +58,6 @@ kept_path set w (Some s) authority path utf8 valid e =
     ap (λ t. guarded authority (print (read set t))) (cond-false _ _ _ e)
     ∙ unguarded authority (print (read set path))
     (read_authority set w path utf8 valid ∙ no_authority_first path e)
-
-pub marked_written : (before part old mid new : List ℕ) → mid ≡ old ++ before → new ≡ mid ++ part
-    → new ≡ old ++ marked before (Some part) []
-marked_written before part old mid new e f = f ∙ ap (λ t. t ++ part) e
-    ∙ append_assoc old before part ∙ ap (λ t. old ++ t) (sym (append-nil (before ++ part)))
 
 pub some_twice : {A B C : Type 0} (f : A → B) (h : B → C) (o : Option A)
     → is_some (option_map h (option_map f o)) ≡ is_some o

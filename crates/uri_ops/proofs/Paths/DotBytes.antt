@@ -56,12 +56,12 @@ two_dots_bytes first second d e =
     (each_dot (P (codes "%2e")) refl refl refl second e)
     first d
 
-pub single_dot_bytes : (s : List ℕ) → is_single_dot s ≡ true → token_bytes (tokens s) ≡ 46 ∷ []
+single_dot_bytes : (s : List ℕ) → is_single_dot s ≡ true → token_bytes (tokens s) ≡ 46 ∷ []
 single_dot_bytes s e =
     let w = some_dot (bytes_eq s) e in
     ap (λ t. token_bytes (tokens t)) (same_of s w.0 w.1.1) ∙ dot_bytes w.0 w.1.0
 
-pub double_dot_bytes : (s : List ℕ) → is_double_dot s ≡ true → token_bytes (tokens s) ≡ 46 ∷ 46 ∷ []
+double_dot_bytes : (s : List ℕ) → is_double_dot s ≡ true → token_bytes (tokens s) ≡ 46 ∷ 46 ∷ []
 double_dot_bytes s e =
     let v = some_dot (λ first. list_any (λ second. bytes_eq s (first ++ second)) dots) e in
     let w = some_dot (λ second. bytes_eq s (v.0 ++ second)) v.1.1 in

@@ -22,11 +22,11 @@ use Rattle.uri_ops.proofs.Paths.SlashedSegments.{NoSlashes, any_slash, first_lac
 use Rattle.uri_ops.proofs.Paths.SlashedSegments.{slashed, slashed_segments}
 
 -- what each dot segment begins with
-abbrev pub is_dot_start : ℕ → Bool
+abbrev is_dot_start : ℕ → Bool
 is_dot_start c = c == 46 || c == 37
 
 -- such a byte is after a `/`, where one may be before the text
-unfoldable pub dots_begin : Bool → List ℕ → Bool
+unfoldable dots_begin : Bool → List ℕ → Bool
 dots_begin behind [] = false
 dots_begin behind (c ∷ rest) = (behind && is_dot_start c) || dots_begin (c == 47) rest
 
@@ -95,7 +95,7 @@ plain_segments (s ∷ rest) text e none first =
     and_from _ _ (first s rest refl) (plain_all more.behind rest more.none)
 
 -- a `/` stands last, or before the text where that is empty
-unfoldable pub ends_behind : Bool → List ℕ → Bool
+unfoldable ends_behind : Bool → List ℕ → Bool
 ends_behind behind [] = behind
 ends_behind behind (c ∷ rest) = ends_behind (c == 47) rest
 

@@ -27,7 +27,7 @@ before_slash : (xs ys : List ℕ) → has_slash ys ≡ false → before_last_sla
 before_slash xs ys e = before_append xs (47 ∷ ys) refl ∙ ap (λ t. xs ++ t) (cond-false _ _ _ e)
     ∙ append-nil xs
 
-pub before_none : (ys : List ℕ) → has_slash ys ≡ false → before_last_slash ys ≡ []
+before_none : (ys : List ℕ) → has_slash ys ≡ false → before_last_slash ys ≡ []
 before_none [] e = refl
 before_none (c ∷ ys) e = cond-false _ _ _ (or_parts (eqb c 47) (has_slash ys) e).1
 
@@ -77,7 +77,7 @@ none_behind bytes start none = sym (ap has_slash (drop-drop 1 start bytes))
 last_of : (x y : List ℕ) → has_slash y ≡ false → last_segment (x ++ 47 ∷ y) ≡ y
 last_of x y e = last_append x (47 ∷ y) refl ∙ cond-false _ _ _ e
 
-pub directory_of : (x y : List ℕ) → has_slash y ≡ false
+directory_of : (x y : List ℕ) → has_slash y ≡ false
     → directory (x ++ 47 ∷ y) ≡ cond (is_double_dot y) ((x ++ 47 ∷ y) ++ codes "/") (x ++ codes "/")
 unfolding directory
 directory_of [] y e =
@@ -129,19 +129,14 @@ module _ (path : List ℕ) (slash : ℕ) (absolute : IsAbsolute path)
       ∙ ap (λ t. cond (is_double_dot (drop (slash + 1) path)) (t ++ codes "/")
       (take slash path ++ codes "/")) (sym cut)
 
-  pub directory_plain : has_slash (drop (slash + 1) path) ≡ false
+  directory_plain : has_slash (drop (slash + 1) path) ≡ false
       → is_double_dot (drop (slash + 1) path) ≡ false
       → directory path ≡ take slash path ++ codes "/"
   directory_plain last e = directory_cut last ∙ cond-false _ _ _ e
 
-  pub directory_dots : has_slash (drop (slash + 1) path) ≡ false
+  directory_dots : has_slash (drop (slash + 1) path) ≡ false
       → is_double_dot (drop (slash + 1) path) ≡ true → directory path ≡ path ++ codes "/"
   directory_dots last e = directory_cut last ∙ cond-true _ _ _ e
-
-pub rooted_some : (path : List ℕ) → IsRooted path → (length path == 0) ≡ false → IsAbsolute path
-rooted_some [] h f = absurd (false≢true (sym f))
-rooted_some (c ∷ path) (inl e) f = absurd (false≢true (ap is_empty e))
-rooted_some (c ∷ path) (inr h) f = h
 
 pub rooted_none : (path : List ℕ) → (length path == 0) ≡ true → directory path ≡ codes "/"
 unfolding directory
@@ -186,7 +181,7 @@ before_closed path d = ap before_last_slash d.1 ∙ before_slash d.0 [] refl
 pub length_closed : (path : List ℕ) → (d : EndsInSlash path) → length path ≡ length d.0 + 1
 length_closed path d = ap length d.1 ∙ length-append d.0 (codes "/")
 
-pub first_slash : (path : List ℕ) → IsAbsolute path → get_or path 0 0 ≡ 47
+first_slash : (path : List ℕ) → IsAbsolute path → get_or path 0 0 ≡ 47
 first_slash [] h = absurd (false≢true (true_of _ h))
 first_slash (c ∷ path) h = eqb-true c 47 (true_of _ h)
 

@@ -78,7 +78,7 @@ plain_front : (xs ys : List (List ℕ)) → NoSlashes (xs ++ ys)
 plain_front xs ys e f =
     (and_parts _ _ (sym (list_all-append is_plain xs ys) ∙ plain_segments (xs ++ ys) e f)).0
 
-pub by_directory : (P : List ℕ → Type 0)
+by_directory : (P : List ℕ → Type 0)
     → ((xs : List (List ℕ)) → NoSlashes xs → Passes is_plain xs → P (slashed (xs ++ [] ∷ [])))
     → (path : List ℕ) → IsPlainDirectory path → P path
 by_directory P each path d = by_closed (λ path. lacks_dot_segments path ≡ true → P path)
@@ -156,11 +156,11 @@ before_closed : (xs : List (List ℕ)) → NoSlashes xs
 before_closed xs e = before_slashed (xs ++ [] ∷ []) (closed_lacks xs e)
     ∙ ap slashed (pop_push xs [])
 
-pub none_slashed : (xs : List (List ℕ)) → NoSlashes xs
+none_slashed : (xs : List (List ℕ)) → NoSlashes xs
     → is_empty (before_last_slash (slashed (xs ++ [] ∷ []))) ≡ is_none xs
 none_slashed xs e = ap is_empty (before_closed xs e) ∙ empty_slashed xs
 
-pub parent_slashed : (xs : List (List ℕ)) → NoSlashes xs
+parent_slashed : (xs : List (List ℕ)) → NoSlashes xs
     → slashed (pop xs ++ [] ∷ []) ≡ parent_directory (slashed (xs ++ [] ∷ []))
 parent_slashed xs e =
     slashed_push (pop xs) []

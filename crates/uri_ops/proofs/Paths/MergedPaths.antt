@@ -24,7 +24,7 @@ pub merged_absolute : (path y : List ℕ) → IsRooted path → IsAbsolute (dire
 merged_absolute path y h = absolute_append (directory path) y (directory_absolute path h)
 
 -- the base's path may be cleaned first
-pub removed_cleaned : (path y : List ℕ) → IsRooted path
+removed_cleaned : (path y : List ℕ) → IsRooted path
     → remove_dot_segments (directory path ++ y)
     ≡ remove_dot_segments (directory (cleaned_path path) ++ y)
 removed_cleaned path y h = ⊎_elim
@@ -81,7 +81,7 @@ module _ (set : TableSet) (w : IsComponentSet (codes "?#[]") set)
   part_merged path y h e f = part_behind (directory path) y (directory_ends path h)
       (part_directory set w.percent w.unreserved slash path h e) f
 
-  pub reprinted_merged : (path y : List ℕ) → IsRooted path → is_part set path ≡ true
+  reprinted_merged : (path y : List ℕ) → IsRooted path → is_part set path ≡ true
       → directory (reprinted set path) ++ reprinted set y ≡ reprinted set (directory path ++ y)
   reprinted_merged path y h e =
       ap (λ t. t ++ reprinted set y) (directory_reprinted set w.percent w.unreserved path h e)
@@ -89,7 +89,7 @@ module _ (set : TableSet) (w : IsComponentSet (codes "?#[]") set)
       (part_directory set w.percent w.unreserved slash path h e))
 
   -- the merged path of normal texts
-  pub read_merged : (authority : Option (List ℕ)) (path y : List ℕ) → IsRooted path
+  read_merged : (authority : Option (List ℕ)) (path y : List ℕ) → IsRooted path
       → is_part set path ≡ true → is_part set y ≡ true
       → read set (remove_dot_segments
       (directory (guarded authority (reprinted set (cleaned_path path))) ++ reprinted set y))

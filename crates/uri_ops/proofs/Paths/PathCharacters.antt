@@ -23,7 +23,7 @@ slashed_passes p slash (s ∷ rest) =
     ap (λ b. b && list_all p (s ++ slashed rest)) slash ∙ list_all-append p s (slashed rest)
     ∙ ap (λ b. list_all p s && b) (slashed_passes p slash rest)
 
-pub removed_passes : (p : ℕ → Bool) → p 47 ≡ true → (path : List ℕ) → IsAbsolute path
+removed_passes : (p : ℕ → Bool) → p 47 ≡ true → (path : List ℕ) → IsAbsolute path
     → list_all p path ≡ true → list_all p (remove_dot_segments path) ≡ true
 removed_passes p slash =
     by_segments (λ path. list_all p path ≡ true → list_all p (remove_dot_segments path) ≡ true)
@@ -45,7 +45,7 @@ closed_passes : (p : ℕ → Bool) → p 47 ≡ true → (text : List ℕ) → l
 closed_passes p slash text e = list_all-append p text (47 ∷ [])
     ∙ and_from _ _ e (and_from _ _ slash refl)
 
-pub directory_passes : (p : ℕ → Bool) → p 47 ≡ true → (path : List ℕ) → list_all p path ≡ true
+directory_passes : (p : ℕ → Bool) → p 47 ≡ true → (path : List ℕ) → list_all p path ≡ true
     → list_all p (directory path) ≡ true
 unfolding directory
 directory_passes p slash path e =

@@ -45,7 +45,7 @@ dot_first : (s : List ℕ) (rest : List (List ℕ))
 unfolding is_none steps step_of turn
 dot_first s rest = cleaned_front (codes "." ∷ []) (s ∷ rest) refl
 
-pub removed_guard : (path : List ℕ) → IsAbsolute path
+removed_guard : (path : List ℕ) → IsAbsolute path
     → remove_dot_segments (codes "/." ++ path) ≡ remove_dot_segments path
 unfolding slashed
 removed_guard =

@@ -60,7 +60,7 @@ parts_behind set s [] e = and_from _ _ (ap (is_part set) (sym (append-nil s)) �
 parts_behind set s (t ∷ rest) e = let p = part_cut set s (t ++ slashed rest) e in
     and_from _ _ p.0 (parts_behind set t rest p.1)
 
-pub parts_slashed : (set : TableSet) (segs : List (List ℕ)) → is_part set (slashed segs) ≡ true
+parts_slashed : (set : TableSet) (segs : List (List ℕ)) → is_part set (slashed segs) ≡ true
     → Passes (is_part set) segs
 unfolding slashed
 parts_slashed set [] e = refl
@@ -75,7 +75,7 @@ behind_part set slash s (t ∷ rest) e =
     let p = and_parts (is_part set s) (list_all (is_part set) (t ∷ rest)) e in
     part_join set slash s (t ++ slashed rest) p.0 (behind_part set slash t rest p.1)
 
-pub slashed_part : (set : TableSet) → set.ascii 47 ≡ true → (segs : List (List ℕ))
+slashed_part : (set : TableSet) → set.ascii 47 ≡ true → (segs : List (List ℕ))
     → Passes (is_part set) segs → is_part set (slashed segs) ≡ true
 unfolding slashed
 slashed_part set slash [] e = part_nil set
@@ -97,7 +97,7 @@ pub reprinted_first : (set : TableSet) (y : List ℕ) → reprinted set (47 ∷ 
 reprinted_first set y = reprinted-cut set [] y IsUtf8-nil
     ∙ ap (λ x. x ++ 47 ∷ reprinted set y) (reprinted-nil set)
 
-pub reprinted_slashed : (set : TableSet) (segs : List (List ℕ)) → Passes (is_part set) segs
+reprinted_slashed : (set : TableSet) (segs : List (List ℕ)) → Passes (is_part set) segs
     → reprinted set (slashed segs) ≡ slashed (map (reprinted set) segs)
 unfolding slashed
 reprinted_slashed set [] e = reprinted-nil set
@@ -119,7 +119,7 @@ module _ (set : TableSet) (lacks : LacksPercent set) (wide : IsSubset unreserved
       → has_slash (reprinted set s) ≡ false
   no_slash s e f = reprinted_lacks 47 set lacks wide refl refl s e f
 
-  pub no_slashes : (segs : List (List ℕ)) → Passes (is_part set) segs → NoSlashes segs
+  no_slashes : (segs : List (List ℕ)) → Passes (is_part set) segs → NoSlashes segs
       → NoSlashes (map (reprinted set) segs)
   no_slashes [] e f = refl
   no_slashes (s ∷ rest) e f =

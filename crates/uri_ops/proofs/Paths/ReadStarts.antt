@@ -27,7 +27,7 @@ pub record FirstSegment (text : List ℕ) : Type 0 where
   pub whole : text ≡ segment ++ 47 ∷ rest
   pub lacks : has_slash segment ≡ false
 
-pub first_segment : (text : List ℕ) → (has_slash text ≡ false) ⊎ FirstSegment text
+first_segment : (text : List ℕ) → (has_slash text ≡ false) ⊎ FirstSegment text
 first_segment [] = inl refl
 first_segment (c ∷ text) = ⊎_elim
     (λ e.

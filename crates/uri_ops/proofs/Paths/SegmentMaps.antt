@@ -10,13 +10,13 @@ use Rattle.uri_ops.proofs.Paths.Segments.{pop, is_none, turn, step_of, steps, en
 use Rattle.uri_ops.proofs.Paths.Segments.{cleaned, sunk, sinks, parent, Passes}
 
 module _ (f : List ℕ → List ℕ) where
-  pub pop_map : (xs : List (List ℕ)) → pop (map f xs) ≡ map f (pop xs)
+  pop_map : (xs : List (List ℕ)) → pop (map f xs) ≡ map f (pop xs)
   unfolding pop
   pop_map [] = refl
   pop_map (s ∷ []) = refl
   pop_map (s ∷ t ∷ rest) = ap (λ r. f s ∷ r) (pop_map (t ∷ rest))
 
-  pub none_map : (xs : List (List ℕ)) → is_none (map f xs) ≡ is_none xs
+  none_map : (xs : List (List ℕ)) → is_none (map f xs) ≡ is_none xs
   unfolding is_none
   none_map [] = refl
   none_map (s ∷ rest) = refl
@@ -51,7 +51,7 @@ module _ (f : List ℕ → List ℕ) (among : List ℕ → Bool)
       ∙ ap (λ b. turn (is_single_dot s) b (map f output) (f s)) k.double
       ∙ turn_map f (is_single_dot s) (is_double_dot s) output s
 
-  pub steps_map : (output segs : List (List ℕ)) → Passes among segs
+  steps_map : (output segs : List (List ℕ)) → Passes among segs
       → steps (map f output) (map f segs) ≡ map f (steps output segs)
   unfolding steps
   steps_map output [] e = refl

@@ -82,7 +82,7 @@ single_only s e = ⊎_elim (λ h. ap is_double_dot (same_of s (codes ".") h))
     (or_cases _ _ f)) (or_cases (bytes_eq s (codes ".")) _ e)
 
 -- one list after another
-pub steps_append : (output xs ys : List (List ℕ))
+steps_append : (output xs ys : List (List ℕ))
     → steps output (xs ++ ys) ≡ steps (steps output xs) ys
 unfolding steps
 steps_append output [] ys = refl
@@ -112,7 +112,7 @@ pub cleaned_closed : (xs : List (List ℕ)) → cleaned (xs ++ [] ∷ []) ≡ st
 unfolding steps step_of turn closing
 cleaned_closed xs = cleaned_append xs [] [] ∙ append-nil (steps [] xs ++ [] ∷ [])
 
-pub sinks_empty : (before : Bool) (output : List (List ℕ)) → sinks before output ([] ∷ []) ≡ before
+sinks_empty : (before : Bool) (output : List (List ℕ)) → sinks before output ([] ∷ []) ≡ before
 unfolding sinks sunk
 sinks_empty before output = refl
 
@@ -208,7 +208,7 @@ all_true (s ∷ rest) = all_true rest
 plain_kept : (s : List ℕ) → true ≡ true → is_dot_segment s ≡ false → is_plain s ≡ true
 plain_kept s e f = not_from_false _ f
 
-pub steps_are_plain : (segs : List (List ℕ)) → Passes is_plain (steps [] segs)
+steps_are_plain : (segs : List (List ℕ)) → Passes is_plain (steps [] segs)
 steps_are_plain segs = steps_pass is_plain (λ s. true) plain_kept [] segs refl (all_true segs)
 
 pub cleaned_is_plain : (segs : List (List ℕ)) → Passes is_plain (cleaned segs)
@@ -243,7 +243,7 @@ turn_parent false true output s only = sym (pop_push (pop output) [])
 turn_parent false false output s only =
     sym (ap pop (append-nil (output ++ s ∷ [])) ∙ pop_push output s)
 
-pub steps_parent : (output : List (List ℕ)) (s : List ℕ) (rest : List (List ℕ))
+steps_parent : (output : List (List ℕ)) (s : List ℕ) (rest : List (List ℕ))
     → steps output (parent (s ∷ rest)) ≡ pop (steps output (s ∷ rest) ++ closing (s ∷ rest))
 unfolding steps parent closing step_of
 steps_parent output s [] = parent_cond (is_double_dot s) output s

@@ -85,11 +85,11 @@ lone_lacks : (s : List ℕ) (rest : List (List ℕ)) → has_slash s ≡ false �
     → NoSlashes (s ∷ rest)
 lone_lacks s rest e f = and_from _ _ (not_from_false _ e) f
 
-pub segments_last : (s : List ℕ) → has_slash s ≡ false → segments (s ++ []) ≡ s ∷ []
+segments_last : (s : List ℕ) → has_slash s ≡ false → segments (s ++ []) ≡ s ∷ []
 unfolding slashed
 segments_last s e = segments_behind s [] (lone_lacks s [] e refl)
 
-pub segments_next : (s r : List ℕ) → has_slash s ≡ false → segments (s ++ 47 ∷ r) ≡ s ∷ segments r
+segments_next : (s r : List ℕ) → has_slash s ≡ false → segments (s ++ 47 ∷ r) ≡ s ∷ segments r
 segments_next s r e = ap (λ t. segments (s ++ t)) (sym (slashed_segments r))
     ∙ segments_behind s (segments r) (lone_lacks s (segments r) e (segments_lack r))
 

@@ -58,7 +58,7 @@ with_scheme P each c h = some c.scheme h
 module _ (set : TableSet) (w : IsComponentSet (codes "?#[]") set)
     (slash : set.ascii 47 ≡ true) where
   -- a path is read alike with its dot segments removed before or after
-  pub read_cleaned : (path : List ℕ) → is_part set path ≡ true
+  read_cleaned : (path : List ℕ) → is_part set path ≡ true
       → read set (cleaned_path (print (read set path))) ≡ read set (cleaned_path path)
   unfolding reprinted
   read_cleaned path e = ap (read set) (cleaned_reprinted set w slash path e)

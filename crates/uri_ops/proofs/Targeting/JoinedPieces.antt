@@ -19,7 +19,7 @@ use Rattle.uri_ops.proofs.Targeting.Targets.{absolute_append}
 use Rattle.uri_pct.proofs.Tests.{true_of, absent}
 
 -- a reference with an authority is after the base's scheme
-pub joined_beside : (b r : Components) → is_some r.scheme ≡ false → is_some r.authority ≡ true
+joined_beside : (b r : Components) → is_some r.scheme ≡ false → is_some r.authority ≡ true
     → joined b r ≡ record r { scheme = b.scheme }
 joined_beside b r s a = cond-false (is_some r.scheme) r _ s
     ∙ cond-true (is_some r.authority) (record r { scheme = b.scheme }) _ a

@@ -24,7 +24,7 @@ use Rattle.uri_ops.specs.declared.resolve.ResolveError.TheVariants as Of
 use Rattle.uri_ops.proofs.Targeting.Swaps.{resolved_alike}
 
 -- underflow that is allowed is no error
-pub refusal_where_allowed : (base r : Components) (error : ResolveError)
+refusal_where_allowed : (base r : Components) (error : ResolveError)
     → IsErrorFor true base r error → IsRefusalFor base r error
 refusal_where_allowed base r Of.BaseWithFragment h = h
 refusal_where_allowed base r Of.InvalidReferenceAgainstOpaqueBase h = h
@@ -52,15 +52,15 @@ module _ {A : Type 0} (f : List ℕ → A) where
   mapped_ok (Ok u) = refl
   mapped_ok (Err z) = refl
 
-  pub ok_alike : (x y : Result (List ℕ) Refusal) → mapped x ≡ mapped y → is_ok x ≡ is_ok y
+  ok_alike : (x y : Result (List ℕ) Refusal) → mapped x ≡ mapped y → is_ok x ≡ is_ok y
   ok_alike x y e = sym (mapped_ok x) ∙ ap is_ok e ∙ mapped_ok y
 
-  pub target_alike : (x y : Result (List ℕ) Refusal) (t : List ℕ) → mapped x ≡ mapped y → y ≡ Ok t
+  target_alike : (x y : Result (List ℕ) Refusal) (t : List ℕ) → mapped x ≡ mapped y → y ≡ Ok t
       → (u : List ℕ) × ((x ≡ Ok u) × (f u ≡ f t))
   target_alike (Ok u) y t e h = (u, (refl, same_value (f u) (f t) (mapped y) (sym e) (ap mapped h)))
   target_alike (Err z) y t e h = absurd (false≢true (ok_alike (Err z) y e ∙ ap is_ok h))
 
-  pub refusal_alike : (x y : Result (List ℕ) Refusal) (z : Refusal) → mapped x ≡ mapped y
+  refusal_alike : (x y : Result (List ℕ) Refusal) (z : Refusal) → mapped x ≡ mapped y
       → y ≡ Err z → x ≡ Err z
   refusal_alike (Ok u) y z e h = absurd (false≢true (sym (ok_alike (Ok u) y e ∙ ap is_ok h)))
   refusal_alike (Err w) y z e h = ap Err (same_refusal w z (mapped y) (sym e) (ap mapped h))

@@ -186,9 +186,6 @@ module _ (text : List ℕ) (p : Positions) (utf8 : IsUtf8 text) (at : AreAt text
   pub query_ends : IsCharBoundary text (before_fragment p)
   query_ends = mark_boundary text p at (before_fragment p) refl
 
-  pub query_ordered : p.path_end ≤ before_fragment p
-  query_ordered = omega (arith, length-query)
-
   pub query_piece : slice_range text p.path_end (before_fragment p)
       ≡ marked (codes "?") (components text).query []
   query_piece =

@@ -19,7 +19,7 @@ use Rattle.uri_pct.proofs.Tests.{none_part}
 use Rattle.uri_ops.proofs.Paths.DotRuns.{none_length}
 
 -- components with a scheme, each of which lacks the characters that end it
-pub record Fits (c : Components) : Type 0 where
+record Fits (c : Components) : Type 0 where
   pub some : is_some c.scheme ≡ true
   pub scheme : IfSome c.scheme (λ s. (0 < length s) × Lacks (codes ":/?#") s)
   pub authority : IfSome c.authority (λ a. Lacks (codes "/?#") a × IsRooted c.path)

@@ -171,8 +171,7 @@ fn push_cased(table: &Table, lowers: bool, text: &str, out: &mut String) -> Resu
 /// characters of bidirectional text as octets.
 ///
 /// After an error, part of it may have been appended.
-#[doc(hidden)]
-pub fn push_read(table: &Table, text: &str, out: &mut String) -> Result<(), AllocError>
+pub(crate) fn push_read(table: &Table, text: &str, out: &mut String) -> Result<(), AllocError>
     requires { IsValidFor widest_set text.now }
     ensures { OnOk result (Pushes out.old out.new (print (read (set_of table.now) text.now))) }
 {
@@ -182,8 +181,7 @@ pub fn push_read(table: &Table, text: &str, out: &mut String) -> Result<(), Allo
 /// Appends what is read of a component over its encoder, as `push_read` does.
 ///
 /// After an error, part of it may have been appended.
-#[doc(hidden)]
-pub fn push_component<E: Encoder>(
+pub(crate) fn push_component<E: Encoder>(
     component: EStr<'_, E>,
     out: &mut String,
 ) -> Result<(), AllocError>
@@ -196,8 +194,7 @@ pub fn push_component<E: Encoder>(
 /// those that octets spell.
 ///
 /// After an error, part of it may have been appended.
-#[doc(hidden)]
-pub fn push_read_host(table: &Table, text: &str, out: &mut String) -> Result<(), AllocError>
+pub(crate) fn push_read_host(table: &Table, text: &str, out: &mut String) -> Result<(), AllocError>
     requires { IsValidFor widest_set text.now }
     ensures { OnOk result (Pushes out.old out.new
         (print (map lower_token (read (set_of table.now) text.now)))) }
@@ -219,8 +216,7 @@ fn lower_len(text: &str) -> usize
 
 /// Appends the text with its ASCII letters in lower case: runs without upper case as they are,
 /// and between them a letter.
-#[doc(hidden)]
-pub fn push_lower(text: &str, out: &mut String) -> Result<(), AllocError>
+pub(crate) fn push_lower(text: &str, out: &mut String) -> Result<(), AllocError>
     ensures { OnOk result (Pushes out.old out.new (str_to_ascii_lowercase text.now)) }
 {
     let mut rest = text;

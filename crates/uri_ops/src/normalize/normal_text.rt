@@ -204,8 +204,7 @@ fn push_normal_path<E: PathEncoder>(
 /// whether the removal of its dot segments underflows.
 ///
 /// After an error, part of it may have been appended.
-#[doc(hidden)]
-pub fn push_normal<K: Kind, P: DefaultPort>(
+pub(crate) fn push_normal<K: Kind, P: DefaultPort>(
     core: Core<K, &str>,
     ports: &P,
     out: &mut String,

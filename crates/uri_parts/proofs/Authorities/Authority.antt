@@ -112,7 +112,7 @@ host_cut host tail (inr lacks) begins =
     begins in
     (cond-false _ _ _ s ∙ cut.0, cond-false _ _ _ s ∙ cut.1)
 
-pub literal_outside : (excludes ipv_future_set (codes "]") ≡ true)
+literal_outside : (excludes ipv_future_set (codes "]") ≡ true)
     × (excludes ipv_future_set (codes "@") ≡ true)
 literal_outside = (refl, refl)
 

@@ -151,10 +151,6 @@ user_place users names text t l =
     let w = holds users names text t in
     user_lies users p.userinfo (p.host ++ port_text p.port) text w.whole w.userinfo l
 
-pub no_user : (userinfo : Option (List ℕ)) → marked_length 1 userinfo ≡ 0 → None ≡ userinfo
-no_user None e = refl
-no_user (Some user) e = absurd (omega arith)
-
 pub some_user : (userinfo : Option (List ℕ))
     → not (eqb (marked_length 1 userinfo) 0) ≡ is_some userinfo
 some_user None = refl

@@ -99,7 +99,7 @@ module _ (segment : TableSet) (kind : Kind) (w : Separates segment kind) where
       sum
 
   -- what begins with `[` is no userinfo
-  pub literal_first : (rest : List ℕ) → starts 91 rest ≡ true → from_host kind rest ≡ rest
+  literal_first : (rest : List ℕ) → starts 91 rest ≡ true → from_host kind rest ≡ rest
   unfolding host_place
   literal_first rest e = ap (λ n. drop n rest) (cond-true _ _ _ e)
 

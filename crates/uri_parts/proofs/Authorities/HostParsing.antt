@@ -40,7 +40,7 @@ use Rattle.uri_parts.proofs.Authorities.NamesAndPorts.{utf8_before, port_parses,
 use Rattle.uri_parts.proofs.Authorities.NamesAndPorts.{port_stuck, port_begins, port_lacks}
 use Rattle.uri_parts.proofs.Authorities.NamesAndPorts.{name_valid}
 
-pub literal_lacks : (marks : List ℕ) → excludes ipv_future_set marks ≡ true → (address : List ℕ)
+literal_lacks : (marks : List ℕ) → excludes ipv_future_set marks ≡ true → (address : List ℕ)
     → IsUtf8 address → is_literal address ≡ true → Lacks marks address
 unfolding is_literal
 literal_lacks marks outside address u h = ⊎_elim

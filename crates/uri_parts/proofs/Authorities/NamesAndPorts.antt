@@ -92,7 +92,7 @@ unfolding begins_any
 begins_is marks [] b = refl
 begins_is marks (c ∷ rest) b = b
 
-pub parses_to : (marks : List ℕ) (set : TableSet) → LacksPercent set → excludes set marks ≡ true
+parses_to : (marks : List ℕ) (set : TableSet) → LacksPercent set → excludes set marks ≡ true
     → (bs : List ℕ) → IsUtf8 bs
     → begins_any marks (after set bs) ≡ is_valid_for set (before_any marks bs)
 unfolding begins_any

@@ -35,7 +35,7 @@ all_digits (d ∷ digits) e =
     (list_all (is_plain_char is_ascii_digit) digits) e in
     (is_digit d p.0, all_digits digits p.1)
 
-pub valid_digits : (digits : List ℕ) → IsUtf8 digits → IsValidFor digit_set digits
+valid_digits : (digits : List ℕ) → IsUtf8 digits → IsValidFor digit_set digits
     → AllDigits 10 digits
 valid_digits digits u v = all_digits digits (sym (valid_plain is_ascii_digit refl digits u) ∙ v)
 

@@ -55,7 +55,7 @@ nil_ok : is_address_text [] ≡ true
 unfolding is_address_text
 nil_ok = refl
 
-pub address_text-ipv4 : (text octets : List ℕ) → IsDotted text octets → is_address_text text ≡ true
+address_text-ipv4 : (text octets : List ℕ) → IsDotted text octets → is_address_text text ≡ true
 address_text-ipv4 text octets h =
     let dot = mark_ok.0 in
     let first = both _ _ (both _ _ (decimal_ok h.a h.fit.0) dot) (decimal_ok h.b h.fit.1) in

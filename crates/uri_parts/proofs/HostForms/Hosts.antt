@@ -35,7 +35,7 @@ letter_other : (c : ℕ) → is_one_of (codes "vV") c ≡ true → is_address_ch
 unfolding is_address_char
 letter_other c e h = grind (arith, nat_tests)
 
-pub future_no_ipv6 : (text : List ℕ) → IsIpvFuture text → ipv6_value text ≡ None
+future_no_ipv6 : (text : List ℕ) → IsIpvFuture text → ipv6_value text ≡ None
 future_no_ipv6 text h = ⊎_elim
     (λ n. n)
     (λ (segments, e).
@@ -44,7 +44,7 @@ future_no_ipv6 text h = ⊎_elim
     (address_text-first h.letter _ (subst (λ t. is_address_text t ≡ true) h.whole ok))))
     (value_cases (ipv6_value text))
 
-pub no_ipv4 : (text : List ℕ) → ((octets : List ℕ) → ¬ (IsIpv4Text text octets))
+no_ipv4 : (text : List ℕ) → ((octets : List ℕ) → ¬ (IsIpv4Text text octets))
     → ipv4_value text ≡ None
 no_ipv4 text h = ⊎_elim
     (λ n. n)
@@ -84,7 +84,7 @@ lacks_starts marks (d ∷ text) c m h = ⊎_elim
     (λ e. e)
     (cases_Bool (eqb d c))
 
-pub literal_sound : (names : TableSet) (text address : List ℕ) → text ≡ bracketed address
+literal_sound : (names : TableSet) (text address : List ℕ) → text ≡ bracketed address
     → (is_some (ipv6_value address) || is_ipv_future address) ≡ true
     → IsHost names text (literal_kind (ipv6_value address))
 literal_sound names text address e t = ⊎_elim

@@ -21,7 +21,7 @@ flip a b e = eq-eqb a b (sym (eqb-true b a e))
 flip_false : (a b : ℕ) → eqb b a ≡ false → eqb a b ≡ false
 flip_false a b e = ne_eqb a b (λ d. both_ways _ e (eq-eqb b a (sym d)))
 
-pub hash : (b : ℕ) → is_one_of (codes "#") b ≡ eqb 35 b
+hash : (b : ℕ) → is_one_of (codes "#") b ≡ eqb 35 b
 hash b = or_false _
 
 one_of_two : (b : ℕ) → is_one_of (codes "?#") b ≡ true → eqb b 63 ≡ false → eqb b 35 ≡ true
@@ -29,14 +29,6 @@ one_of_two b e q = grind (arith, nat_tests)
 
 none_of_two : (b : ℕ) → is_one_of (codes "?#") b ≡ false → (eqb b 63 ≡ false) × (eqb b 35 ≡ false)
 none_of_two b e = (grind (arith, nat_tests), grind (arith, nat_tests))
-
-none_of_three : (b : ℕ) → is_one_of (codes "/?#") b ≡ false
-    → (eqb b 47 ≡ false) × (is_one_of (codes "?#") b ≡ false)
-none_of_three b e = (grind (arith, nat_tests), grind (arith, nat_tests))
-
-one_of_three : (b : ℕ) → is_one_of (codes "/?#") b ≡ true → eqb b 47 ≡ false
-    → is_one_of (codes "?#") b ≡ true
-one_of_three b e s = grind (arith, nat_tests)
 
 pub none_of_four : (b : ℕ) → is_one_of (codes ":/?#") b ≡ false
     → (is_one_of (codes ":/") b ≡ false) × (is_one_of (codes "?#") b ≡ false)

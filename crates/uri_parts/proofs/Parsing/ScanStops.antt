@@ -70,7 +70,7 @@ module _ (marks : List ℕ) (set : TableSet) (lacks : LacksPercent set)
       }))
       (cases_eq n m)
 
-  pub no_stray : (bs : List ℕ) → is_stray set (from_any marks bs) ≡ false
+  no_stray : (bs : List ℕ) → is_stray set (from_any marks bs) ≡ false
   no_stray bs = from_mark marks (λ r. is_stray set r ≡ false) (and_right _ _ refl)
       (λ b rest m. and_right _ _ (mark_percent set marks outside b m)) bs
 

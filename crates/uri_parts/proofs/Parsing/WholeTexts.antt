@@ -80,11 +80,11 @@ pub alpha_colon : (text : List ℕ) → starts 58 text ≡ true
 alpha_colon [] e = absurd (false≢true e)
 alpha_colon (b ∷ rest) e = ap is_ascii_alphabetic (eqb-true b 58 e)
 
-pub behind_some : (text : List ℕ) → has_scheme text ≡ true
+behind_some : (text : List ℕ) → has_scheme text ≡ true
     → after_scheme text ≡ drop 1 (from_any (codes ":/?#") text)
 behind_some text e = cond-true _ _ _ e
 
-pub behind_none : (text : List ℕ) → has_scheme text ≡ false → after_scheme text ≡ text
+behind_none : (text : List ℕ) → has_scheme text ≡ false → after_scheme text ≡ text
 behind_none text e = cond-false _ _ _ e
 
 scheme_ok : List ℕ → Bool

@@ -25,7 +25,7 @@ use Rattle.uri_parts.proofs.HostForms.AddressParsing.{dotted as dotted_with}
 use Rattle.uri_parts.proofs.Refusals.GroupTurns.{none_left, ends, elides, dotted, goes_on}
 
 -- what stands before a group
-abbrev pub lead : Bool → List ℕ
+abbrev lead : Bool → List ℕ
 lead true = []
 lead false = 58 ∷ []
 

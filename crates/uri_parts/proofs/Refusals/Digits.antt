@@ -77,7 +77,7 @@ no_plus (c ∷ bs) h = ap (λ n. drop n (c ∷ bs)) (cond-false (c == 43) 1 0 (n
 at_most : (m n : ℕ) → (m ≤ n) ⊎ (n < m)
 at_most m n = ⊎_elim (λ l. inr l) (λ l. inl l) (cases_lt n m)
 
-pub octet_read : {E : Type 0} (bs : List ℕ) (r : Result ℕ E) → AllDigits 10 bs
+octet_read : {E : Type 0} (bs : List ℕ) (r : Result ℕ E) → AllDigits 10 bs
     → ParsesUnsigned 8 10 bs r
     → is_ok r ≡ (nat_lt 0 (length bs) && nat_le (digits_value 10 bs) 255)
 octet_read bs (Ok n) h p =

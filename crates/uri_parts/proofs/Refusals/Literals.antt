@@ -86,7 +86,7 @@ module _ (text : List ℕ) (i : ℕ) where
   error_none some e = closed_as some ∙ ap (closed text i) e
 
   -- what is read so with a `]` behind it is parsed
-  pub read_parsed : (end : ℕ) → ipv6_end text i ≡ Some end → starts 93 (drop end text) ≡ true
+  read_parsed : (end : ℕ) → ipv6_end text i ≡ Some end → starts 93 (drop end text) ≡ true
       → parses_literal (drop i text) ≡ true
   read_parsed end e c =
       let w = ipv6_sound text i end e c in

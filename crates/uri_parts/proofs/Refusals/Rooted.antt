@@ -33,7 +33,7 @@ pub record Adjoins (kind : Kind) : Type 0 where
       → allows_first kind.reg_name b bs ≡ false → allows_first kind.userinfo b bs ≡ false
 
 -- what is read and what follows, by whether a `%` is stray
-pub bind_if : (stray : Bool) (e : ParseError) (end : ℕ) (next : ℕ → Refusal)
+bind_if : (stray : Bool) (e : ParseError) (end : ℕ) (next : ℕ → Refusal)
     → (cond stray (Err e) (Ok end) >>= next) ≡ cond stray (Some e) (next end)
 bind_if true e end next = refl
 bind_if false e end next = refl
@@ -45,7 +45,7 @@ pub scan_if : (text : List ℕ) (set : TableSet) (i : ℕ) (next : ℕ → Refus
 scan_if text set i next = bind_if (set.pct_encoded && is_next text 37 (scan_end text set i))
     (stray_percent (scan_end text set i)) (scan_end text set i) next
 
-pub bind_same : (r : End) (f g : ℕ → Refusal) → ((n : ℕ) → f n ≡ g n) → (r >>= f) ≡ (r >>= g)
+bind_same : (r : End) (f g : ℕ → Refusal) → ((n : ℕ) → f n ≡ g n) → (r >>= f) ≡ (r >>= g)
 bind_same (Ok n) f g h = h n
 bind_same (Err e) f g h = refl
 
@@ -149,7 +149,7 @@ module _ (segment : TableSet) (kind : Kind) (w : Separates segment kind) (a : Ad
       let o = other (drop p text) e in
       cond-false _ _ _ o.question ∙ cond-false _ _ _ o.number ∙ cond-false _ _ _ o.some
 
-  pub rooted_other : (p : ℕ) → begins_any (codes "/?#") (drop p text) ≡ false
+  rooted_other : (p : ℕ) → begins_any (codes "/?#") (drop p text) ≡ false
       → from_rooted_path kind text p ≡ left_over_error kind text p
   rooted_other p e =
       let o = other (drop p text) e in
@@ -182,7 +182,7 @@ module _ (segment : TableSet) (kind : Kind) (w : Separates segment kind) (a : Ad
       omega (arith, l) ∙ sym (cond-false _ _ _ e))
       (cases_Bool (is_next text 58 n))
 
-  pub port_is : (n : ℕ) → port_error kind text n ≡ from_port kind text n
+  port_is : (n : ℕ) → port_error kind text n ≡ from_port kind text n
   unfolding port_error from_port
   port_is n = rooted_error (n + port_length (drop n text)) ∙ ap (from_rooted_path kind text) (port_end n)
 

@@ -141,7 +141,7 @@ module _ (text : List ℕ) where
   lead true = []
   lead false = 58 ∷ []
 
-  pub record Reads (ipv4 : Bool) (room : ℕ) (is_first : Bool) (i m : ℕ) (behind : List ℕ) : Type 0 where
+  record Reads (ipv4 : Bool) (room : ℕ) (is_first : Bool) (i m : ℕ) (behind : List ℕ) : Type 0 where
     pub groups : List ℕ
     pub segments : List ℕ
     pub split : drop i text ≡ groups ++ behind
@@ -242,7 +242,7 @@ module _ (text : List ℕ) where
         count = omega arith;
       }
 
-  pub sound : (room : ℕ) (is_first : Bool) (i : ℕ)
+  sound : (room : ℕ) (is_first : Bool) (i : ℕ)
       → Sound room is_first i (groups_from text room is_first i)
   sound zero is_first i =
       subst (Sound zero is_first i) (sym (none_left text zero is_first i refl))

@@ -163,7 +163,7 @@ module _ (text : List ℕ) (p : Positions) (at : AreAt text p) (mark : ℕ)
       (boundary text (before_hash c) (fragment_text c.fragment) whole
       (Begins-fragment_text c.fragment))
 
-  pub taken : take mark text ≡ before_hash (components text)
+  taken : take mark text ≡ before_hash (components text)
   taken =
       let c = components text in
       ap (λ n. take n text) (sym mark_at) ∙ ap (take (length (before_hash c))) whole

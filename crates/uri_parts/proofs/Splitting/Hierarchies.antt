@@ -21,7 +21,7 @@ module _ (segment : TableSet) (kind : Kind) (w : Separates segment kind) where
   behind_found bs u h = ap (λ n. drop n bs)
       ((is_found segment kind w bs u h).len ∙ length-before (codes "/?#") bs)
 
-  pub found_is : (bs : List ℕ) → IsUtf8 bs
+  found_is : (bs : List ℕ) → IsUtf8 bs
       → finds_authority kind bs ≡ is_authority kind (before_any (codes "/?#") bs)
   found_is bs u = accepts segment kind w bs u
       ∙ sym (authority_parses kind.userinfo kind.reg_name (before_any (codes "/?#") bs))

@@ -91,10 +91,10 @@ LiesAt-behind_mark text before part behind c start end whole at_start at_end asc
     rw (whole, at_start) (after_mark before (part ++ behind) c ascii valid) in
     LiesAt-between text (before ++ (c ∷ [])) part behind start end joined n at_end starts begins
 
-abbrev pub scheme_text : Option (List ℕ) → List ℕ
+abbrev scheme_text : Option (List ℕ) → List ℕ
 scheme_text scheme = marked [] scheme (codes ":")
 
-abbrev pub marked_authority : Option (List ℕ) → List ℕ
+abbrev marked_authority : Option (List ℕ) → List ℕ
 marked_authority authority = marked (codes "//") authority []
 
 length-scheme_text : (scheme : Option (List ℕ))
@@ -187,7 +187,7 @@ path_lies text scheme authority path behind whole utf8 rooted begins =
     (end_mark behind begins)
 
 -- the text up to the end of the path
-abbrev pub hierarchy_text : Option (List ℕ) → Option (List ℕ) → List ℕ → List ℕ
+abbrev hierarchy_text : Option (List ℕ) → Option (List ℕ) → List ℕ → List ℕ
 hierarchy_text scheme authority path = (scheme_text scheme ++ marked_authority authority) ++ path
 
 length-hierarchy_text : (scheme authority : Option (List ℕ)) (path : List ℕ)

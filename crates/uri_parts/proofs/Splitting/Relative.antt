@@ -37,7 +37,7 @@ pub stops_at_colon : (set : TableSet) → LacksPercent set → excludes set (cod
 stops_at_colon = stops_at (codes ":/?#") 58 refl
 
 -- nothing is scanned of a text that begins with `:`
-pub at_colon : (set : TableSet) → LacksPercent set → excludes set (codes ":/?#") ≡ true
+at_colon : (set : TableSet) → LacksPercent set → excludes set (codes ":/?#") ≡ true
     → (bs : List ℕ) → starts 58 bs ≡ true → after set bs ≡ bs
 at_colon set lacks outside [] e = absurd (false≢true e)
 at_colon set lacks outside (b ∷ rest) e =

@@ -137,12 +137,12 @@ needed_or_not : (needed present other : Bool) → (present || (not needed && oth
 needed_or_not needed true other h = refl
 needed_or_not needed false other h = (and_parts (not needed) other h).1
 
-pub scheme_there : (kind : Kind) (text : List ℕ) → kind.needs_scheme ≡ true → IsOfKind kind text
+scheme_there : (kind : Kind) (text : List ℕ) → kind.needs_scheme ≡ true → IsOfKind kind text
     → is_some (components text).scheme ≡ true
 scheme_there kind text n h = with_scheme kind.needs_scheme (is_some (components text).scheme) _ n
     (and_parts _ _ h).1
 
-pub is_reference : (kind : Kind) (text : List ℕ) → IsOfKind kind text
+is_reference : (kind : Kind) (text : List ℕ) → IsOfKind kind text
     → IsOfKind (record kind { needs_scheme = false }) text
 is_reference kind text h =
     let parts = and_parts _ _ h in
@@ -164,12 +164,6 @@ iri_is_iri_ref text h = is_reference iri text h
 pub empty_is_reference : (kind : Kind) → kind.needs_scheme ≡ false → IsOfKind kind []
 unfolding is_valid_for tokens_of chars
 empty_is_reference kind n = ap (λ needed. not needed && true) n
-
-pub empty_is_uri_ref : IsOfKind uri_ref []
-empty_is_uri_ref = empty_is_reference uri_ref refl
-
-pub empty_is_iri_ref : IsOfKind iri_ref []
-empty_is_iri_ref = empty_is_reference iri_ref refl
 
 -- a URI is a URI reference with a scheme, and an IRI an IRI reference with one
 pub ruleset uri_laws = (uri_is_uri_ref, uri_has_scheme)

@@ -65,7 +65,7 @@ chunks_of-chars c (d ∷ cs) ts = ap (onto_chunks (encode_utf8 c)) (chunks_of-ch
     ∙ onto-onto (encode_utf8 c) (encode_utf8_all (d ∷ cs)) (chunks_of ts)
 
 -- no text comes first
-abbrev pub BeginsApart : List Chunk → Type 0
+abbrev BeginsApart : List Chunk → Type 0
 BeginsApart ps = (text : List ℕ) → onto_chunks text ps ≡ Text text ∷ ps
 
 -- an octet at the start of a text
@@ -134,7 +134,7 @@ octet_behind rest u v =
     (chars-ascii 37 rest (lit< tt))) ∙ v))
 
 -- each `%` of a text that decodes begins an octet
-pub octet_first : (text : List ℕ) → IsUtf8 text → IsValidFor widest_set text → 0 < length text
+octet_first : (text : List ℕ) → IsUtf8 text → IsValidFor widest_set text → 0 < length text
     → get_or text 0 0 ≡ 37 → BeginsOctet text
 octet_first [] u v some e = absurd (omega arith)
 octet_first (b ∷ rest) u v some e =
@@ -252,7 +252,7 @@ text_parts text n u v e some =
     }
 
 -- a text that does not begin with `%` begins with a chunk that ends where the first `%` stands
-pub text_first : (text : List ℕ) (n : ℕ) → IsUtf8 text → IsValidFor widest_set text
+text_first : (text : List ℕ) (n : ℕ) → IsUtf8 text → IsValidFor widest_set text
     → 0 < length text → get_or text 0 0 ≢ 37 → n ≡ text_len text → BeginsText text n
 text_first text n u v some other e =
     text_parts text n u v e

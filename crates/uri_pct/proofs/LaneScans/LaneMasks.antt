@@ -61,7 +61,7 @@ no_bit_there (suc (suc b)) k h = absurd (omega arith)
 no_bit_past : (n k : ℕ) → k ≡ 0 → eqb (bit_and n k) 0 ≡ true
 no_bit_past n k e = rw e (ap (λ x. eqb x 0) (and_zero_r n))
 
-pub lane_is : (low high b : ℕ) → low < 2 ^ 64
+lane_is : (low high b : ℕ) → low < 2 ^ 64
     → eqb (bit_and (get_or (bytes_of_masks low high) (b / 8 % 16) 0) (bit_of b)) 0
     ≡ not (has_bit low high b)
 unfolding bit_of

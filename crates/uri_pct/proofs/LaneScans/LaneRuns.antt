@@ -46,7 +46,7 @@ marks_behind test bs i w s mask m = record {
 abbrev pub mark : Bool → ℕ
 mark b = cond (not b) 1 0
 
-pub unmarked : (b : Bool) → mark b ≡ 0 → b ≡ true
+unmarked : (b : Bool) → mark b ≡ 0 → b ≡ true
 unmarked true e = refl
 unmarked false e = absurd (omega arith)
 
@@ -59,7 +59,7 @@ module _ (test : ℕ → Bool) (bs : List ℕ) (i w mask : ℕ) (m : LaneMarks t
   at k from to e = unmarked _ (ap (λ n. cond (not (test (get_or bs n 0))) 1 0) (omega arith)
       ∙ sym (m.lane (k - i) (omega arith)) ∙ e)
 
-  pub all_pass : mask ≡ 0 → (k : ℕ) → i ≤ k → k < i + w → test (get_or bs k 0) ≡ true
+  all_pass : mask ≡ 0 → (k : ℕ) → i ≤ k → k < i + w → test (get_or bs k 0) ≡ true
   all_pass e k from to = at k from to (ap (λ n. bit_at n (k - i)) e ∙ bit_at-zero (k - i))
 
   module _ (some : 0 < mask) (small : w ≤ 64) where
@@ -68,7 +68,7 @@ module _ (test : ℕ → Bool) (bs : List ℕ) (i w mask : ℕ) (m : LaneMarks t
     place = bit_at-trailing_zeros w64 mask some
         (omega (arith, m.below, pow_mono {i = w} {j = 64} small))
 
-    pub first_within : trailing_zeros w64 mask < w
+    first_within : trailing_zeros w64 mask < w
     first_within = ⊎_elim
         (λ (h : trailing_zeros w64 mask < w). h)
         (λ (h : w ≤ trailing_zeros w64 mask). let e =
@@ -76,15 +76,15 @@ module _ (test : ℕ → Bool) (bs : List ℕ) (i w mask : ℕ) (m : LaneMarks t
         absurd (omega arith))
         (cases_lt (trailing_zeros w64 mask) w)
 
-    pub first_passes : (k : ℕ) → i ≤ k → k < i + trailing_zeros w64 mask
+    first_passes : (k : ℕ) → i ≤ k → k < i + trailing_zeros w64 mask
         → test (get_or bs k 0) ≡ true
     first_passes k from to = at k from (omega (arith, first_within)) (place.2 (k - i) (omega arith))
 
-    pub first_stops : test (get_or bs (i + trailing_zeros w64 mask) 0) ≡ false
+    first_stops : test (get_or bs (i + trailing_zeros w64 mask) 0) ≡ false
     first_stops = marked _ (sym (m.lane (trailing_zeros w64 mask) first_within) ∙ place.1)
 
 -- a run of bytes that pass, and then another
-pub both_pass : (test : ℕ → Bool) (bs : List ℕ) (a m b : ℕ)
+both_pass : (test : ℕ → Bool) (bs : List ℕ) (a m b : ℕ)
     → ((k : ℕ) → a ≤ k → k < m → test (get_or bs k 0) ≡ true)
     → ((k : ℕ) → m ≤ k → k < b → test (get_or bs k 0) ≡ true) → (k : ℕ) → a ≤ k → k < b
     → test (get_or bs k 0) ≡ true

@@ -33,7 +33,7 @@ formatting_scalar : (c : ℕ) → is_bidi_formatting c ≡ true → (128 ≤ c) 
 unfolding is_bidi_formatting
 formatting_scalar c e = (grind (arith, nat_tests), grind (arith, nat_tests))
 
-pub never_literal : (set : TableSet) (c : ℕ) → is_never_literal set c ≡ true
+never_literal : (set : TableSet) (c : ℕ) → is_never_literal set c ≡ true
     → (set.ucschar ≡ true) × ((set.pct_encoded ≡ true) × (is_bidi_formatting c ≡ true))
 unfolding is_never_literal
 never_literal set c e =
@@ -79,7 +79,7 @@ off_formatting true false = refl
 off_formatting false y = refl
 
 -- a character of ASCII stays
-pub ascii_literal : (set : TableSet) (c : ℕ) → c < 128
+ascii_literal : (set : TableSet) (c : ℕ) → c < 128
     → formatting_as_octets set (Char c) ≡ Char c ∷ []
 unfolding is_never_literal
 ascii_literal set c h = cond-false _ _ _

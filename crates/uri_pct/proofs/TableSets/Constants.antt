@@ -25,46 +25,46 @@ by_masks low high pct_encoded test same none =
     same_set (has_bit low high) test pct_encoded false false (has_bit_is low high test same none)
 
 -- no character past ASCII is in a rule
-pub alphabetic_past : (c : ℕ) → 128 ≤ c → is_ascii_alphabetic c ≡ false
+alphabetic_past : (c : ℕ) → 128 ≤ c → is_ascii_alphabetic c ≡ false
 alphabetic_past c h = grind (arith, nat_tests)
 
-pub digit_past : (c : ℕ) → 128 ≤ c → is_ascii_digit c ≡ false
+digit_past : (c : ℕ) → 128 ≤ c → is_ascii_digit c ≡ false
 digit_past c h = grind (arith, nat_tests)
 
 pub hexdigit_past : (c : ℕ) → 128 ≤ c → is_ascii_hexdigit c ≡ false
 hexdigit_past c h = grind (arith, nat_tests)
 
-pub scheme_past : (c : ℕ) → 128 ≤ c → is_scheme_char c ≡ false
+scheme_past : (c : ℕ) → 128 ≤ c → is_scheme_char c ≡ false
 scheme_past c h = grind (arith, nat_tests)
 
-pub userinfo_past : (c : ℕ) → 128 ≤ c → is_userinfo_char c ≡ false
+userinfo_past : (c : ℕ) → 128 ≤ c → is_userinfo_char c ≡ false
 userinfo_past c h = grind (arith, nat_tests)
 
-pub reg_name_past : (c : ℕ) → 128 ≤ c → is_reg_name_char c ≡ false
+reg_name_past : (c : ℕ) → 128 ≤ c → is_reg_name_char c ≡ false
 reg_name_past c h = grind (arith, nat_tests)
 
-pub path_past : (c : ℕ) → 128 ≤ c → is_path_char c ≡ false
+path_past : (c : ℕ) → 128 ≤ c → is_path_char c ≡ false
 path_past c h = grind (arith, nat_tests)
 
-pub segment_nz_nc_past : (c : ℕ) → 128 ≤ c → is_segment_nz_nc_char c ≡ false
+segment_nz_nc_past : (c : ℕ) → 128 ≤ c → is_segment_nz_nc_char c ≡ false
 segment_nz_nc_past c h = grind (arith, nat_tests)
 
-pub pchar_past : (c : ℕ) → 128 ≤ c → is_pchar c ≡ false
+pchar_past : (c : ℕ) → 128 ≤ c → is_pchar c ≡ false
 pchar_past c h = grind (arith, nat_tests)
 
-pub query_past : (c : ℕ) → 128 ≤ c → is_query_char c ≡ false
+query_past : (c : ℕ) → 128 ≤ c → is_query_char c ≡ false
 query_past c h = grind (arith, nat_tests)
 
 pub unreserved_past : (c : ℕ) → 128 ≤ c → is_unreserved c ≡ false
 unreserved_past c h = grind (arith, nat_tests)
 
-pub reserved_past : (c : ℕ) → 128 ≤ c → is_reserved c ≡ false
+reserved_past : (c : ℕ) → 128 ≤ c → is_reserved c ≡ false
 reserved_past c h = grind (arith, nat_tests)
 
-pub gen_delim_past : (c : ℕ) → 128 ≤ c → is_gen_delim c ≡ false
+gen_delim_past : (c : ℕ) → 128 ≤ c → is_gen_delim c ≡ false
 gen_delim_past c h = grind (arith, nat_tests)
 
-pub sub_delim_past : (c : ℕ) → 128 ≤ c → is_sub_delim c ≡ false
+sub_delim_past : (c : ℕ) → 128 ≤ c → is_sub_delim c ≡ false
 sub_delim_past c h = grind (arith, nat_tests)
 
 pub alpha_table : set_of_masks 0x0000000000000000 0x07FFFFFE07FFFFFE false false false ≡ alpha_set

@@ -8,10 +8,10 @@ use Rattle.std.proofs.lemmas.Bool.{cases_lt, and_left, and_right, or_from, lt-le
 use Rattle.std.proofs.lemmas.Bool.Decides.{nat_tests}
 use Rattle.uri_pct.specs.Sets.{is_ucschar, is_iprivate}
 
-pub below_range : (low high c : ℕ) → c < low → is_in_range low high c ≡ false
+below_range : (low high c : ℕ) → c < low → is_in_range low high c ≡ false
 below_range low high c h = and_left (leb low c) (leb c high) (lt-leb low c h)
 
-pub above_range : (low high c : ℕ) → high < c → is_in_range low high c ≡ false
+above_range : (low high c : ℕ) → high < c → is_in_range low high c ≡ false
 above_range low high c h = and_right (leb low c) (leb c high) (lt-leb c high h)
 
 -- `others`, or a character of one of the planes 1 to n that is not among the last two of its plane
@@ -76,7 +76,7 @@ ucschar_low c h =
 none_low : (c : ℕ) → 65536 ≤ c → is_low_ucschar c ≡ false
 none_low c h = grind (arith, nat_tests)
 
-pub ucschar_high : (c : ℕ) → 65536 ≤ c
+ucschar_high : (c : ℕ) → 65536 ≤ c
     → is_ucschar c ≡ (in_planes false 13 c || is_in_range 0xE1000 0xEFFFD c)
 ucschar_high c h = ucschar_by_planes c
     ∙ ap (λ b. in_planes b 13 c || is_in_range 0xE1000 0xEFFFD c) (none_low c h)

@@ -101,7 +101,7 @@ pub outside : (b : ℕ) → (b < 0x80) ⊎ (0xC0 ≤ b) → is_within continuati
 outside b h = ⊎_elim (λ low. and_left _ _ (lt-leb 0x80 b low))
     (λ high. and_right _ _ (lt-leb b 0xBF (omega arith))) h
 
-pub begins_within-encode : (c : ℕ) (rest : List ℕ) → begins_within (encode_utf8 c ++ rest) ≡ false
+begins_within-encode : (c : ℕ) (rest : List ℕ) → begins_within (encode_utf8 c ++ rest) ≡ false
 begins_within-encode c rest = ⊎_elim (λ h. rw (encode_ascii c h) (outside c (inl h))) (λ l1.
     ⊎_elim (λ h. rw (encode_2 c l1 h) (outside (192 + c / 64) (inr (omega arith)))) (λ l2.
     ⊎_elim (λ h. rw (encode_3 c l2 h) (outside (224 + c / 4096) (inr (omega arith))))
@@ -126,7 +126,7 @@ found_by b P (row ∷ rows) none all =
     (cases_Bool (is_within row.0 b))
 
 -- the bytes are those of a character
-abbrev pub AreCharacter : List ℕ → Type 0
+abbrev AreCharacter : List ℕ → Type 0
 AreCharacter bytes = (c : ℕ) × IsScalar c × (encode_utf8 c ≡ bytes)
 
 fits_from : (range : ByteRange) (ranges : List ByteRange) (text : List ℕ)

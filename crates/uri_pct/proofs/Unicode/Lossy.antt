@@ -85,7 +85,7 @@ chars_lossy [] = refl
 chars_lossy (c ∷ cs) = ap (λ x. encode_utf8 c ++ x) (chars_lossy cs)
 
 -- a text stays as it is, whatever follows it
-pub lossy_text-append : (text rest : List ℕ) → IsUtf8 text
+lossy_text-append : (text rest : List ℕ) → IsUtf8 text
     → lossy_text (text ++ rest) ≡ text ++ lossy_text rest
 lossy_text-append text rest u =
     ap (λ x. lossy_text (x ++ rest)) (sym u.1.1)

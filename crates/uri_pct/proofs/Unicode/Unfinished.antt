@@ -160,7 +160,7 @@ end_begins (x ∷ xs) ys some = ⊎_elim
     (cases_Bool (nat_lt (length xs) (called_for x)))
 
 -- the cut before an unfinished end, or after the bytes where there is none, parts no piece
-pub unfinished_parts : (bytes : List ℕ)
+unfinished_parts : (bytes : List ℕ)
     → PartNoPiece (take (length bytes - unfinished_len bytes) bytes)
     (drop (length bytes - unfinished_len bytes) bytes)
 unfinished_parts bytes behind =

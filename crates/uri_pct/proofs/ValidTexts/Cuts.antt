@@ -62,7 +62,7 @@ module _ (set : TableSet) where
       → is_excluded set b ≡ true
   excluded marks e b m = of_each (is_excluded set) marks e b m
 
-  pub mark_ascii : (marks : List ℕ) → excludes set marks ≡ true → (b : ℕ) → is_one_of marks b ≡ true
+  mark_ascii : (marks : List ℕ) → excludes set marks ≡ true → (b : ℕ) → is_one_of marks b ≡ true
       → b < 128
   mark_ascii marks e b m = ltb-true b 128 (of_excluded b (excluded marks e b m)).0
 
@@ -70,7 +70,7 @@ module _ (set : TableSet) where
       → set.ascii b ≡ false
   mark_char marks e b m = (of_excluded b (excluded marks e b m)).1
 
-  pub mark_hex : (marks : List ℕ) → excludes set marks ≡ true → (b : ℕ) → is_one_of marks b ≡ true
+  mark_hex : (marks : List ℕ) → excludes set marks ≡ true → (b : ℕ) → is_one_of marks b ≡ true
       → is_ascii_hexdigit b ≡ false
   mark_hex marks e b m = (of_excluded b (excluded marks e b m)).2
 

@@ -13,7 +13,7 @@ use Rattle.std.proofs.lemmas.Str.Pattern.{drop_at_char}
 use Rattle.uri_pct.specs.Texts.{lacks, is_absolute, IsFirstCut, IsLastCut}
 
 -- no place holds the byte
-pub lacks_from : (d : ℕ) (bs : List ℕ) → ((i : ℕ) → i < length bs → get_or bs i 0 ≢ d)
+lacks_from : (d : ℕ) (bs : List ℕ) → ((i : ℕ) → i < length bs → get_or bs i 0 ≢ d)
     → lacks d bs ≡ true
 lacks_from d [] h = refl
 lacks_from d (b ∷ bs) h =
@@ -60,7 +60,7 @@ onto_append : (x : ℕ) (piece : List ℕ) (pieces more all : List (List ℕ)) �
 onto_append x piece pieces more all e = rw e refl
 
 -- the pieces before a delimiter and those after it
-pub slice_split-cut : (d : ℕ) (before after : List ℕ)
+slice_split-cut : (d : ℕ) (before after : List ℕ)
     → slice_split (λ b. eqb b d) (before ++ d ∷ after)
     ≡ slice_split (λ b. eqb b d) before ++ slice_split (λ b. eqb b d) after
 slice_split-cut d [] after = rw (eqb-refl d) refl

@@ -23,7 +23,7 @@ abbrev pub plain_set : TableSet → TableSet
 plain_set set = record set { pct_encoded = false }
 
 -- the prefix of a text by its first character
-pub kept_first : (set : TableSet) (text rest : List ℕ) (c : ℕ) → IsUtf8 text
+kept_first : (set : TableSet) (text rest : List ℕ) (c : ℕ) → IsUtf8 text
     → text ≡ encode_utf8 c ++ rest
     → valid_prefix (plain_set set) text
     ≡ cond (allows set c) (valid_prefix (plain_set set) rest + len_utf8 c) 0
@@ -67,7 +67,7 @@ kept_chars set (c ∷ cs) s =
     (cases_Bool (allows set c))
 
 -- what is scanned of a text stands for itself
-pub prefix_kept : (set : TableSet) (text : List ℕ) → IsUtf8 text
+prefix_kept : (set : TableSet) (text : List ℕ) → IsUtf8 text
     → IsKept set text (valid_prefix (plain_set set) text)
 prefix_kept set text u = subst (λ t. IsKept set t (valid_prefix (plain_set set) t)) u.1.1
     (kept_chars set u.0 u.1.0)

@@ -20,7 +20,7 @@ use Rattle.uri_pct.proofs.ValidTexts.Validity.{allows_first-ascii, allows_first-
 use Rattle.uri_pct.proofs.ValidTexts.Validity.{allows-past}
 use Rattle.uri_pct.proofs.ValidTexts.Cuts.{prefix_cons, len_ascii}
 
-pub drop_one : (n : ℕ) (b : ℕ) (bs : List ℕ) → drop (n + 1) (b ∷ bs) ≡ drop n bs
+drop_one : (n : ℕ) (b : ℕ) (bs : List ℕ) → drop (n + 1) (b ∷ bs) ≡ drop n bs
 drop_one n b bs = rw add-one refl
 
 -- nothing more is scanned at once
@@ -233,7 +233,7 @@ unfolding first_char
 first_is bs rest c u e = ap (λ cs. get_or cs 0 0) (chars_past_char bs rest c u e)
 
 -- one character past ASCII
-pub valid_prefix-past : (set : TableSet) (bs rest : List ℕ) (c : ℕ) → IsUtf8 bs
+valid_prefix-past : (set : TableSet) (bs rest : List ℕ) (c : ℕ) → IsUtf8 bs
     → bs ≡ encode_utf8 c ++ rest → 128 ≤ get_or bs 0 0
     → valid_prefix set bs ≡ cond (allows_past_ascii set c) (valid_prefix set rest + len_utf8 c) 0
 valid_prefix-past set bs rest c u e h =

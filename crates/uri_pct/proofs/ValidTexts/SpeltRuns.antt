@@ -96,7 +96,7 @@ module _ (set : TableSet) (lacks : LacksPercent set) (pct : set.pct_encoded ≡ 
       (λ (end : n ≤ k). stay k (omega arith) b)
       (cases_lt k n)
 
-  pub all_scanned : (i + n + valid_prefix set (drop (i + n) bs) ≡ i + valid_prefix set (drop i bs))
+  all_scanned : (i + n + valid_prefix set (drop (i + n) bs) ≡ i + valid_prefix set (drop i bs))
       × IsCharBoundary bs (i + n)
   all_scanned =
       let z : i + 0 ≡ i = omega arith in

@@ -50,7 +50,7 @@ one_before c mark (d ∷ ds) m = cond-false _ _ _ (no_octet_2 c mark d m.no_digi
     ∙ ap (λ ts. Char c ∷ ts) (char_first mark (d ∷ ds) m.no_percent)
 
 -- the tokens before the mark and those after it
-pub tokens_of-cut : (cs ds : List ℕ) (mark : ℕ) → IsMark mark
+tokens_of-cut : (cs ds : List ℕ) (mark : ℕ) → IsMark mark
     → tokens_of (cs ++ mark ∷ ds) ≡ tokens_of cs ++ Char mark ∷ tokens_of ds
 unfolding tokens_of
 tokens_of-cut [] ds mark m = char_first mark ds m.no_percent
@@ -74,7 +74,7 @@ unfolding chars
 chars-ascii c rest h = let low = lt-ltb c 128 h in rw low (after_ascii c rest)
 
 -- a text that is cut at a mark
-pub tokens-cut : (before after : List ℕ) (mark : ℕ) → IsMark mark → IsUtf8 before
+tokens-cut : (before after : List ℕ) (mark : ℕ) → IsMark mark → IsUtf8 before
     → tokens (before ++ mark ∷ after) ≡ tokens before ++ Char mark ∷ tokens after
 tokens-cut before after mark m u =
     ap tokens_of (chars-append before (mark ∷ after) u
@@ -93,7 +93,7 @@ valid_parts set before after mark m u e =
     (both.0, (and_parts _ _ both.1).1)
 
 -- what is before an ASCII byte is text
-pub IsUtf8-before : (text before after : List ℕ) (mark : ℕ) → mark < 128 → IsUtf8 text
+IsUtf8-before : (text before after : List ℕ) (mark : ℕ) → mark < 128 → IsUtf8 text
     → text ≡ before ++ mark ∷ after → IsUtf8 before
 IsUtf8-before text before after mark small u same =
     let long : length text ≡ length before + suc (length after) = ap length same
