@@ -9,7 +9,6 @@ use std::alloc::AllocError;
 use uri_pct::table::Table;
 
 /// A place in a text, which goes from left to right.
-#[doc(hidden)]
 pub struct Cursor<'a> {
     text: &'a str,
     position: usize,

@@ -12,7 +12,6 @@ use uri_pct::encoder::{
 use uri_pct::table::{ISEGMENT_NZ_NC, SEGMENT_NZ_NC, Table};
 
 /// The tables that tell the kinds apart, and whether a scheme is needed.
-#[doc(hidden)]
 #[derive(Clone, Copy)]
 pub struct KindTables {
     pub userinfo: Table,

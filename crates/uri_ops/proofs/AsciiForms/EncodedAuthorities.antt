@@ -101,7 +101,7 @@ dotted_ascii text octets h =
     below c (inr dot) = grind (arith, nat_tests)
 
 -- a host
-pub record KeepsHost (names : TableSet) (text : List ℕ) : Type 0 where
+record KeepsHost (names : TableSet) (text : List ℕ) : Type 0 where
   pub host : (h : HostKind) × IsHost (ascii_set names) (encoded_text text) h
   pub meaning : host_meaning names (encoded_text text) (host_kind (encoded_text text))
       ≡ host_meaning names text (host_kind text)

@@ -21,7 +21,7 @@ use Rattle.uri_ops.proofs.Paths.ReadPaths.{no_slash, part_cut, reprinted_first}
 use Rattle.uri_parts.proofs.Splitting.Marks.{nil_cons}
 
 -- a text without `/`, or its first segment with what follows
-pub record FirstSegment (text : List ℕ) : Type 0 where
+record FirstSegment (text : List ℕ) : Type 0 where
   pub segment : List ℕ
   pub rest : List ℕ
   pub whole : text ≡ segment ++ 47 ∷ rest

@@ -39,7 +39,7 @@ err_from (Err error) P Q f h = f error h
 
 -- what a map of both sides says of the two
 module _ {A : Type 0} (f : List ℕ → A) where
-  abbrev pub mapped : Result (List ℕ) Refusal → Result A Refusal
+  abbrev mapped : Result (List ℕ) Refusal → Result A Refusal
   mapped r = result_map_both f (λ (refusal : Refusal). refusal) r
 
   same_value : (x y : A) (r : Result A Refusal) → r ≡ Ok x → r ≡ Ok y → x ≡ y

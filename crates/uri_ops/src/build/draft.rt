@@ -34,7 +34,6 @@ pub struct Lengths {
 
 /// The text so far, with the lengths of its parts and the place of the host in the authority.
 /// Unless it is marked failed, it is that of its parts by RFC 3986, section 5.3.
-#[doc(hidden)]
 #[derive(Drop)]
 pub struct Draft {
     pub text: String,

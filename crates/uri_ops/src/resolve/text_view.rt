@@ -11,7 +11,6 @@ use crate::traits::RiMaybeRef;
 use uri_parts::positions::{AuthorityPositions, Positions};
 
 /// A text with where its components are, whose host is in its authority.
-#[doc(hidden)]
 #[derive(Drop)]
 pub struct TextView<'a> {
     text: &'a str,

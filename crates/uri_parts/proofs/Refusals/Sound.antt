@@ -137,7 +137,7 @@ module _ (text : List ℕ) where
         split = all ∙ sym (dotted_with v.value w.value x.value y.value (drop end text));
       }
 
-  abbrev pub lead : Bool → List ℕ
+  abbrev lead : Bool → List ℕ
   lead true = []
   lead false = 58 ∷ []
 
@@ -148,7 +148,7 @@ module _ (text : List ℕ) where
     pub are : IsGroupsAfter ipv4 (lead is_first) groups segments
     pub count : length segments + m ≡ room
 
-  abbrev pub Sound : ℕ → Bool → ℕ → Groups → Type 0
+  abbrev Sound : ℕ → Bool → ℕ → Groups → Type 0
   Sound room is_first i (Groups_end m end) =
       is_end (drop end text) ≡ false → Reads true room is_first i m (drop end text)
   Sound room is_first i (Elision m end) =

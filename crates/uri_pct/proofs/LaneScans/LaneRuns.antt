@@ -43,7 +43,7 @@ marks_behind test bs i w s mask m = record {
   below = shr_below mask w s m.below;
 }
 
-abbrev pub mark : Bool → ℕ
+abbrev mark : Bool → ℕ
 mark b = cond (not b) 1 0
 
 unmarked : (b : Bool) → mark b ≡ 0 → b ≡ true

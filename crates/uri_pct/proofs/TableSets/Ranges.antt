@@ -15,7 +15,7 @@ above_range : (low high c : ℕ) → high < c → is_in_range low high c ≡ fal
 above_range low high c h = and_right (leb low c) (leb c high) (lt-leb c high h)
 
 -- `others`, or a character of one of the planes 1 to n that is not among the last two of its plane
-unfoldable pub in_planes : Bool → ℕ → ℕ → Bool
+unfoldable in_planes : Bool → ℕ → ℕ → Bool
 in_planes others zero c = others
 in_planes others (suc n) c = in_planes others n c
     || is_in_range (65536 * (n + 1)) (65536 * (n + 1) + 65533) c
