@@ -187,7 +187,7 @@ path_lies text scheme authority path behind whole utf8 rooted begins =
     (end_mark behind begins)
 
 -- the text up to the end of the path
-abbrev hierarchy_text : Option (List ℕ) → Option (List ℕ) → List ℕ → List ℕ
+abbrev pub hierarchy_text : Option (List ℕ) → Option (List ℕ) → List ℕ → List ℕ
 hierarchy_text scheme authority path = (scheme_text scheme ++ marked_authority authority) ++ path
 
 length-hierarchy_text : (scheme authority : Option (List ℕ)) (path : List ℕ)

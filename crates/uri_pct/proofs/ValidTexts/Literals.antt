@@ -18,7 +18,7 @@ unfolding allows_past_ascii is_ucschar
 letter_is_allowed set c flag range = rw (flag, range) refl
 
 -- the set allows the character, where it is ASCII or in that range
-abbrev is_literal_char : TableSet → ℕ → Bool
+abbrev pub is_literal_char : TableSet → ℕ → Bool
 is_literal_char set c = if nat_lt c 128 then set.ascii c else set.ucschar
     && is_in_range 0xA0 0xD7FF c
 
