@@ -1,4 +1,4 @@
--- Paths, segment by segment: dot segments, and what is read of a path.
+-- Paths, segment by segment: dot segments, and the decoded path.
 pub mod DotRows
 pub mod PathCharacters
 pub mod Segments

@@ -22,7 +22,7 @@ pub use Rattle.uri_ops.proofs.Targeting.Swaps.{resolved_alike, resolved_normal_t
 -- A text with its characters past ASCII as octets is of the kind of URIs that goes with its kind,
 -- and means what the text means: RFC 3987, section 3.1.
 pub use Rattle.uri_ops.proofs.AsciiForms.EncodedMeanings.{encoded_is_text, meaning_of-encoded}
--- It resolves to the target of what it was made from, changed so, and underflows alike.
+-- If a base and a reference change so, the target changes so, and underflows in the same cases.
 pub use Rattle.uri_ops.proofs.AsciiForms.EncodedTargets.{resolution_encoded}
 pub use Rattle.uri_ops.proofs.AsciiForms.EncodedTargets.{target_underflows_encoded}
 
@@ -30,13 +30,13 @@ pub use Rattle.uri_ops.proofs.AsciiForms.EncodedTargets.{target_underflows_encod
 -- 2.3 and 3, and RFC 3987, section 2.2.
 pub ruleset four_sets = (uri_sets, uri_ref_sets, iri_sets, iri_ref_sets)
 
--- The texts of a kind are those that the RFCs' words spell: RFC 3986, sections 3 and 4.2.
+-- The texts of a kind are those of the RFCs' grammars: RFC 3986, sections 3 and 4.2.
 pub ruleset grammar_laws = (uri_in_grammar, uri_ref_in_grammar, iri_in_grammar, iri_ref_in_grammar)
 
 -- An authority has one cut, and a host is of one kind: RFC 3986, sections 3.2 and 3.2.2.
 pub ruleset cut_laws = (uri_cut, iri_cut, uri_host, iri_host)
 
--- The loop that removes dot segments ends with nothing left to read: RFC 3986, section 5.2.4.
+-- The loop that removes dot segments ends with an empty input: RFC 3986, section 5.2.4.
 pub ruleset dot_runs = (run_whole-ends)
 
 -- What it leaves has no dot segment, begins with `/` and is no longer than the path.

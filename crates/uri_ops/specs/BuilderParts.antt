@@ -44,7 +44,7 @@ as_components p = record {
 abbrev pub parts_text : BuilderParts → List ℕ
 parts_text p = recompose (as_components p)
 
--- the answer of a step holds the parts so changed, or is marked failed
+-- the result of a step holds the parts so changed, or is marked failed
 abbrev pub Adds : (BuilderParts → BuilderParts) → BuilderParts → BuilderParts → Type 0
 Adds change before after = after.failed ≡ false → after ≡ change before
 

@@ -1,5 +1,5 @@
--- Where a builder stands: which parts it may hold before each step, unless it is marked failed. RFC
--- 3986, section 3, has their order.
+-- The states of a builder: which parts it may hold before each step, unless it is marked failed.
+-- RFC 3986, section 3, has their order.
 use Rattle.std.specs.Prelude.{◌≡◌, ◌&&◌, ◌||◌, not, ℕ, Bool, true, false, List, is_some, is_none}
 use Rattle.std.specs.Prelude.{string_bytes}
 use Rattle.std.specs.Option.{option_map_or}

@@ -6,7 +6,7 @@ use Rattle.std.specs.List.{list_all, list_any, slice_split}
 use Rattle.uri_parts.specs.Components.{starts, before_any, from_any}
 use Rattle.uri_pct.specs.Delimiters.{slash}
 
--- the spellings of a dot
+-- the forms of a dot
 abbrev pub dots : List (List ℕ)
 dots = codes "." ∷ codes "%2E" ∷ codes "%2e" ∷ []
 

@@ -28,6 +28,6 @@ ascii_kind kind = record kind {
   fragment = ascii_set kind.fragment;
 }
 
--- read as texts of the kind, both have the same meaning, whichever default ports there are
+-- as texts of the kind, both are equivalent for all default ports
 unfoldable pub MeanTheSame : Kind → List ℕ → List ℕ → Type 0
 MeanTheSame kind text other = bare_meaning_of kind text ≡ bare_meaning_of kind other

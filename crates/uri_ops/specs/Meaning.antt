@@ -34,8 +34,8 @@ pub record Meaning : Type 0 where
   pub query : Option (List Token)
   pub fragment : Option (List Token)
 
--- Section 6.2.2.1: a host is the same in upper and lower case, an IPv6 address by its numbers. The
--- ASCII letters that octets stand for count too, and an IPv4 address is its characters.
+-- Section 6.2.2.1: upper and lower case of a host are equivalent, and an IPv6 address is its
+-- numbers. ASCII letters decoded from octets are included. An IPv4 address is its characters.
 abbrev pub host_meaning : TableSet → List ℕ → HostKind → HostMeaning
 host_meaning names host (Ipv6 segments) = Address segments
 host_meaning names host IpvFuture = FutureAddress (str_to_ascii_lowercase host)

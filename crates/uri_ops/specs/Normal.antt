@@ -38,7 +38,7 @@ normal_authority a = recompose_authority (normal_parts a)
 abbrev pub normal_scheme : Option (List ℕ) → Option (List ℕ)
 normal_scheme scheme = option_map str_to_ascii_lowercase scheme
 
--- section 6.2.2: what is read of a part, where it is there
+-- section 6.2.2: a part, decoded, if it is present
 abbrev pub normal_part : TableSet → Option (List ℕ) → Option (List ℕ)
 normal_part set part = option_map print (option_map (read set) part)
 
@@ -48,8 +48,8 @@ marked_authority kind default authority =
     marked (codes "//")
     (option_map normal_authority (option_map (authority_meaning kind default) authority)) []
 
--- Not in the RFC: under a scheme and without an authority `/.` is before a path that begins
--- with `//`, which would be read as one.
+-- Not in the RFC: under a scheme and without an authority `/.` is before a path that begins with
+-- `//`, which would be parsed as one.
 abbrev pub normal_path : Meaning → List ℕ
 normal_path m =
     if is_some m.scheme then guarded (option_map normal_authority m.authority) (print m.path)

@@ -12,11 +12,11 @@ use Rattle.uri_ops.specs.Resolving.{IsRefusalFor}
 use Rattle.uri_ops.specs.declared.resolve.ResolveError.{ResolveError}
 use Rattle.uri_ops.specs.declared.resolve.ResolveError.TheVariants as Of
 
--- section 4.1: a reference of the kind may stand without a scheme
+-- section 4.1: a reference of the kind needs no scheme
 abbrev pub reference_kind : Kind → Kind
 reference_kind kind = record kind { needs_scheme = false }
 
--- section 5.2: the meaning of the target, or the refusal
+-- section 5.2: the meaning of the target, or the error
 abbrev pub resolved_meaning : Kind → PortFunction → List ℕ → List ℕ → Result Meaning Refusal
 resolved_meaning kind ports base reference =
     result_map_both (meaning_of kind ports) (λ refusal. refusal)
@@ -34,8 +34,8 @@ HasTargetMeaning kind ports base reference text =
     × ((resolution_of_texts base reference ≡ Ok target)
     × (meaning_of kind ports target ≡ meaning_of kind ports text))
 
--- what an error says of whether there is a target: where dot segments underflow, or memory is
--- refused, there is one
+-- what an error implies for the target: if dot segments underflow, or memory runs out, a target
+-- exists
 abbrev pub IsRefusedFor : Components → Components → ResolveError → Type 0
 IsRefusedFor base r Of.BaseWithFragment = resolution_of base r ≡ Err BaseWithFragment
 IsRefusedFor base r Of.InvalidReferenceAgainstOpaqueBase =
@@ -43,15 +43,15 @@ IsRefusedFor base r Of.InvalidReferenceAgainstOpaqueBase =
 IsRefusedFor base r Of.PathUnderflow = is_ok (resolution_of base r) ≡ true
 IsRefusedFor base r Of.OutOfMemory = is_ok (resolution_of base r) ≡ true
 
--- the target of a base of the first kind and a reference of the second: any that mean the same have
--- a target that means the same
+-- the target of a base of the first kind and a reference of the second: an equivalent base and
+-- reference have an equivalent target
 pub record IsTargetOfMeanings (kind of_reference : Kind)
     (base reference target : List ℕ) : Type 0 where
   pub alike : (ports : PortFunction) (b r : List ℕ) → HasMeaningOf kind ports base b
       → HasMeaningOf of_reference ports reference r → HasTargetMeaning kind ports b r target
 
--- the error for a base of the first kind and a reference of the second: any that mean the same are
--- refused alike
+-- the error for a base of the first kind and a reference of the second: an equivalent base and
+-- reference have no target for the same reason, or have one if these do
 pub record IsErrorOfMeanings (kind of_reference : Kind) (base reference : List ℕ)
     (error : ResolveError) : Type 0 where
   pub alike : (ports : PortFunction) (b r : List ℕ) → HasMeaningOf kind ports base b
@@ -64,12 +64,12 @@ IsNormalFormOfTarget kind ports base reference normal =
     (target : List ℕ)
     × ((resolution_of_texts base reference ≡ Ok target) × IsNormalForm kind ports target normal)
 
--- the answer for a base of the first kind and a reference of the second
+-- the result for a base of the first kind and a reference of the second
 pub record IsNormalTarget (kind of_reference : Kind) (ports : PortFunction)
     (base reference normal : List ℕ) : Type 0 where
   -- it is the normal form of the target
   pub target : IsNormalFormOfTarget kind ports base reference normal
-  -- it is that of the target of any base and reference that mean the same, too
+  -- it is the normal form of the target of any equivalent base and reference, too
   pub swap : (b r : List ℕ) → HasMeaningOf kind ports base b
       → HasMeaningOf of_reference ports reference r → IsNormalFormOfTarget kind ports b r normal
 
@@ -78,7 +78,7 @@ pub record IsRefusedAlike (kind of_reference : Kind) (ports : PortFunction)
     (base reference : List ℕ) (error : ResolveError) : Type 0 where
   -- it says why there is no target, or that none could be held
   pub refusal : IsRefusalFor (components base) (components reference) error
-  -- it says so of any base and reference that mean the same, too
+  -- it is the error for any equivalent base and reference, too
   pub swap : (b r : List ℕ) → HasMeaningOf kind ports base b
       → HasMeaningOf of_reference ports reference r
       → IsRefusalFor (components b) (components r) error

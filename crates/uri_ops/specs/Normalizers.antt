@@ -26,8 +26,8 @@ pub record HasNormalText (kind : Kind) (ports : PortFunction)
     (source normal : List ℕ) : Type 0 where
   pub text : normal ≡ normal_text (meaning_of kind ports source)
 
--- the normal text of a text of the kind has its meaning, and is that of another one exactly if the
--- two mean the same
+-- The normal text of a text of the kind is equivalent to it. It is the normal text of another text
+-- exactly if the two are equivalent.
 pub record IsNormalForm (kind : Kind) (ports : PortFunction) (source normal : List ℕ) : Type 0 where
   pub text : HasNormalText kind ports source normal
   pub meaning : meaning_of kind ports normal ≡ meaning_of kind ports source

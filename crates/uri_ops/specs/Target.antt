@@ -53,8 +53,8 @@ cleaned_path path =
     -- Not in the RFC: a path that does not begin with `/` keeps them, such as that of `foo:a/../b`.
     else path
 
--- Not in the RFC: without an authority `/.` is before a path that begins with `//`, which would
--- be read as one.
+-- Not in the RFC: without an authority `/.` is before a path that begins with `//`, which would be
+-- parsed as one.
 abbrev pub guarded : Option (List ℕ) → List ℕ → List ℕ
 guarded authority path =
     if is_none authority && has_authority path then codes "/." ++ path else path
@@ -72,7 +72,7 @@ cleaning_underflows path = starts slash path && underflows path
 abbrev pub target_underflows : Components → Components → Bool
 target_underflows base r = cleaning_underflows (joined base r).path
 
--- the target's text, or the refusal
+-- the target's text, or the error
 abbrev pub resolution_of : Components → Components → Result (List ℕ) Refusal
 resolution_of base r =
     -- section 5.1: a base is stripped of its fragment before it is used

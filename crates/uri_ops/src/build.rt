@@ -211,9 +211,9 @@ impl<R: RiMaybeRef, S: StateOf<R>> Builder<R, S> {
         )
     }
 
-    /// Gives the authority (RFC 3986, section 3.2) part by part: the closure is called with this
-    /// builder and an empty authority begun, and the answer is the builder that it returns. It may
-    /// be called on every builder.
+    /// Adds the authority (RFC 3986, section 3.2) part by part. The closure gets this builder with
+    /// an empty authority begun, and `authority_with` returns the builder that the closure returns.
+    /// Every builder allows the call.
     ///
     /// `authority_with(|authority| authority.host(Ipv4Addr::LOCALHOST))` writes `//127.0.0.1`.
     pub fn authority_with<F, T: StateOf<R>>(self, parts: F) -> Builder<R, AuthorityEnd>
@@ -267,8 +267,8 @@ impl<R: RiMaybeRef, S: StateOf<R>> Builder<R, S> {
 
     /// Gives the host (RFC 3986, section 3.2.2): an IP address, or a registered name of the kind.
     ///
-    /// An IPv6 address is written in brackets, by RFC 5952. A name that spells an IPv4 address is
-    /// one. The case of ASCII letters makes no difference; it should be lower.
+    /// An IPv6 address is written in brackets, by RFC 5952. A name with the form of an IPv4 address
+    /// is one. The case of ASCII letters makes no difference; it should be lower.
     ///
     /// `authority.host(Ipv6Addr::LOCALHOST)` writes `[::1]`.
     pub fn host<H>(self, host: H) -> Builder<R, HostEnd>

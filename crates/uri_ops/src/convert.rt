@@ -42,7 +42,7 @@ fn first_past_ascii(text: &str) -> Option<usize>
     text.as_bytes().iter().position(|byte| *byte >= 128)
 }
 
-/// Refuses a text that has no scheme.
+/// Checks that a text has a scheme.
 ///
 /// # Errors
 ///
@@ -59,7 +59,7 @@ pub fn needs_scheme<K: Kind>(core: Core<K, &str>) -> Result<(), ConvertError>
     }
 }
 
-/// Refuses a text that has a character past ASCII.
+/// Checks that a text has no character past ASCII.
 ///
 /// # Errors
 ///
@@ -75,7 +75,7 @@ pub fn needs_ascii(text: &str) -> Result<(), ConvertError>
     }
 }
 
-/// Refuses an IRI reference that is no URI.
+/// Checks that an IRI reference is a URI.
 ///
 /// # Errors
 ///

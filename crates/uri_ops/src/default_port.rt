@@ -15,8 +15,8 @@ pub trait DefaultPort: Drop {
 
     /// The default port of the scheme, if it has one.
     ///
-    /// The answer depends on this value and on the scheme's text in lower case alone, so equal
-    /// schemes get equal ports.
+    /// The returned port depends on this value and on the scheme's text in lower case alone. So
+    /// equal schemes get equal ports.
     fn default_port(&self, scheme: Scheme<'_>) -> Option<u16>
         ensures { result ≡ port_of self.now (lowered_scheme scheme.entry) };
 }

@@ -22,11 +22,11 @@ pub mod normal_form;
 #[doc(hidden)]
 pub mod resolve_normalize;
 
-/// The loop that removes dot segments ends with nothing left to read (RFC 3986, section 5.2.4).
+/// The loop that removes dot segments ends with an empty input (RFC 3986, section 5.2.4).
 ///
 /// # Examples
 ///
-/// Of `/a/./b` nothing is left to read after `/a`, `/.` and `/b`.
+/// For `/a/./b` the input is empty after `/a`, `/.` and `/b`.
 #[tactic(auto, using(crate::proofs::Theorems::dot_runs))]
 pub fn nothing_is_left_to_read()
     ensures { (path : List ℕ) → (run_whole path).input ≡ [] }
@@ -88,9 +88,9 @@ pub fn directories_are_taken_before_or_after_removing()
         → underflows (directory path) ≡ underflows path }
 {}
 
-/// Of a path in two pieces, the first of which ends in `/`, the first piece's dot segments may be
-/// removed before the path's. The path underflows where the first piece does, or what is left of it
-/// with the second.
+/// If a prefix of a path ends in `/`, its dot segments may be removed before those of the path. The
+/// path underflows exactly if the prefix does, or if what is left of the prefix does with the rest
+/// of the path after it.
 ///
 /// # Examples
 ///
@@ -121,11 +121,13 @@ pub fn bases_may_be_removed_before_merging()
         ≡ (underflows base || underflows (directory (remove_dot_segments base) ++ reference)) }
 {}
 
-/// Dot segments may be removed before a path is read or after, and reading changes no underflow.
+/// Dot segments may be removed before or after unreserved octets are decoded, and decoding changes
+/// no underflow.
 ///
 /// # Examples
 ///
-/// `/%2E/%41` leaves `/%41`, which is read as `/A`; it is read as `/./A`, which leaves `/A`.
+/// `/%2E/%41` without dot segments is `/%41`, which decodes to `/A`; it decodes to `/./A`, which
+/// without dot segments is `/A`.
 pub fn removing_and_reading_swap()
     ensures removed { (set : TableSet) (path : List ℕ) → LacksPercent set
         → IsSubset unreserved_set set → IsAbsolute path → IsUtf8 path → IsValidFor set path
@@ -159,9 +161,9 @@ pub fn opaque_bases_take_fragments_alone()
         ≡ (is_empty reference || starts number_sign reference) }
 {}
 
-/// The texts of the four kinds are those that the RFCs' words spell: a split into components, each
-/// with its rule, of which the authority has a cut (RFC 3986, sections 3, 3.2 and 4.2, and
-/// appendix B; RFC 3987, section 2.2).
+/// The texts of the four kinds are those of the RFCs' grammars: a text has a split into components,
+/// each of which follows its rule, and the authority has a split too (RFC 3986, sections 3, 3.2 and
+/// 4.2, and appendix B; RFC 3987, section 2.2).
 ///
 /// # Examples
 ///

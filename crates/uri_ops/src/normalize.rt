@@ -80,7 +80,7 @@ pub(crate) struct Normalized {
     pub(crate) underflows: bool,
 }
 
-/// The normal text of a text of a kind, of which each component is written as it is read.
+/// Returns the normal text of a text of a kind, written component by component.
 #[tactic(auto, unfolding(crate::specs::Normalizers::text_underflows))]
 fn written_form<K: Kind, P: DefaultPort>(
     alloc: Global,
@@ -198,7 +198,7 @@ impl<P: DefaultPort> Normalizer<P> {
     ///
     /// # Examples
     ///
-    /// With ports that answer 4673 for every scheme, `foo://localhost:4673` is normalised to
+    /// If the ports return 4673 for every scheme, `foo://localhost:4673` is normalised to
     /// `foo://localhost`.
     pub fn default_port_with<Q: DefaultPort>(self, ports: Q) -> Normalizer<Q>
         ensures allows { normalizer_allows_underflow result ≡ normalizer_allows_underflow self }
@@ -210,13 +210,13 @@ impl<P: DefaultPort> Normalizer<P> {
         }
     }
 
-    /// The normal form of a value: its scheme and its host are in lower case, each octet that
-    /// spells a readable character is that character and every other has upper-case digits, an
-    /// empty or default port is left out, and under a scheme a path that begins with `/` is without
-    /// its dot segments (RFC 3986, sections 6.2.2 and 6.2.3). The formatting characters of
-    /// bidirectional text, U+200E, U+200F and U+202A to U+202E, are octets in an IRI, whether they
-    /// stood there as octets or as characters (RFC 3987, section 4.1). Values of a kind have the
-    /// same normal form exactly if they mean the same.
+    /// Returns the normal form of a value (RFC 3986, sections 6.2.2 and 6.2.3). The scheme and the
+    /// host are in lower case. Each octet that encodes a readable character is decoded, and every
+    /// other octet has upper-case digits. An empty or default port is left out. If there is a
+    /// scheme, a path that begins with `/` loses its dot segments. In an IRI the formatting
+    /// characters of bidirectional text, U+200E, U+200F and U+202A to U+202E, become octets,
+    /// whether they were octets or characters (RFC 3987, section 4.1). Two values of a kind have
+    /// the same normal form exactly if they are equivalent.
     ///
     /// # Errors
     ///

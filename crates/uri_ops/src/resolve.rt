@@ -205,11 +205,11 @@ impl<R: Ri> Resolver<R> {
     ///   with `/`.
     /// - A reference with a scheme keeps a path that doesn't begin with `/` as it is.
     ///
-    /// Nothing else of the two texts changes: the target is not normalised. Of a base and a
-    /// reference that mean the same, such as their normal forms, the target means the same; and of
-    /// both with each character past ASCII as the octets of its UTF-8 (RFC 3987, section 3.1), it
-    /// is this target changed so. Where there is no target, there is none of those, for the same
-    /// reason.
+    /// Nothing else of the two texts changes: the target is not normalised. Resolution respects
+    /// equivalence: an equivalent base and reference, such as their normal forms, give an
+    /// equivalent target. It respects percent-encoding too: if each character past ASCII of both is
+    /// written as the octets of its UTF-8 (RFC 3987, section 3.1), the target is this target,
+    /// written so. If there is no target, none of these has one, for the same reason.
     ///
     /// # Errors
     ///
@@ -245,11 +245,10 @@ impl<R: Ri> Resolver<R> {
         resolved(alloc, &self.base, reference, self.allow_path_underflow)
     }
 
-    /// The normal form of the target of a reference against the base: what `resolve` returns where
-    /// underflow is allowed, and then `normalize` of a normaliser with these ports (RFC 3986,
-    /// sections 5.2, 6.2.2 and 6.2.3). Whether underflow is allowed by either setting makes no
-    /// difference. A base and a reference that mean the same, such as the normal forms of both,
-    /// have the same answer.
+    /// Returns the normal form of the target of a reference against the base: `resolve` with
+    /// underflow allowed, and then `normalize` of a normaliser with these ports (RFC 3986, sections
+    /// 5.2, 6.2.2 and 6.2.3). Whether either setting allows underflow makes no difference. An
+    /// equivalent base and reference, such as the normal forms of both, give the same result.
     ///
     /// # Errors
     ///

@@ -1,4 +1,4 @@
--- What is read of a text, printed and read again.
+-- Decoding of unreserved octets: the decoded text, how it is printed, and a second decoding.
 pub mod Printing
 pub mod Formatting
 pub mod Reading

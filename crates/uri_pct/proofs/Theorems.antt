@@ -16,9 +16,9 @@ use Rattle.uri_pct.proofs.Readings.Spellings.{tokens-spelt, spells-tokens, valid
 use Rattle.uri_pct.proofs.EncodedTexts.EncodingLaws.{token_bytes-append, tokens-encode_text}
 use Rattle.uri_pct.proofs.EncodedTexts.Encodings.{token_bytes-encode_text, text_as_pieces}
 
--- What is printed is read back; the pieces of bytes are together the bytes, and those that are
--- characters are so wherever they stand; reading changes no bytes, and twice is once: RFC 3986,
--- sections 2.1 and 6.2.2; Unicode, section 3.9.
+-- Printing and parsing: `tokens` inverts `print`. The pieces of bytes join to the bytes, and a
+-- character is a piece in any context. Decoding unreserved octets keeps the bytes and is
+-- idempotent. RFC 3986, sections 2.1 and 6.2.2; Unicode, section 3.9.
 pub ruleset reading_laws = (
   tokens-print,
   is_valid_for-print,
@@ -47,8 +47,8 @@ pub ruleset reading_laws = (
   read-print_lower,
 )
 
--- What is encoded is read back as the same tokens, and decodes to what was given: RFC 3986, section
--- 2.1.
+-- Encoded text parses to the tokens it was made from, and decodes to the original: RFC 3986,
+-- section 2.1.
 pub ruleset encoding_laws = (
   token_bytes-encode_text,
   token_bytes-append,
@@ -56,8 +56,8 @@ pub ruleset encoding_laws = (
   text_as_pieces,
 )
 
--- A text spells one list of characters and octets, and is valid exactly if these are allowed: RFC
--- 3986, section 2.1.
+-- A text has one list of characters and octets. It is valid exactly if the set allows all of them:
+-- RFC 3986, section 2.1.
 pub ruleset spelling_laws = (
   tokens-spelt,
   spells-tokens,

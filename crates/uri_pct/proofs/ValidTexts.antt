@@ -1,4 +1,4 @@
--- Texts that are valid for a set: how far one reads, where one is cut, what is appended.
+-- Texts that are valid for a set: how far a scan goes, where a text is cut, what is appended.
 pub mod Validity
 pub mod Cuts
 pub mod Prefixes

@@ -6,7 +6,7 @@ use Rattle.uri_pct.specs.Sets.{TableSet}
 use Rattle.uri_pct.specs.Tokens.{Token, Char, Octet, tokens}
 use Rattle.uri_pct.specs.Delimiters.{percent_sign}
 
--- text that stands for itself, or the value of an octet
+-- literal text, or the value of an octet
 pub data Chunk : Type 0 where
   Text : List ℕ → Chunk
   Byte : ℕ → Chunk

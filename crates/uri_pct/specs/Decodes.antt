@@ -1,4 +1,4 @@
--- What a `Decode` still has to answer, and what its items stand for: RFC 3986, section 2.1.
+-- What a `Decode` has still to yield, and what its items decode to: RFC 3986, section 2.1.
 use Rattle.std.specs.Prelude.{ℕ, List}
 use Rattle.std.specs.List.{flat_map}
 use Rattle.uri_pct.specs.Chunks.{Chunk, Text, Byte, chunk_bytes, chunks}
@@ -7,7 +7,7 @@ use Rattle.uri_pct.specs.declared.decode.DecodedChunk.TheVariants.{Unencoded, Pc
 use Rattle.uri_pct.specs.Tokens.{tokens, token_bytes}
 use Rattle.uri_pct.specs.declared.decode.Decode.{Decode}
 
--- what an item stands for
+-- what an item decodes to
 abbrev pub chunk_of : DecodedChunk → Chunk
 chunk_of (Unencoded text) = Text text.now
 chunk_of (PctDecoded value) = Byte value

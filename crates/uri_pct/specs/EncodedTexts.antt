@@ -1,4 +1,4 @@
--- What an `EStr` holds, and what a `Split` of one still has to answer: RFC 3986, section 2.1.
+-- What an `EStr` holds, and what a `Split` of one has still to yield: RFC 3986, section 2.1.
 use Rattle.std.specs.Prelude.{ℕ, List, ◌==◌, [], Some, None}
 use Rattle.std.specs.List.{slice_split}
 use Rattle.uri_pct.specs.declared.pct_enc.EStr.{EStr}

@@ -7,7 +7,7 @@ use Rattle.uri_pct.specs.Sets.{TableSet, allows}
 use Rattle.uri_pct.specs.Tokens.{Token, Char, Octet, print}
 use Rattle.uri_pct.specs.Pieces.{Piece, WellFormed, IllFormed, char_of, utf8_pieces}
 
--- a character that the set allows stands for itself, and each other is the octets of its UTF-8
+-- a character that the set allows stays literal, and each other becomes the octets of its UTF-8
 abbrev pub encode_char : TableSet → ℕ → List Token
 encode_char set c = if allows set c then Char c ∷ [] else map Octet (encode_utf8 c)
 

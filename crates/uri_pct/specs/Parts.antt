@@ -1,11 +1,11 @@
--- A text as it is decoded: what stands for itself, and the UTF-8 pieces of each maximal run of
--- octets (RFC 3986, section 2.1; Unicode, section 3.9).
+-- The decoded text in parts: literal text, and the UTF-8 pieces of each maximal run of octets (RFC
+-- 3986, section 2.1; Unicode, section 3.9).
 use Rattle.std.specs.Prelude.{ℕ, ◌≤◌, List, [], ◌∷◌, ◌++◌, map}
 use Rattle.std.specs.List.{All, flat_map}
 use Rattle.uri_pct.specs.Chunks.{Chunk, Text, Byte, chunks}
 use Rattle.uri_pct.specs.Pieces.{Piece, IllFormed, utf8_pieces}
 
--- text that stands for itself, or a piece of a run
+-- literal text, or a piece of a run
 pub data Part : Type 0 where
   Plain : List ℕ → Part
   Read : Piece → Part

@@ -68,7 +68,7 @@ abbrev pub taken : Option (List ByteRange) → List ℕ → ℕ
 taken None rest = 0
 taken (Some ranges) rest = fitting ranges rest
 
--- the first piece: where no character stands, it is the longest prefix that begins one, or else one
+-- the first piece: a character if one begins here; else the longest prefix that begins one, or one
 -- byte
 abbrev pub first_piece : Option (List ByteRange) → ℕ → List ℕ → Piece
 first_piece None b rest = IllFormed (b ∷ [])
@@ -76,7 +76,7 @@ first_piece (Some ranges) b rest =
     let n = fitting ranges rest in
     if n == length ranges then WellFormed (b ∷ take n rest) else IllFormed (b ∷ take n rest)
 
--- the pieces, where so many bytes of a piece are still to pass
+-- the pieces, if this many bytes of the current piece remain
 unfoldable pub pieces_from : ℕ → List ℕ → List Piece
 pieces_from skip [] = []
 pieces_from zero (b ∷ rest) =

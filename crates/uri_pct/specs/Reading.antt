@@ -1,5 +1,5 @@
--- Which octets of a text stand for their characters: RFC 3986, section 6.2.2.2, and RFC 3987,
--- section 5.3.2.3.
+-- Which octets normalising decodes to characters: RFC 3986, section 6.2.2.2, and RFC 3987, section
+-- 5.3.2.3.
 use Rattle.std.specs.Prelude.{◌≡◌, ℕ, Bool, false, not, ◌&&◌, ◌||◌, ◌==◌, nat_lt, List, [], ◌∷◌}
 use Rattle.std.specs.Prelude.{◌++◌, map, if◌then◌else◌}
 use Rattle.std.specs.Int.{is_in_range}
@@ -11,8 +11,8 @@ use Rattle.uri_pct.specs.Tokens.{Token, Char, Octet, tokens, print}
 use Rattle.uri_pct.specs.Pieces.{Piece, WellFormed, IllFormed, char_of, utf8_pieces}
 use Rattle.uri_pct.specs.Delimiters.{percent_sign}
 
--- a character that stands for its octets: one that is unreserved, and in an IRI one of `ucschar`,
--- in its query also one of `iprivate`
+-- a character whose octets are decoded: an unreserved one, and in an IRI one of `ucschar`, in its
+-- query also one of `iprivate`
 unfoldable pub is_readable : TableSet → ℕ → Bool
 is_readable set c = is_unreserved c || allows_past_ascii set c
 
@@ -41,7 +41,7 @@ read_from set run [] = read_run set run
 read_from set run (Octet value ∷ ts) = read_from set (run ++ value ∷ []) ts
 read_from set run (Char c ∷ ts) = read_run set run ++ Char c ∷ read_from set [] ts
 
--- each maximal run of octets is read as UTF-8
+-- each maximal run of octets is decoded as UTF-8
 abbrev pub read_tokens : TableSet → List Token → List Token
 read_tokens set ts = read_from set [] ts
 
@@ -50,8 +50,8 @@ read_tokens set ts = read_from set [] ts
 unfoldable pub is_bidi_formatting : ℕ → Bool
 is_bidi_formatting c = c == 0x200E || c == 0x200F || is_in_range 0x202A 0x202E c
 
--- such a character, which an IRI must not contain; a set without octets has no other way to spell
--- it
+-- such a character, which an IRI must not contain; a set without octets has no other way to
+-- represent it
 unfoldable pub is_never_literal : TableSet → ℕ → Bool
 is_never_literal set c = set.ucschar && set.pct_encoded && is_bidi_formatting c
 
@@ -69,17 +69,17 @@ is_literal_formatting (Octet value) = false
 abbrev pub encode_formatting : TableSet → List Token → List Token
 encode_formatting set ts = flat_map (formatting_as_octets set) ts
 
--- each maximal run of octets is read as UTF-8, and formatting characters are octets, whether they
--- stood there as characters or as octets
+-- Each maximal run of octets is decoded as UTF-8. Formatting characters become octets, whether they
+-- were characters or octets.
 abbrev pub read : TableSet → List ℕ → List Token
 read set text = encode_formatting set (read_tokens set (tokens text))
 
--- ASCII letters that stand for themselves, in lower case
+-- literal ASCII letters, in lower case
 abbrev pub lower_token : Token → Token
 lower_token (Char c) = Char (to_ascii_lowercase c)
 lower_token (Octet value) = Octet value
 
--- the token is read back from what is printed of it: a character other than `%`, or a byte
+-- `tokens` returns the token for its printed text: a character other than `%`, or a byte
 abbrev pub is_printable : Token → Bool
 is_printable (Char c) = all_scalars (c ∷ []) && not (c == percent_sign)
 is_printable (Octet value) = nat_lt value 256

@@ -68,21 +68,21 @@ unfoldable pub is_iprivate : ℕ → Bool
 is_iprivate c =
     is_in_range 0xE000 0xF8FF c || is_in_range 0xF0000 0xFFFFD c || is_in_range 0x100000 0x10FFFD c
 
--- what a table stands for: ASCII characters other than `%`, and three flags
+-- what a table represents: ASCII characters other than `%`, and three flags
 pub record TableSet : Type 0 where
   pub ascii : ℕ → Bool
   pub pct_encoded : Bool
   pub ucschar : Bool
   pub iprivate : Bool
 
--- the character may stand for itself
+-- the character may be literal
 unfoldable pub allows_past_ascii : TableSet → ℕ → Bool
 allows_past_ascii set c = set.ucschar && is_ucschar c || set.iprivate && is_iprivate c
 
 abbrev pub allows : TableSet → ℕ → Bool
 allows set c = if nat_lt c 128 then set.ascii c else allows_past_ascii set c
 
--- `%` stands for no character of the set
+-- `%` is never a literal character of the set
 abbrev pub LacksPercent : TableSet → Type 0
 LacksPercent set = set.ascii percent_sign ≡ false
 
@@ -166,7 +166,7 @@ query_set = encoded is_query_char
 abbrev pub fragment_set : TableSet
 fragment_set = encoded is_query_char
 
--- RFC 3986, section 2.4: data, in which a reserved character stands as an octet
+-- RFC 3986, section 2.4: data, in which each reserved character is percent-encoded
 abbrev pub data_set : TableSet
 data_set = encoded is_unreserved
 

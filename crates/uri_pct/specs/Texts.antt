@@ -6,7 +6,7 @@ use Rattle.std.specs.Char.{is_ascii_hexdigit}
 use Rattle.std.specs.declared.string.String.{String}
 use Rattle.uri_pct.specs.Delimiters.{percent_sign, slash}
 
--- the byte stands nowhere in the text
+-- the byte is nowhere in the text
 abbrev pub lacks : ℕ → List ℕ → Bool
 lacks byte text = list_all (λ b. not (b == byte)) text
 

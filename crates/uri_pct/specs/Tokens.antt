@@ -8,7 +8,7 @@ use Rattle.std.specs.Str.{chars}
 use Rattle.uri_pct.specs.Sets.{TableSet, allows}
 use Rattle.uri_pct.specs.Delimiters.{percent_sign}
 
--- a character that stands for itself, or an octet that is spelt `%` and two hexadecimal digits
+-- a literal character, or an octet, written as `%` and two hexadecimal digits
 pub data Token : Type 0 where
   Char : ℕ → Token
   Octet : ℕ → Token
@@ -18,8 +18,8 @@ unfoldable pub is_pct_encoded : ℕ → ℕ → ℕ → Bool
 is_pct_encoded percent high low =
     percent == percent_sign && (is_ascii_hexdigit high && is_ascii_hexdigit low)
 
--- the tokens that the characters spell: a `%` that two digits do not follow is a character, which
--- no set allows
+-- The tokens of the characters. A `%` that two digits do not follow is a character, which no set
+-- allows.
 unfoldable pub tokens_of : List ℕ → List Token
 tokens_of [] = []
 tokens_of (c ∷ []) = Char c ∷ []
@@ -37,14 +37,14 @@ abbrev pub allows_token : TableSet → Token → Bool
 allows_token set (Char c) = allows set c
 allows_token set (Octet value) = set.pct_encoded
 
--- the text is spelt by what the set allows
+-- the set allows each character and octet of the text
 unfoldable pub is_valid_for : TableSet → List ℕ → Bool
 is_valid_for set text = list_all (allows_token set) (tokens text)
 
 abbrev pub IsValidFor : TableSet → List ℕ → Type 0
 IsValidFor set text = is_valid_for set text ≡ true
 
--- the bytes that the tokens stand for
+-- the bytes that the tokens decode to
 abbrev pub bytes_of_token : Token → List ℕ
 bytes_of_token (Char c) = encode_utf8 c
 bytes_of_token (Octet value) = value ∷ []

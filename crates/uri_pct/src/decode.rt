@@ -77,8 +77,8 @@ impl<'a> Decode<'a> {
         !self.rest.as_bytes().contains(&b'%')
     }
 
-    /// The bytes that the text which is left decodes to: its own, borrowed, where no `%` is left.
-    /// They are the bytes of the items that are left. `+` is not read as a space.
+    /// Returns the bytes of the remaining items, decoded. If no `%` is left, they are borrowed from
+    /// the text. `+` is not decoded to a space.
     ///
     /// # Errors
     ///

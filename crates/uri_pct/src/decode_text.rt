@@ -82,8 +82,8 @@ impl TakeParts for LossyText {
 impl<'a> Decode<'a> {
     ghost use Rattle.uri_pct.specs.Decodes.{undecoded, decoded, bytes_left};
 
-    /// The text that what is left decodes to: itself, borrowed, where no `%` is left. Its bytes are
-    /// those of the items that are left. `+` is not read as a space.
+    /// Returns the remaining text, decoded. If no `%` is left, it is borrowed. Its bytes are those
+    /// of the remaining items. `+` is not decoded to a space.
     ///
     /// # Errors
     ///
@@ -119,8 +119,8 @@ impl<'a> Decode<'a> {
         }
     }
 
-    /// The text that what is left decodes to, with U+FFFD for each maximal ill-formed part of its
-    /// bytes (Unicode, section 3.9): itself, borrowed, where no `%` is left. `+` is not read as a
+    /// Returns the remaining text, decoded, with U+FFFD for each maximal ill-formed part of its
+    /// bytes (Unicode, section 3.9). If no `%` is left, it is borrowed. `+` is not decoded to a
     /// space.
     ///
     /// # Errors

@@ -3,11 +3,11 @@ ghost use Rattle.std.specs.Prelude.{◌≡◌, refl};
 
 use crate::table::{self, Table};
 
-/// Which characters stand for themselves, and whether percent-encoded octets stand beside them.
+/// An encoder: which characters may be literal, and whether percent-encoded octets are allowed.
 ///
-/// `set` names the set once and for all: whoever implements the trait chooses it, and `table`
-/// returns it. It lacks `%`, as `lacks_percent` says: that begins an octet and stands for nothing
-/// else (RFC 3986, section 2.1). Of a set that is written out `refl` proves it.
+/// `set` names the set; the implementor of the trait chooses it, and `table` returns it. It lacks
+/// `%`, as `lacks_percent` says: a `%` only ever begins an octet (RFC 3986, section 2.1). If the
+/// set is written out, `refl` proves `lacks_percent`.
 ///
 /// # Examples
 ///

@@ -24,12 +24,13 @@ ghost use Rattle.uri_pct.specs.Reading.{LacksPastAscii, is_literal_formatting, i
 ghost use Rattle.uri_pct.specs.Reading.{is_readable, lower_token};
 ghost use Rattle.uri_pct.specs.Reading.{read_alone, read_tokens, read};
 
-/// What is printed is read back as the tokens that were printed, and the tokens of a text that is
-/// valid for a set may be printed (RFC 3986, sections 2.1 and 6.2.2.1).
+/// Printable tokens are the tokens of their printed text. If a text is valid for a set, its tokens
+/// are printable (RFC 3986, sections 2.1 and 6.2.2.1).
 ///
 /// # Examples
 ///
-/// The tokens `a` and the octet 41 (hexadecimal) are printed as `a%41`, and read back as the two.
+/// The tokens `a` and the octet 41 (hexadecimal) are printed as `a%41`, whose tokens are the same
+/// two.
 pub fn what_is_printed_is_read_back()
     ensures tokens { (ts : List Token) → list_all is_printable ts ≡ true → tokens (print ts) ≡ ts }
     ensures valid { (set : TableSet) (ts : List Token) → list_all is_printable ts ≡ true
@@ -38,8 +39,7 @@ pub fn what_is_printed_is_read_back()
         → list_all is_printable (tokens text) ≡ true }
 {}
 
-/// An octet is read as its value, whether its digits are in upper or in lower case (RFC 3986,
-/// section 2.1).
+/// An octet has the same value with digits in upper or in lower case (RFC 3986, section 2.1).
 ///
 /// # Examples
 ///
@@ -51,13 +51,13 @@ pub fn octets_are_read_in_either_case()
         ∷ digit_glyph upper (value % 16) ∷ rest) ≡ Octet value ∷ tokens rest }
 {}
 
-/// A text spells one list of characters and percent-encoded octets, whatever the case of the
-/// digits, and it is the list that is read of it. So a text is valid for a set exactly if it spells
-/// what the set allows (RFC 3986, section 2.1).
+/// A text represents at most one list of characters and percent-encoded octets, whatever the case
+/// of the digits: its tokens. So a text is valid for a set exactly if it represents characters and
+/// octets that the set allows (RFC 3986, section 2.1).
 ///
 /// # Examples
 ///
-/// `a%3a` and `a%3A` both spell the character `a` and the octet 3A.
+/// Both `a%3a` and `a%3A` are the character `a` and the octet 3A.
 #[tactic(auto, using(crate::proofs::Theorems::spelling_laws))]
 pub fn spelt_texts_are_read_back()
     ensures one { (text : List ℕ) (ts : List Token) → Spells text ts → tokens text ≡ ts }
@@ -83,8 +83,9 @@ pub fn valid_prefixes_are_longest()
         → IsCharBoundary text n → IsValidFor set (take n text) → n ≤ valid_prefix set text }
 {}
 
-/// What is encoded is read back as the same tokens, these decode to the text or the bytes that were
-/// given, also after others, and a text is encoded as its bytes are (RFC 3986, section 2.1).
+/// The printed form of encoded text has the tokens that were encoded. These decode to the given
+/// text or bytes. Concatenated tokens decode to the concatenated bytes. A text is encoded as its
+/// bytes are (RFC 3986, section 2.1).
 ///
 /// # Examples
 ///
@@ -103,9 +104,8 @@ pub fn what_is_encoded_decodes_to_what_was_given()
         ≡ encode_text set text }
 {}
 
-/// The pieces of bytes are together these bytes, those that are well-formed are characters, and
-/// they are cut wherever a character stands and before every byte but 80 to BF (Unicode, section
-/// 3.9).
+/// The pieces of bytes join to the bytes. Each well-formed piece is a character. The bytes are cut
+/// around each character, and before every byte but 80 to BF (Unicode, section 3.9).
 ///
 /// # Examples
 ///
@@ -132,11 +132,11 @@ pub fn lossy_texts_are_those_of_std()
     ensures text { (bytes : List ℕ) → lossy_text bytes ≡ utf8_lossy bytes }
 {}
 
-/// Reading changes no bytes, what is read of a text that is valid for a set is valid for it, a
-/// character that stands for itself parts what is read before it from what is read after it, and
-/// the octets of a readable character are read as it is, wherever they stand. Of formatting
-/// characters of bidirectional text, which mean what their octets mean, none is read as itself
-/// where a set holds `ucschar` and octets (RFC 3987, section 4.1).
+/// Decoding readable octets keeps the bytes, and keeps a text valid for its set. A literal
+/// character separates the decoding before it from that after it. The octets of a readable
+/// character decode to it, in any context. If a set holds `ucschar` and octets, the decoded text
+/// has no literal formatting characters of bidirectional text: they are octets (RFC 3987, section
+/// 4.1).
 #[doc(hidden)]
 pub fn reading_changes_no_bytes()
     ensures bytes { (set : TableSet) (text : List ℕ) → token_bytes (read set text)
@@ -165,18 +165,18 @@ pub fn reading_changes_no_bytes()
         → list_any is_literal_formatting (read set text) ≡ false }
 {}
 
-/// In a URI each octet is read by itself (RFC 3986, section 6.2.2.2), which is the reading of an
-/// IRI (RFC 3987, section 5.3.2.3) at a set with no character past ASCII.
+/// In a URI each octet is decoded by itself (RFC 3986, section 6.2.2.2). This is the decoding of an
+/// IRI (RFC 3987, section 5.3.2.3) for a set with no character past ASCII.
 ///
 /// # Examples
 ///
-/// In a URI `%41%C3%A9` is read as `A` and the octets C3 and A9, and in an IRI as `A` and `é`.
+/// In a URI `%41%C3%A9` decodes to `A` and the octets C3 and A9, and in an IRI to `A` and `é`.
 pub fn uris_are_read_octet_by_octet()
     ensures { (set : TableSet) (text : List ℕ) → LacksPastAscii set → read set text
         ≡ map read_alone (tokens text) }
 {}
 
-/// Reading twice is reading once.
+/// Decoding readable octets twice equals decoding them once.
 #[doc(hidden)]
 pub fn reading_twice_is_reading_once()
     ensures tokens { (set : TableSet) (ts : List Token) → read_tokens set (read_tokens set ts)
@@ -185,8 +185,8 @@ pub fn reading_twice_is_reading_once()
         → read set (print (read set text)) ≡ read set text }
 {}
 
-/// The reading with its letters lowered is read as itself, and a set that allows the reading allows
-/// it.
+/// The decoded text with its letters lowered decodes to itself. If a set allows the decoded text,
+/// it allows the lowered text.
 #[doc(hidden)]
 pub fn lowering_may_come_before_reading()
     ensures tokens { (set : TableSet) (ts : List Token)

@@ -52,7 +52,7 @@ fn digit_value(digit: u8) -> u8
     DIGIT_VALUES[usize::from(digit)]
 }
 
-/// The byte that `%` and the two hexadecimal digits stand for.
+/// Returns the byte that `%` and the two hexadecimal digits encode.
 #[doc(hidden)]
 pub fn octet_value(high: u8, low: u8) -> u8
     requires high { IsTrue (is_ascii_hexdigit high) }

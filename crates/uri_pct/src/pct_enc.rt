@@ -17,8 +17,8 @@ use std::fmt;
 use std::hash::{Hash, Hasher};
 use std::marker::PhantomData;
 
-/// A text that is spelt by characters that the table of `E` allows and, where it allows
-/// percent-encoded octets, by `%` and two hexadecimal digits.
+/// A text of characters that the table of `E` allows. If the table allows percent-encoded octets,
+/// it may contain these too: `%` and two hexadecimal digits.
 ///
 /// # Examples
 ///

@@ -1,4 +1,4 @@
-//! How far a text is spelt by what a table allows.
+//! How far a table allows a text.
 ghost use Rattle.std.specs.Prelude.{◌≡◌, ◌<◌, ◌≤◌, ◌+◌, IsTrue, false, true, length, drop};
 ghost use Rattle.std.specs.Prelude.{slice_index};
 ghost use Rattle.std.specs.Str.{IsCharBoundary};
@@ -132,10 +132,10 @@ impl Table {
         ch.len_utf8()
     }
 
-    /// Where the longest piece ends that begins at `start` and is spelt by what the table allows,
+    /// Returns the end of the longest substring that begins at `start` and that the table allows,
     /// both as byte offsets.
     ///
-    /// Most pieces are ASCII characters alone, and these are scanned without a call.
+    /// Most such substrings are ASCII characters alone; they are scanned without a call.
     #[inline(always)]
     #[doc(hidden)]
     pub fn scan(&self, text: &str, start: usize) -> usize
@@ -154,7 +154,7 @@ impl Table {
         self.scan_on(text, i)
     }
 
-    /// Where the longest piece ends that begins at `start`, whatever it is spelt by.
+    /// Returns what `scan` returns, whatever characters and octets the substring has.
     #[inline(never)]
     fn scan_on(self, text: &str, start: usize) -> usize
         requires { IsCharBoundary text.now start }
@@ -187,7 +187,7 @@ impl Table {
         i
     }
 
-    /// Whether the text is spelt by what the table allows.
+    /// Returns whether the table allows each character and octet of the text.
     #[tactic(auto, using(crate::proofs::ValidTexts::Cuts::valid_where_scanned, crate::proofs::TableSets::Percent::lacks_percent))]
     #[doc(hidden)]
     pub fn allows_text(&self, text: &str) -> bool

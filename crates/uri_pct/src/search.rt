@@ -8,7 +8,8 @@ ghost use Rattle.uri_pct.specs.Models.ByteRuns.{IsRun};
 use crate::lanes::LANES;
 use std::simd::prelude::*;
 
-/// At which of the sixteen bytes from `at` on this one stands: bit k is of the byte at `at + k`.
+/// Returns which of the sixteen bytes from `at` on equal this one: bit k is for the byte at
+/// `at + k`.
 #[inline(always)]
 pub fn places_of(byte: u8, bytes: &[u8], at: usize) -> u64
     requires { at + LANES ≤ length bytes.now }

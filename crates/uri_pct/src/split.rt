@@ -11,12 +11,12 @@ use crate::pct_enc::EStr;
 use std::alloc::AllocError;
 use std::iter::FusedIterator;
 
-/// The pieces of a text between the places of a delimiter, from both ends: each comes once, from
-/// whichever end it is asked for, and after the last both ends return `None`.
+/// The substrings of a text between the occurrences of a delimiter. Both ends yield them, each one
+/// once. After the last, both ends return `None`.
 ///
 /// # Examples
 ///
-/// `a&b&c` split at `&` is `a`, `b`, `c` from the front, and `c`, `b`, `a` from the back.
+/// `a&b&c` split at `&` yields `a`, `b`, `c`; from the back it yields `c`, `b`, `a`.
 #[derive(Drop)]
 pub struct Split<'a, E: Encoder> {
     rest: Option<EStr<'a, E>>,
@@ -126,14 +126,14 @@ impl<'a, E: Encoder> EStr<'a, E> {
         Some((EStr::new_or_panic(before), EStr::new_or_panic(after)))
     }
 
-    /// The pieces between the places of `delimiter`, which is reserved (RFC 3986, section 2.2):
-    /// `RESERVED.allows` tests it. No piece holds the delimiter, and joined by it they are the
-    /// text; the empty text is one empty piece. Their number fits `usize`, so that `count` may be
-    /// called.
+    /// Returns the substrings between the occurrences of `delimiter`. The delimiter is reserved
+    /// (RFC 3986, section 2.2); `RESERVED.allows` tests it. No substring contains the delimiter,
+    /// and joined by it they are the text. The empty text has one substring, which is empty. Their
+    /// number fits `usize`, so that `count` may be called.
     ///
     /// # Examples
     ///
-    /// `a&&b` at `&` is `a`, the empty piece and `b`.
+    /// `a&&b` at `&` is `a`, the empty substring and `b`.
     pub fn split(self, delimiter: char) -> Split<'a, E>
         requires { IsTrue (is_reserved delimiter) }
         ensures pieces { pieces_left result ≡ slice_split (λ b. b == delimiter)
@@ -142,7 +142,7 @@ impl<'a, E: Encoder> EStr<'a, E> {
         ensures apart { AllPass (lacks delimiter) (pieces_left result) }
         ensures fits { length (pieces_left result) < 2 ^ 64 }
     {
-        // What is read is in memory, so its length is known to fit.
+        // The text is in memory, so its length is known to fit.
         let _text = self.as_str();
         Split {
             rest: Some(self),
@@ -161,8 +161,8 @@ impl<'a, E: PathEncoder> EStr<'a, E> {
     ///
     /// # Examples
     ///
-    /// `/a//b` has the segments `a`, the empty one and `b`; `/` has one, which is empty; `a/b` has
-    /// none to answer.
+    /// `/a//b` has the segments `a`, the empty one and `b`; `/` has one, which is empty. For `a/b`
+    /// the call returns `None`.
     pub fn segments_if_absolute(self) -> Option<Split<'a, E>>
         ensures absolute { is_some result ≡ is_absolute (text_of self.entry) }
         ensures segments { IfSome result

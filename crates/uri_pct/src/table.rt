@@ -17,8 +17,8 @@ pub use self::constants::{
 };
 use crate::lanes::{holds, words};
 
-/// A set of ASCII characters other than `%`, and three flags: whether percent-encoded octets, the
-/// characters of `ucschar` and those of `iprivate` (RFC 3987, section 2.2) may stand beside them.
+/// A set of ASCII characters other than `%`, and three flags. The flags add percent-encoded octets,
+/// the characters of `ucschar` and those of `iprivate` (RFC 3987, section 2.2).
 ///
 /// # Examples
 ///
@@ -235,7 +235,7 @@ impl Table {
         (self.ucschar && is_ucschar(ch)) || (self.iprivate && is_iprivate(ch))
     }
 
-    /// Whether the character may stand for itself.
+    /// Returns whether the table allows the character literally.
     ///
     /// # Examples
     ///
@@ -251,8 +251,9 @@ impl Table {
         }
     }
 
-    /// The characters that are read where octets spell them (RFC 3986, section 6.2.2.2; RFC 3987,
-    /// section 5.3.2.3): the unreserved ones, and those past ASCII that the table allows.
+    /// Returns the table of the characters whose octets normalising decodes (RFC 3986, section
+    /// 6.2.2.2; RFC 3987, section 5.3.2.3): the unreserved ones, and those past ASCII that the
+    /// table allows.
     #[doc(hidden)]
     pub fn readable(&self) -> Table
         ensures { (c : ℕ) → allows (set_of result) c ≡ is_readable (set_of self.now) c }

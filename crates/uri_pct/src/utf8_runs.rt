@@ -1,4 +1,4 @@
-//! Octets that are read as UTF-8.
+//! Octets that are decoded as UTF-8.
 ghost use Rattle.std.specs.Prelude.{◌≡◌, ◌<◌, OnOk, List, [], ◌∷◌, ◌++◌, length, map};
 ghost use Rattle.uri_pct.specs.Chunks.{Chunk, Byte};
 ghost use Rattle.uri_pct.specs.Decodes.{chunk_of};
@@ -17,16 +17,16 @@ pub trait TakeParts {
     /// From the one value to the other, these parts were taken.
     ghost took: { Self → List Part → Self → Type 0 };
 
-    /// Takes text that stands for itself.
+    /// Takes literal text.
     fn take_unencoded(&mut self, text: &str) -> Result<(), AllocError>
         ensures { OnOk result (took self.old (Plain text.now ∷ []) self.new) };
 
-    /// Takes characters past ASCII that octets spell.
+    /// Takes characters past ASCII that octets decode to.
     fn take_well_formed(&mut self, text: &str) -> Result<(), AllocError>
         requires { ArePastAscii text.now }
         ensures { OnOk result (took self.old (map Read (utf8_pieces text.now)) self.new) };
 
-    /// Takes an ASCII character that an octet spells.
+    /// Takes an ASCII character that an octet decodes to.
     fn take_ascii(&mut self, byte: u8) -> Result<(), AllocError>
         requires { byte < 128 }
         ensures { OnOk result (took self.old (map Read (utf8_pieces (byte ∷ []))) self.new) };

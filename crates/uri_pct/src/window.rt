@@ -1,4 +1,4 @@
-//! The window through which a run of octets past ASCII is read.
+//! The window through which a run of octets past ASCII is decoded.
 ghost use Rattle.std.specs.Prelude.{◌≡◌, ◌-◌, ◌<◌, ◌≤◌, ◌==◌, [], ◌∷◌, ◌++◌, length, take, drop};
 ghost use Rattle.uri_pct.specs.Parts.{ArePastAscii};
 ghost use Rattle.uri_pct.specs.Models.Unfinished.{called_for, unfinished_len};

@@ -241,7 +241,7 @@ module _ (kind : Kind) (sets : HasComponentSets kind) (text : List ℕ) (w : IsT
       (parts_of kind text w).authority)
       ∙ ap positions_of (sym (components-encoded text w.utf8))
 
-  -- the places stand one after the other
+  -- the positions are in order
   authority_ordered : (before : ℕ) (o : Option (List ℕ))
       → IfSome o (λ a. IsUtf8 a × (is_authority kind a ≡ true))
       → IfSome (option_map (authority_at (before + 2)) o) (IsOrdered (before + marked_length 2 o))

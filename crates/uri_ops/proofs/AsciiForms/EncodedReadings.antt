@@ -1,4 +1,4 @@
--- A text without characters past ASCII is allowed where the text was, and read as the text.
+-- If a text is allowed, so is its form without characters past ASCII, and both decode to the same.
 use Rattle.std.proofs.Common.{◌≡◌, ℕ, true, List, [], ◌∷◌, ◌++◌, map, refl, sym, ap, ◌∙◌, ⊎_elim}
 use Rattle.std.proofs.Common.{append_assoc}
 use Rattle.std.specs.Char.{IsScalar, encode_utf8}
@@ -77,7 +77,7 @@ module _ (set : TableSet) where
       ∙ ap (λ t. flat_map (read_piece set) (utf8_pieces run)
       ++ (t ++ flat_map (read_piece set) (utf8_pieces more))) (char_piece c s e)
 
-  -- the octets of a character part the reading as the character does
+  -- the octets of a character separate the decoding as the character does
   from_around : (run more : List ℕ) (c : ℕ) (ts : List Token) → IsScalar c
       → is_readable set c ≡ true
       → read_from set (run ++ (encode_utf8 c ++ more)) ts

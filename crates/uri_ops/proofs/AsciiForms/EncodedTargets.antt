@@ -142,7 +142,7 @@ target_encoded base r u v rooted =
     ap finished (joined_encoded base r.scheme r.authority r.path r.query r.fragment u rooted)
     ∙ finished_encoded (joined base r) (utf8_joined base r u v rooted)
 
--- and the refusals
+-- and the errors
 refused_encoded : (base r : Components)
     → is_refused_as_opaque (encoded_components base) (encoded_components r)
     ≡ is_refused_as_opaque base r

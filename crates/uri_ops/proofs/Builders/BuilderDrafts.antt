@@ -53,7 +53,7 @@ pub adds_from : (change : BuilderParts → BuilderParts) (before after : Lengths
 adds_from change before after text new f g kept step e = ap (parts_in after new) e ∙ step e
     ∙ ap (λ b. change (parts_in before text b)) (sym (kept e))
 
--- two pieces, one after the other
+-- two texts, one after the other
 pub two_pieces : (text one two first second : List ℕ) (f g : Bool) → (g ≡ false → f ≡ false)
     → (f ≡ false → first ≡ text ++ one) → (g ≡ false → second ≡ first ++ two)
     → g ≡ false → second ≡ text ++ (one ++ two)

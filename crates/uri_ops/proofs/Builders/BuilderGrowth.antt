@@ -27,7 +27,7 @@ use Rattle.uri_ops.proofs.Builders.BuilderAuthorities.{host_parts, port_parts, u
 use Rattle.uri_ops.proofs.Builders.BuilderSteps.{more_step}
 use Rattle.uri_ops.proofs.Builders.Drafting.{IsStep, none_in}
 
--- an authority that goes on is one, and stands where its next part may follow
+-- a longer authority is an authority, and its next part may follow
 abbrev pub GoesOn : Kind → (List ℕ → Bool) → (List ℕ → Bool) → List ℕ → Type 0
 GoesOn kind takes then x = (a : List ℕ) → is_authority_text kind a ≡ true → takes a ≡ true
     → (is_authority_text kind (a ++ x) ≡ true) × (then (a ++ x) ≡ true)

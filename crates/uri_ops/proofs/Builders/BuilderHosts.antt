@@ -54,7 +54,7 @@ ipv6_host names text segments h = record {
   host = (Ipv6 segments, (text, refl, h));
 }
 
--- a name, or the IPv4 address that it spells
+-- a name, or the IPv4 address that it represents
 pub name_host : (names : TableSet) → LacksPercent names → excludes names (codes "[") ≡ true
     → (text : List ℕ) → IsUtf8 text → is_valid_for names text ≡ true → IsHostText names text
 name_host names percent outside text u valid =

@@ -58,7 +58,7 @@ module _ (lengths : Lengths) (text : List ℕ) (draft : IsDraft lengths text) wh
   unfolding old
   no_fragment e = ap (λ n. part_in 1 n from_fragment) e
 
-  -- what stood, and a new part after it
+  -- the old text, and a new part after it
   longer : (more : List ℕ)
       → text ++ more
       ≡ whole old.scheme old.authority (unwrap_or old.path []) old.query old.fragment ++ more
@@ -139,7 +139,7 @@ module _ (lengths : Lengths) (text : List ℕ) (draft : IsDraft lengths text) wh
       ++ (codes "#" ++ x))
       ∙ fragment_text old.scheme old.authority old.query (unwrap_or old.path []) x)
 
-  -- the authority that stands last, and more of it
+  -- more of an authority that comes last
   pub more_step : (n : ℕ) (a x : List ℕ) → lengths.authority ≡ Some n
       → (parts_in lengths text false).authority ≡ Some a → lengths.path ≡ None
       → lengths.query ≡ None → lengths.fragment ≡ None

@@ -1,5 +1,5 @@
--- The text of a builder's parts is of its kind, with these components, exactly where nothing is
--- refused.
+-- The text of a builder's parts is of its kind, with these components, exactly if nothing is
+-- rejected.
 use Rattle.std.proofs.Common.{◌≡◌, ℕ, ◌<◌, Bool, true, false, not, ◌&&◌, ◌||◌, List, [], ◌∷◌, ◌++◌}
 use Rattle.std.proofs.Common.{length, refl, sym, ap, subst, ◌∙◌, inl, inr, cond, string_bytes}
 use Rattle.std.specs.Prelude.{codes, Option, Some, None, IfSome, IfNone, is_some, unwrap_or}
@@ -64,7 +64,7 @@ path_part : (set : TableSet) (o : Option (List ℕ)) → if_some o (is_text_for 
 path_part set None h = part_nil set
 path_part set (Some x) h = text_part set x h
 
--- what is not refused, for the path
+-- the paths that are not rejected
 record IsLetPass (scheme authority : Option (List ℕ)) (path : List ℕ) : Type 0 where
   rooted : IfSome authority (λ a. IsRooted path)
   no_authority : IfNone authority (has_authority path ≡ false)

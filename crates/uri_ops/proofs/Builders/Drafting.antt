@@ -1,5 +1,5 @@
--- The text of the parts of a builder: the parts are read back from it, and a text with these parts
--- is such a text.
+-- The text of the parts of a builder: parsing it gives the parts, and a text with these parts is
+-- such a text.
 use Rattle.std.proofs.Common.{◌≡◌, ℕ, ◌+◌, Bool, true, false, List, [], ◌++◌, length, take, drop}
 use Rattle.std.proofs.Common.{refl, sym, ap, ◌∙◌, arith, append_assoc, append-nil, length-append}
 use Rattle.std.specs.Prelude.{codes, Option, Some, None, option_map, unwrap_or, is_none}

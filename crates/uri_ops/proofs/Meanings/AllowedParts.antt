@@ -1,4 +1,4 @@
--- Texts that a set allows, cut at `/`, and what is printed of what is read of them.
+-- Texts that a set allows, cut at `/`, and their decoded forms as printed.
 use Rattle.std.proofs.Common.{◌≡◌, ℕ, ◌+◌, ◌*◌, Bool, true, false, eqb, List, [], ◌∷◌, ◌++◌, refl}
 use Rattle.std.proofs.Common.{ap, ◌∙◌, ◌&&◌, ⊎_elim, lit<}
 use Rattle.std.specs.Char.{encode_utf8, digit_value, is_ascii_hexdigit}
@@ -43,7 +43,7 @@ pub part_nil : (set : TableSet) → is_part set [] ≡ true
 unfolding is_valid_for tokens_of chars
 part_nil set = part_from set [] IsUtf8-nil refl
 
--- the text that is printed of what is read
+-- the decoded text, as printed
 unfoldable pub reprinted : TableSet → List ℕ → List ℕ
 reprinted set text = print (read set text)
 
@@ -118,7 +118,7 @@ tokens-cut x y u =
     ap tokens_of (chars-append x (47 ∷ y) u ∙ ap (λ cs. chars x ++ cs) (chars-slash y))
     ∙ tokens_of-cut (chars x) (chars y)
 
--- so it parts what is read before it from what is read after it
+-- so it separates the decoding before it from that after it
 read-cut : (set : TableSet) (x y : List ℕ) → IsUtf8 x
     → read set (x ++ 47 ∷ y) ≡ read set x ++ Char 47 ∷ read set y
 read-cut set x y u =

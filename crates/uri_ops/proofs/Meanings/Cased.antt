@@ -24,7 +24,7 @@ use Rattle.uri_pct.proofs.EncodedTexts.Encodings.{text_as_pieces}
 use Rattle.uri_ops.specs.Models.Readings.{cased, cased_text}
 use Rattle.uri_pct.proofs.Readings.Formatting.{lower_octets, past_same}
 
--- text that stands for itself
+-- literal text
 print_chars : (cs : List ℕ) → print (map Char cs) ≡ encode_utf8_all cs
 print_chars [] = refl
 print_chars (c ∷ cs) = ap (λ x. encode_utf8 c ++ x) (print_chars cs)
@@ -137,7 +137,7 @@ module _ (readable set : TableSet) (same : AllowsReadable readable set) where
       ap (λ ts. ts ++ flat_map (read_piece set) ps) (piece_read p (All-head IsOfCharacter p ps h))
       ∙ ap (λ ts. encode_piece readable p ++ ts) (pieces_read ps (All-tail IsOfCharacter p ps h))
 
-  -- characters that octets spell
+  -- characters that octets decode to
   pub text_read : (text : List ℕ) → IsUtf8 text
       → flat_map (read_piece set) (utf8_pieces text) ≡ encode_text readable text
   text_read text u = pieces_read (utf8_pieces text) (utf8_pieces-are text)

@@ -1,4 +1,4 @@
--- Which characters a part lacks, and that what is printed of its reading lacks them too.
+-- Which characters a part lacks: its decoded form lacks them too.
 use Rattle.std.proofs.Common.{◌≡◌, ℕ, zero, suc, Bool, true, false, cond, eqb, not, List, [], ◌∷◌}
 use Rattle.std.proofs.Common.{◌++◌, refl, sym, ap, ◌∙◌, arith, ◌&&◌, ⊎_elim}
 use Rattle.std.specs.List.{list_all, list_any, flat_map}
@@ -87,7 +87,7 @@ part_without m set lacks text e f =
     ∙ valid_without m set 0 text f ∙ sym (is_valid_for-bytes set lacks text u)
     ∙ part_valid set text e)
 
--- which character is left out makes no difference to reading
+-- a set without one character decodes the same
 piece_without : (m : ℕ) (set : TableSet) (p : Piece)
     → read_piece (without m set) p ≡ read_piece set p
 unfolding is_readable allows_past_ascii
@@ -154,7 +154,7 @@ lacks_has m (c ∷ text) e =
 
 module _ (m : ℕ) (set : TableSet) (lacks : LacksPercent set) (wide : IsSubset unreserved_set set)
     (reserved : is_unreserved m ≡ false) (outside : excludes (without m set) (m ∷ []) ≡ true) where
-  -- a character that is not unreserved is not printed of the reading of a text that lacks it
+  -- if a text lacks a character that is not unreserved, its decoded form lacks it
   pub reprinted_lacks : (text : List ℕ) → is_part set text ≡ true → has m text ≡ false
       → has m (reprinted set text) ≡ false
   reprinted_lacks text e f =

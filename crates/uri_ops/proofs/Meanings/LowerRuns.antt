@@ -110,7 +110,7 @@ last_step text out new whole n front all run total =
     ap str_to_ascii_lowercase (sym is_whole) ∙ front.same ∙ is_whole in
     pushed_run text out new n run ∙ ap (λ x. out ++ x) (is_whole ∙ sym lower) ∙ total
 
--- where the position of the first one is told as an option
+-- if the position of the first one is an option
 pub found_or_end : (text : List ℕ) (found : Option ℕ)
     → (let n = position_or_len is_ascii_uppercase text in
     found ≡ cond (ltb n (length text)) (Some n) None)

@@ -47,7 +47,7 @@ unfolding IsNormalOf ports chars encode_utf8 digits hex hex_groups_text ipv6_tex
 letters =
     (refl, refl, refl, refl, refl)
 
--- hosts: addresses by their numbers, and names that are addresses once they are read
+-- hosts: addresses by their numbers, and names that decode to addresses
 hosts :
     IsNormalOf uri_ref (codes "//[0:0:0:0:0:ffff:192.0.2.1]") (codes "//[::ffff:192.0.2.1]")
     × IsNormalOf uri_ref (codes "//[::192.0.2.1]") (codes "//[::c000:201]")
@@ -69,7 +69,7 @@ unfolding IsNormalOf ports chars encode_utf8 digits hex hex_groups_text ipv6_tex
 hosts =
     (refl, refl, refl, refl, refl, refl, refl, refl, refl)
 
--- in an IRI runs of octets are read as UTF-8
+-- in an IRI runs of octets are decoded as UTF-8
 characters :
     IsNormalOf iri_ref (codes "/%C3%41%A9%C3%A9") (codes "/%C3A%A9" ++ (0xC3 ∷ 0xA9 ∷ []))
     × IsNormalOf iri_ref (codes "/%C3A%A9" ++ (0xC3 ∷ 0xA9 ∷ []))
@@ -123,7 +123,7 @@ unfolding IsNormalOf ports chars encode_utf8 digits hex hex_groups_text ipv6_tex
 ports_and_dots =
     (refl, refl, refl, refl, refl, refl, refl, refl, refl, refl, refl, refl, refl)
 
--- the kind of a host that is an address once it is read
+-- the kind of a host that decodes to an address
 address_once_read : (host_kind (codes "127.0.0.%31") ≡ RegName)
     × (host_kind (codes "127.0.0.1") ≡ Ipv4 (127 ∷ 0 ∷ 0 ∷ 1 ∷ []))
 unfolding host_kind ipv4_value read_ipv4 read_octet read_number

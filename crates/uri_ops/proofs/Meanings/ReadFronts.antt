@@ -1,5 +1,5 @@
--- What is at the start of a text is read by itself: characters, and octets of ASCII, or all
--- where a set has no characters past it.
+-- A prefix of a text is decoded by itself if it consists of characters and octets of ASCII. If the
+-- set has no characters past ASCII, every octet may be in it.
 use Rattle.std.proofs.Common.{◌≡◌, ℕ, take_all, ◌+◌, ◌*◌, ◌-◌, ◌<◌, Bool, true}
 use Rattle.std.proofs.Common.{false, eqb, ltb, not, List, [], ◌∷◌, ◌++◌, length, get_or, take}
 use Rattle.std.proofs.Common.{drop, map, ◌≤◌, add-zero, refl, sym, ap, subst, ◌∙◌, arith}
@@ -132,13 +132,13 @@ behind_front text n m v = subst (IsValidFor widest_set) (drop-drop m n text) v
 octet_length : (text : List ℕ) (o : BeginsOctet text) → length text ≡ 3 + length o.behind
 octet_length text o = ap length o.spelt ∙ omega arith
 
--- where its digits stand, and what is after it
+-- the positions of its digits, and what is after it
 digits_of : (text : List ℕ) (o : BeginsOctet text)
     → (get_or text 1 0 ≡ o.high) × ((get_or text 2 0 ≡ o.low) × (drop 3 text ≡ o.behind))
 digits_of text o =
     (ap (λ x. get_or x 1 0) o.spelt, (ap (λ x. get_or x 2 0) o.spelt, ap (drop 3) o.spelt))
 
--- an octet that stands within a text, and its digits, by the text's bytes
+-- an octet within a text, and its digits, by the text's bytes
 pub record OctetAt (bytes text : List ℕ) (i : ℕ) : Type 0 where
   pub octet : BeginsOctet (drop i text)
   pub within : i + 2 < length bytes
@@ -201,7 +201,7 @@ octet_step lowers set out new whole rest behind value o alone none itself same a
     ap (λ x. x ++ text_read lowers set behind) pushed
     ∙ append_assoc out read (text_read lowers set behind) ∙ ap (λ x. out ++ x) (sym split) ∙ total
 
--- an octet is read by itself where all are, or where its first digit is below 8
+-- an octet is decoded by itself if all are, or if its first digit is below 8
 low_octet : (high low : ℕ) → is_ascii_hexdigit high ≡ true → is_ascii_hexdigit low ≡ true
     → high < 56 → 16 * digit_value high + digit_value low < 128
 low_octet high low h l small = grind (arith, nat_tests)

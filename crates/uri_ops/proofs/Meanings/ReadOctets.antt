@@ -1,4 +1,4 @@
--- What is read of characters, and of an octet, at the start of a text.
+-- Decoding of characters, and of an octet, at the start of a text.
 use Rattle.std.proofs.Common.{◌≡◌, ℕ, ◌+◌, ◌*◌, ◌/◌, ◌%◌, ◌<◌, Bool, true}
 use Rattle.std.proofs.Common.{false, cond, eqb, ltb, not, List, [], ◌∷◌, ◌++◌, take}
 use Rattle.std.proofs.Common.{drop, map, refl, sym, ap, subst, ◌∙◌, arith, ◌&&◌}

@@ -1,4 +1,4 @@
--- What is read of the parts of a text is what is read of its tokens.
+-- Decoding the parts of a text gives the decoding of its tokens.
 use Rattle.std.proofs.Common.{◌≡◌, ℕ, true, List, [], ◌∷◌, ◌++◌, map, refl, sym, ap, ◌∙◌}
 use Rattle.std.proofs.Common.{append_assoc}
 use Rattle.std.specs.List.{list_all, flat_map}

@@ -1,4 +1,4 @@
--- What a reading takes.
+-- What a `Reading` takes.
 use Rattle.std.proofs.Common.{◌≡◌, ℕ, Bool, true, false, List, [], ◌∷◌, ◌++◌, map, sym, ap, ◌∙◌}
 use Rattle.std.proofs.Common.{string_bytes}
 use Rattle.std.specs.Str.{IsUtf8, chars}
@@ -17,14 +17,14 @@ use Rattle.uri_ops.proofs.Meanings.Cased.{AllowsReadable, print_cased, cased_oct
 use Rattle.uri_ops.proofs.Meanings.Cased.{past_lower, text_read_lower}
 use Rattle.uri_ops.proofs.Meanings.ReadParts.{parts_of_run, read_parts-tokens}
 
--- text that stands for itself
+-- literal text
 pub plain_cased : (lowers : Bool) (set : TableSet) (text : List ℕ) → IsUtf8 text
     → print (cased lowers (read_parts set (Plain text ∷ []))) ≡ cased_text lowers text
 plain_cased lowers set text u = ap (λ ts. print (cased lowers ts))
     (append-nil (map Char (chars text)))
     ∙ print_cased lowers text u
 
--- characters past ASCII that octets spell
+-- characters past ASCII that octets decode to
 pub spelt_past_ascii : (lowers : Bool) (readable set : TableSet) (text : List ℕ)
     → AllowsReadable readable set → IsUtf8 text → ArePastAscii text
     → print (cased lowers (read_parts set (map Read (utf8_pieces text))))
@@ -42,7 +42,7 @@ pub octets_cased : (lowers : Bool) (set : TableSet) (bytes : List ℕ)
 octets_cased lowers set bytes = ap (λ ts. print (cased lowers ts)) (append-nil (map Octet bytes))
     ∙ ap print (cased_octets lowers bytes)
 
--- a reading that grew by what was to be written
+-- a `Reading` that grew by what was to be written
 pub grown : (s t : Reading) (ps : List Part) (more : List ℕ) → set_of t.table ≡ set_of s.table
     → t.lowers ≡ s.lowers → t.text.ghost_name ≡ s.text.ghost_name
     → string_bytes t.text.now ≡ string_bytes s.text.now ++ more

@@ -122,7 +122,7 @@ written_behind old more new start e f =
     rw (e, f) (ap (λ x. x ++ written_text (drop (length old) (old ++ more)))
     (take-append_seam old more) ∙ ap (λ x. old ++ written_text x) (drop-append_seam old more))
 
--- what is read of a text, with its letters lowered where that is asked
+-- the decoded text, with its letters lowered if `lowers`
 cased_encode : (lowers : Bool) (set : TableSet) (ts : List Token)
     → encode_formatting set (cased lowers ts) ≡ cased lowers (encode_formatting set ts)
 cased_encode true set ts = sym (lower-encode_formatting set ts)

@@ -76,7 +76,7 @@ lowered_twice : (scheme : Option (List ℕ))
 lowered_twice None = refl
 lowered_twice (Some s) = ap Some (lower_twice s)
 
--- what is printed of the reading of a component that may be absent
+-- the decoded form of a component that may be absent, as printed
 module _ (set : TableSet) (marks : List ℕ) (w : IsComponentSet marks set) where
   pub printed_part : (o : Option (List ℕ)) → IfSome o (λ x. is_part set x ≡ true)
       → IfSome (option_map print (option_map (read set) o)) (λ x. is_part set x ≡ true)
@@ -188,7 +188,7 @@ module _ (kind : Kind) (sets : HasComponentSets kind) (keeps : KeepsAuthorities 
       ∙ ap Some (authority_meaning-same kind default
       (normal_authority (authority_meaning kind default a)) a (keeps.bare default a h.0 h.1))
 
-  -- a scheme where the kind needs one, and no `:` in the first segment of a path that stands alone
+  -- a scheme if the kind needs one, and no `:` in the first segment of a path that is alone
   abbrev meets_needs : Option (List ℕ) → Option (List ℕ) → List ℕ → Bool
   meets_needs scheme o path = is_some scheme
       || (not kind.needs_scheme && (is_some o || not (has_colon_first path)))

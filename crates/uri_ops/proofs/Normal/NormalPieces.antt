@@ -24,14 +24,14 @@ use Rattle.uri_ops.proofs.Paths.ReadPaths.{part_removed}
 use Rattle.uri_ops.proofs.Paths.ReadStarts.{has_authority_reprinted, no_authority_first}
 use Rattle.uri_pct.proofs.Tests.{some_map}
 
--- what is read of a path begins with `//` where the path does
+-- a decoded path begins with `//` exactly if the path does
 read_authority : (set : TableSet) → IsComponentSet (codes "?#[]") set → (path : List ℕ)
     → IsUtf8 path → IsValidFor set path → has_authority (print (read set path)) ≡ has_authority path
 unfolding reprinted
 read_authority set w path utf8 valid =
     has_authority_reprinted set w.percent w.unreserved path (part_from set path utf8 valid)
 
--- the guard and what is read of the path
+-- the guard and the decoded path
 pub guard_written : (set : TableSet) → IsComponentSet (codes "?#[]") set → (path : List ℕ)
     → IsUtf8 path → IsValidFor set path → (authority : Option (List ℕ)) (guard old mid new : List ℕ)
     → mid ≡ old ++ guard → new ≡ mid ++ print (read set path)

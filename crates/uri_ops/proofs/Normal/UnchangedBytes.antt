@@ -19,7 +19,7 @@ use Rattle.uri_pct.proofs.TableSets.Masks.{or_test}
 use Rattle.uri_parts.specs.Components.{marked}
 use Rattle.uri_ops.specs.Models.Unchanged.{IsPlain, is_plain_byte}
 
--- sixteen bytes among which neither stands
+-- sixteen bytes that hold neither
 pub none_in_block : (bs : List ℕ) (at percents leads : ℕ) → at + 16 ≤ length bs
     → percents ≡ mask_l (map (λ b. eqb b 37) (chunk at 16 bs))
     → leads ≡ mask_l (map (λ b. eqb b 0xE2) (chunk at 16 bs)) → bit_or percents leads ≡ 0

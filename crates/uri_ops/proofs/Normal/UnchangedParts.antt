@@ -49,7 +49,7 @@ plain_tokens set text u e =
     ∙ read_chars set (chars text) []
     ∙ ap (λ ts. map Char (chars text) ++ ts) (no_run set) ∙ append-nil (map Char (chars text))
 
--- what is read of a text in which nothing asks for more is its characters
+-- a plain text decodes to its characters
 plain_read : (set : TableSet) (text : List ℕ) → IsUtf8 text → IsPlain text
     → read set text ≡ map Char (chars text)
 plain_read set text u e = ap (encode_formatting set) (plain_tokens set text u e)

@@ -1,4 +1,4 @@
--- A dot segment is one that stands for the bytes of one dot or of two.
+-- A dot segment is one that decodes to the bytes of one dot or of two.
 use Rattle.std.proofs.Common.{◌≡◌, ℕ, ◌+◌, ◌*◌, ◌<◌, Bool, true, false, eqb, List, [], ◌∷◌, ◌++◌}
 use Rattle.std.proofs.Common.{length, refl, sym, ap, subst, ◌∙◌, arith, ◌&&◌, ⊎_elim, inl, inr, ◌⊎◌}
 use Rattle.std.specs.Prelude.{codes, bytes_eq}
@@ -16,7 +16,7 @@ use Rattle.uri_ops.specs.Dots.{dots, is_single_dot, is_double_dot}
 use Rattle.uri_ops.proofs.Paths.Segments.{same_of}
 use Rattle.uri_pct.proofs.ValidTexts.Allowed.{hexdigit_below}
 
--- one of the spellings of a dot
+-- one of the forms of a dot
 pub record IsDot (text : List ℕ) : Type 0 where
   pub spelt : (text ≡ codes ".") ⊎ ((text ≡ codes "%2E") ⊎ (text ≡ codes "%2e"))
 
@@ -68,7 +68,7 @@ double_dot_bytes s e =
     ap (λ t. token_bytes (tokens t)) (same_of s (v.0 ++ w.0) w.1.1)
     ∙ two_dots_bytes v.0 w.0 v.1.0 w.1.0
 
--- characters that stand for a first byte 46 begin with a dot
+-- characters that decode to a first byte 46 begin with a dot
 record BeginsWithDot (cs bytes : List ℕ) : Type 0 where
   dot : List ℕ
   rest : List ℕ
@@ -165,7 +165,7 @@ nothing_left (c ∷ h ∷ l ∷ rest) e = ⊎_elim
     (λ o. absurd (some_bytes c _ (sym (ap token_bytes (cond-false _ _ _ o)) ∙ e)))
     (cases_Bool (is_pct_encoded c h l))
 
--- bytes of one dot or of two are spelt by a dot segment
+-- what decodes to the bytes of one dot or of two is a dot segment
 dot_text : (cs : List ℕ) → IsDot cs → is_single_dot (encode_utf8_all cs) ≡ true
 unfolding encode_utf8
 dot_text = each_dot (λ cs. is_single_dot (encode_utf8_all cs) ≡ true) refl refl refl
@@ -211,7 +211,7 @@ same_tests : (a b : Bool) → (a ≡ true → b ≡ true) → (b ≡ true → a 
 same_tests a b f g = ⊎_elim (λ e. e ∙ sym (f e))
     (λ e. e ∙ sym (false_from_ne_true b (λ h. false≢true (sym e ∙ g h)))) (cases_Bool a)
 
--- texts that stand for the same bytes are alike single dots, and double dots
+-- of texts that decode to the same bytes, both or neither are single dots; likewise double dots
 pub same_single_dot : (s t : List ℕ) → IsUtf8 s → IsUtf8 t
     → token_bytes (tokens s) ≡ token_bytes (tokens t) → is_single_dot s ≡ is_single_dot t
 same_single_dot s t u v e = same_tests (is_single_dot s) (is_single_dot t)
@@ -224,6 +224,6 @@ same_double_dot s t u v e = same_tests (is_double_dot s) (is_double_dot t)
     (λ h. from_bytes_double t v (sym e ∙ double_dot_bytes s h))
     (λ h. from_bytes_double s u (e ∙ double_dot_bytes t h))
 
--- a text that stands for no bytes is empty
+-- a text that decodes to no bytes is empty
 pub empty_from_bytes : (s : List ℕ) → IsUtf8 s → token_bytes (tokens s) ≡ [] → s ≡ []
 empty_from_bytes s u e = sym (encodes-chars s u) ∙ ap encode_utf8_all (nothing_left (chars s) e)

@@ -168,7 +168,7 @@ removed_directory = rooted (λ path. remove_dot_segments (directory path)
     ∙ directory_text (cleaned (s ∷ rest)) (cleaned_some (s ∷ rest) (some_refl s rest))
     (cleaned_lack (s ∷ rest) e))))
 
--- of a path in two pieces, that of the first may be removed first
+-- if a prefix of a path ends in `/`, its dot segments may be removed first
 pub removed_in_pieces : (front q : List ℕ) → IsAbsolute front → EndsInSlash front
     → remove_dot_segments (front ++ q) ≡ remove_dot_segments (remove_dot_segments front ++ q)
 removed_in_pieces front q = by_closed

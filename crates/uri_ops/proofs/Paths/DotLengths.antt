@@ -1,4 +1,4 @@
--- Dots are told by how many bytes they take.
+-- The number of bytes that a dot takes identifies it.
 use Rattle.std.proofs.Common.{◌≡◌, ◌⊎◌, ℕ, zero, suc, ◌+◌, ◌-◌, ◌<◌, true, false, eqb, List, []}
 use Rattle.std.proofs.Common.{◌∷◌, ◌++◌, length}
 use Rattle.std.proofs.Common.{take, drop, get_or, refl, sym, ap, subst, ◌∙◌, arith, inl, inr}
@@ -43,7 +43,7 @@ dots_double d e f g =
     (each_dot (IsDouble (codes "%2e")) (refl, refl) (refl, refl) (refl, refl) e g)
     d f
 
--- and a dot stands where some bytes are told
+-- and certain bytes at the start are a dot
 one_byte : (text : List ℕ) → get_or text 0 0 ≡ 46 → take 1 text ≡ codes "."
 one_byte [] e = absurd (omega (arith, e))
 one_byte (c ∷ text) e = ap (λ b. b ∷ []) e
@@ -119,7 +119,7 @@ module _ (path bytes : List ℕ) (n : ℕ) (value : bytes ≡ path) where
       → ends_segment (drop n path) ≡ b
   end_behind b e = sym (e ∙ ap ends_segment rest_at)
 
--- two dots that are told one after the other
+-- two dots in a row, by their lengths
 module _ (path : List ℕ) (first second : ℕ) (at : first ≡ dot_len path)
     (next : second ≡ dot_len (drop first path)) where
   first_some : 0 < first + second → 0 < first
@@ -152,7 +152,7 @@ module _ (path : List ℕ) (first second : ℕ) (at : first ≡ dot_len path)
       (dots_double (take first path) (take second (drop first path)) (dot_at path first at before)
       (dot_at (drop first path) second next some))
 
-  -- a dot segment that is first is told, with what ends it
+  -- if a dot segment is first, the lengths find it and what ends it
   Told : List ℕ → Type 0
   Told s = (first + second ≡ length s) × (0 < first + second)
 

@@ -1,4 +1,4 @@
--- Removing dot segments ends with nothing left to read: each step reads some of its input.
+-- Removing dot segments ends with an empty input: each step consumes some of it.
 use Rattle.std.proofs.Common.{◌≡◌, ℕ, zero, suc, ◌+◌, ◌<◌, ◌≤◌, true, false, not, List, [], ◌∷◌}
 use Rattle.std.proofs.Common.{length, take, drop, refl, ap, ◌∙◌, arith, ⊎_elim}
 use Rattle.std.specs.Prelude.{codes}

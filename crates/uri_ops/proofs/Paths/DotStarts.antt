@@ -59,7 +59,7 @@ plain_all b (s ∷ rest) e =
     let more = behind true s (slashed rest) first in
     and_from _ _ (plain_first s (slashed rest) first) (plain_all more.behind rest more.none)
 
--- the first segment of a path is that of its front, after which another segment begins
+-- the first segment of a path is that of its prefix, if another segment begins after the prefix
 rooted_behind : (s : List ℕ) (rest : List (List ℕ)) (front back : List ℕ)
     → front ≡ s ++ slashed rest → has_slash s ≡ false → IsClosed front back
     → IsRooted (slashed rest ++ back)
@@ -94,7 +94,7 @@ plain_segments (s ∷ rest) text e none first =
     let more = behind false s (slashed rest) (ap (λ t. dots_begin false (drop 1 t)) e ∙ none) in
     and_from _ _ (first s rest refl) (plain_all more.behind rest more.none)
 
--- a `/` stands last, or before the text where that is empty
+-- the last character is `/`, or the one before the text if that is empty
 unfoldable ends_behind : Bool → List ℕ → Bool
 ends_behind behind [] = behind
 ends_behind behind (c ∷ rest) = ends_behind (c == 47) rest
@@ -118,7 +118,7 @@ pub one_more : (bytes : List ℕ) (i : ℕ) → i < length bytes
 one_more bytes i within = let next : i + 1 ≡ suc i = omega arith in ap (λ n. take n bytes) next
     ∙ take-suc bytes i 0 within
 
--- as a text is read byte by byte
+-- as a scan passes a text byte by byte
 module _ (bytes : List ℕ) (i : ℕ) (within : i < length bytes) where
   next_plain : dots_begin false (take i bytes) ≡ false
       → (ends_behind false (take i bytes) && is_dot_start (get_or bytes i 0)) ≡ false

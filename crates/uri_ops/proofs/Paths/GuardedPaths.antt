@@ -1,4 +1,4 @@
--- Paths with `/.` before them where they would be read as an authority.
+-- Paths with `/.` before them, if they would otherwise be parsed as an authority.
 use Rattle.std.proofs.Common.{◌≡◌, ℕ, true, false, List, ◌++◌, length, take, drop, refl, sym, ap}
 use Rattle.std.proofs.Common.{◌∙◌}
 use Rattle.std.proofs.Common.{arith, length-append, subst}
@@ -23,7 +23,7 @@ pub guarded_behind : (authority : Option (List ℕ)) (path : List ℕ) → is_so
 guarded_behind None path e = absurd (false≢true e)
 guarded_behind (Some a) path e = refl
 
--- and else it is where it stands, after what was there
+-- without an authority, the path after an old text is guarded in its place
 pub guarded_after : (authority : Option (List ℕ)) (old mid new path : List ℕ) (start : ℕ)
     → is_some authority ≡ false → start ≡ length old → mid ≡ old ++ path
     → new ≡ take start mid ++ guarded None (drop start mid) → new ≡ old ++ guarded authority path

@@ -1,5 +1,5 @@
--- A merged path is read alike where the base's path and the reference's are those of their normal
--- texts.
+-- A merged path decodes to the same if the base's path and the reference's are replaced by those of
+-- their normal texts.
 use Rattle.std.proofs.Common.{◌≡◌, ℕ, true, List, [], ◌∷◌, ◌++◌, sym, ap, subst, ◌∙◌, ◌&&◌, ⊎_elim}
 use Rattle.std.proofs.Common.{inr, append_assoc, rules}
 use Rattle.std.specs.Prelude.{codes, Option, is_none}
@@ -50,7 +50,7 @@ removed_guarded authority path y h =
 
 module _ (set : TableSet) (w : IsComponentSet (codes "?#[]") set)
     (slash : set.ascii 47 ≡ true) where
-  -- what follows a path that ends in `/` is read by itself
+  -- what follows a path that ends in `/` is decoded by itself
   reprinted_closed : (front y : List ℕ) → is_part set (front ++ codes "/") ≡ true
       → reprinted set ((front ++ codes "/") ++ y)
       ≡ reprinted set (front ++ codes "/") ++ reprinted set y

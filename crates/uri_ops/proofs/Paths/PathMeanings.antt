@@ -1,4 +1,4 @@
--- The path of a meaning: without its dot segments, after a guard and read again it is itself.
+-- The path of a meaning: removing its dot segments, guarding and decoding it again change nothing.
 use Rattle.std.proofs.Common.{◌≡◌, ℕ, true, eqb, List, [], ◌∷◌, ◌++◌, refl, sym, ap, subst, ◌∙◌}
 use Rattle.std.proofs.Common.{◌&&◌, ⊎_elim, arith, lit<}
 use Rattle.std.specs.Prelude.{codes, Option}
@@ -114,7 +114,7 @@ module _ (set : TableSet) (w : IsComponentSet (codes "?#[]") set)
       (λ e. cond-false _ _ _ (first ∙ e) ∙ ap (reprinted set) (sym (cond-false _ _ _ e)))
       (cases_Bool (starts 47 path))
 
-  -- the path of a normal text is read as the path
+  -- the path of a normal text decodes as the path
   pub read_guarded : (authority : Option (List ℕ)) (path : List ℕ) → is_part set path ≡ true
       → read set (cleaned_path (guarded authority (reprinted set (cleaned_path path))))
       ≡ read set (cleaned_path path)

@@ -1,5 +1,5 @@
--- Dot segments removed from a path of which pieces are changed one after the other, as by reading
--- them.
+-- Removing dot segments from a path whose substrings are changed one after the other, as by
+-- decoding them.
 use Rattle.std.proofs.Common.{◌≡◌, ℕ, ◌<◌, Bool, true, false, List, [], ◌∷◌, ◌++◌, length, take}
 use Rattle.std.proofs.Common.{drop}
 use Rattle.std.proofs.Common.{refl, sym, ap, subst, ◌∙◌, ◌||◌, ⊎_elim, inl, inr, append_assoc}
@@ -42,7 +42,7 @@ pub record IsPiecewise (change : List ℕ → List ℕ) (among : List ℕ → Bo
   pub plain : (text : List ℕ) → among text ≡ true → lacks_dot_segments text ≡ true
       → lacks_dot_segments (change text) ≡ true
 
--- no change is one, and so is reading
+-- no change is one, and so is decoding
 pub unchanged : IsPiecewise (λ text. text) (λ text. true)
 unchanged = record {
   nothing = refl;

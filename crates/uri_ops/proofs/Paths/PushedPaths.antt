@@ -64,7 +64,7 @@ whole_plain path front n absolute end plain is =
           (underflows_of_plain path absolute free),
     )
 
--- after what stood there
+-- after the old text
 module _ (old : List ℕ) (start : ℕ) (at : start ≡ length old) (mid : List ℕ) where
   pub behind_old : (text : List ℕ) → mid ≡ old ++ text → drop start mid ≡ text
   behind_old text e = ap (drop start) e ∙ drop_at old text start (sym at)
@@ -76,7 +76,7 @@ module _ (old : List ℕ) (start : ℕ) (at : start ≡ length old) (mid : List 
       ∙ ap (λ t. t ++ drop start new) (before ∙ ap (take start) e ∙ take_at old text start (sym at))
       ∙ ap (λ t. old ++ t) is
 
-  -- one path, of which the prefix without dot segments is appended before the rest is read
+  -- one path, whose prefix without dot segments is appended before the rest is scanned
   module _ (path : List ℕ) (absolute : IsAbsolute path) (n : ℕ) (front : List ℕ)
       (is : front ≡ take n path) (e : mid ≡ old ++ front) where
     front_is : drop start mid ≡ take n path
@@ -151,7 +151,7 @@ module _ (old : List ℕ) (start : ℕ) (at : start ≡ length old) (mid : List 
           (directory_absolute path (inr absolute)) (directory_ends path (inr absolute)))
           ∙ ap (λ t. underflows (t ++ reference)) same
 
--- what is read of a base's path
+-- the decoded form of a base's path
 module _ (path front : List ℕ) (n : ℕ) (is : front ≡ take n path) where
   pub directory_removed : remove_dot_segments (take n path) ≡ remove_dot_segments (directory path)
       → remove_dot_segments front ≡ remove_dot_segments (directory path)

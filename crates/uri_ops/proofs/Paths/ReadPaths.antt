@@ -1,5 +1,5 @@
--- What is printed of the reading of a path: its segments, and its dot segments, which may be
--- removed before or after.
+-- The decoded form of a path, as printed: its segments, and its dot segments, which may be removed
+-- before or after decoding.
 use Rattle.std.proofs.Common.{◌≡◌, ℕ, true, false, List, [], ◌∷◌, ◌++◌, map, refl, sym, ap, subst}
 use Rattle.std.proofs.Common.{◌∙◌, arith, lit<}
 use Rattle.std.specs.List.{list_all}
@@ -133,7 +133,7 @@ module _ (set : TableSet) (lacks : LacksPercent set) (wide : IsSubset unreserved
   cleaned_parts segs e = cleaned_passes (is_part set) (is_part set) (λ s h d. h) (part_nil set) segs
       e
 
-  -- dot segments may be removed before reading or after
+  -- dot segments may be removed before or after decoding
   pub removed_reprinted : (path : List ℕ) → IsAbsolute path → is_part set path ≡ true
       → remove_dot_segments (reprinted set path) ≡ reprinted set (remove_dot_segments path)
   removed_reprinted = by_segments
@@ -148,7 +148,7 @@ module _ (set : TableSet) (lacks : LacksPercent set) (wide : IsSubset unreserved
       ∙ sym (reprinted_slashed set (cleaned (s ∷ rest)) (cleaned_parts (s ∷ rest) p))
       ∙ sym (ap (reprinted set) (remove_slashed (s ∷ rest) f)))
 
-  -- reading changes no underflow
+  -- decoding changes no underflow
   pub underflows_reprinted : (path : List ℕ) → IsAbsolute path → is_part set path ≡ true
       → underflows (reprinted set path) ≡ underflows path
   underflows_reprinted = by_segments

@@ -1,4 +1,4 @@
--- What is printed of the reading of a path begins as the path does.
+-- The decoded form of a path, as printed, begins as the path does.
 use Rattle.std.proofs.Common.{◌≡◌, ℕ, true, false, eqb, List, [], ◌∷◌, ◌++◌, refl, sym, ap, ◌∙◌}
 use Rattle.std.proofs.Common.{◌⊎◌, ⊎_elim, inl, inr}
 use Rattle.std.specs.Prelude.{codes}

@@ -1,5 +1,5 @@
--- Dot segments are removed alike before and after a change of the segments that keeps which of them
--- are dots.
+-- A change of segments that keeps which of them are dots may come before or after the removal of
+-- dot segments.
 use Rattle.std.proofs.Common.{◌≡◌, ℕ, Bool, true, false, cond, List, [], ◌∷◌, ◌++◌, map, refl, sym}
 use Rattle.std.proofs.Common.{ap, ◌∙◌, ◌||◌}
 use Rattle.std.specs.List.{list_all}

@@ -301,7 +301,7 @@ sinks_plain before output (s ∷ rest) e =
     ap (λ b. sinks b (step_of output s) rest) (sunk_plain before output s f.0)
     ∙ sinks_plain before (step_of output s) rest f.1
 
--- of a path in two pieces: the prefix underflows, or what is left of it with the back does
+-- a path underflows if its prefix does, or what is left of the prefix does with the rest after it
 pub sinks_front : (xs ys : List (List ℕ))
     → sinks false [] (xs ++ ys) ≡ (sinks false [] xs || sinks false [] (steps [] xs ++ ys))
 sinks_front xs ys =

@@ -1,4 +1,4 @@
--- Sixteen bytes among which no `/` stands.
+-- Sixteen bytes without `/`.
 use Rattle.std.proofs.Common.{◌≡◌, ℕ, zero, suc, ◌+◌, ◌<◌, ◌≤◌, false, eqb, List, length, drop}
 use Rattle.std.proofs.Common.{get_or, map}
 use Rattle.std.proofs.Common.{sym, ap, ◌∙◌, arith, drop-cons}

@@ -1,4 +1,4 @@
--- The pieces of a path as they are appended: as they are, or as what is read of them.
+-- The segments of a path as they are appended: copied, or decoded.
 use Rattle.std.proofs.Common.{◌≡◌, ℕ, Bool, true, List, [], ◌∷◌, ◌++◌, length, drop, refl, sym, ap}
 use Rattle.std.proofs.Common.{◌∙◌, ◌&&◌, arith}
 use Rattle.std.specs.Prelude.{codes, slice_index, ◌==◌}
@@ -23,7 +23,7 @@ use Rattle.uri_ops.proofs.Paths.ReadPaths.{underflows_reprinted}
 use Rattle.uri_ops.proofs.Paths.SlashedSegments.{slashed}
 use Rattle.uri_ops.proofs.Paths.TakenSegments.{absolute_is}
 
--- which texts may be pieces
+-- which texts may be appended so
 abbrev pub is_piece : SegmentMode → List ℕ → Bool
 is_piece Copied text = true
 is_piece (Read table) text = is_part (set_of table.now) text
@@ -65,7 +65,7 @@ pub root_directory : IsPlainDirectory (codes "/")
 unfolding slashed
 root_directory = directory_slashed [] refl refl
 
--- what is read of a path that begins with `/`, piece by piece after that
+-- a decoded path that begins with `/`: the `/`, and then the segments
 
 module _ (set : TableSet) (w : IsComponentSet (codes "?#[]") set) (slash : set.ascii 47 ≡ true)
     (path rest : List ℕ) (absolute : IsAbsolute path) (e : is_part set path ≡ true)

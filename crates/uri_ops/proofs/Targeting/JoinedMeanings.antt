@@ -1,5 +1,5 @@
--- A target means the same where base and reference are replaced by their normal texts, and is
--- refused alike.
+-- If base and reference are replaced by their normal texts, the target is equivalent, and the
+-- errors are the same.
 use Rattle.std.proofs.Common.{◌≡◌, ℕ, true, false, cond, not, List, [], ◌∷◌, ◌++◌, refl, sym, ap}
 use Rattle.std.proofs.Common.{◌∙◌, ◌&&◌, ◌||◌, ⊎_elim, option_map}
 use Rattle.std.specs.Prelude.{codes, Option, Some, None, IfSome, is_some, is_none}
@@ -57,7 +57,7 @@ with_scheme P each c h = some c.scheme h
 
 module _ (set : TableSet) (w : IsComponentSet (codes "?#[]") set)
     (slash : set.ascii 47 ≡ true) where
-  -- a path is read alike with its dot segments removed before or after
+  -- a path decodes to the same if its dot segments are removed before or after
   read_cleaned : (path : List ℕ) → is_part set path ≡ true
       → read set (cleaned_path (print (read set path))) ≡ read set (cleaned_path path)
   unfolding reprinted
@@ -237,7 +237,7 @@ module _ (kind : Kind) (sets : HasComponentSets kind) (ports : PortFunction) whe
         fragment = fragment i;
       }
 
-  -- what is joined means the same where both are those of normal texts
+  -- the joined components are equivalent to those of the normal texts
   pub joined_normal : (b : List ℕ) (ba : Option (List ℕ)) (bp : List ℕ) (bq bf : Option (List ℕ))
       (s a : Option (List ℕ)) (p : List ℕ) (q f : Option (List ℕ))
       → AreParts kind (of_parts (Some b) ba bp bq bf)

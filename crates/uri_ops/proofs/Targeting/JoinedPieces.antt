@@ -102,7 +102,7 @@ joined_fragment b r =
     (λ _. cond_both (starts 47 r.path) _ _ (λ (t : Components). t.fragment ≡ r.fragment)
     (λ _. refl) (λ _. refl))))
 
--- pieces that are written one after the other
+-- texts that are written one after the other
 pub written_pieces : (t : Components) (o0 o1 o2 : List ℕ) → o1 ≡ o0 ++ (before_path t ++ t.path)
     → o2 ≡ o1 ++ (marked (codes "?") t.query [] ++ marked (codes "#") t.fragment [])
     → o2 ≡ o0 ++ recompose t

@@ -1,5 +1,5 @@
--- A base and a reference, and others that mean the same: the normal form of the target is one, or
--- there is none of either.
+-- An equivalent base and reference have a target with the same normal form, or both pairs have no
+-- target.
 use Rattle.std.proofs.Common.{◌≡◌, ℕ, Bool, true, List, refl, sym, ap, subst, ◌∙◌}
 use Rattle.std.specs.Prelude.{Result, Ok, Err, IfErr, IsErrAnd, is_ok}
 use Rattle.std.specs.Result.{result_map_both}
@@ -75,7 +75,7 @@ normal_form_by_meaning kind ports text other normal e h = record {
   same = λ u w. let both = h.same u w in (λ d. e ∙ both.0 d, λ d. both.1 (sym e ∙ d));
 }
 
--- of a refusal
+-- likewise for an error
 refused_alike : (b r base reference : Components) (error : ResolveError)
     → ((z : Refusal) → resolution_of base reference ≡ Err z → resolution_of b r ≡ Err z)
     → is_ok (resolution_of b r) ≡ is_ok (resolution_of base reference)

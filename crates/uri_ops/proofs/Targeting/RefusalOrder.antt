@@ -1,4 +1,4 @@
--- The refusals of a reference in their order, or what is accepted.
+-- The errors for a reference in their order, or the accepted reference.
 use Rattle.std.proofs.Common.{◌≡◌, Bool, true, false, cond, refl, ap, Result, Ok, Err}
 use Rattle.std.specs.Result.{result_map_both}
 use Rattle.uri_ops.specs.Target.{Refusal, BaseWithFragment, InvalidReferenceAgainstOpaqueBase}

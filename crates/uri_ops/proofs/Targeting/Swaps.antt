@@ -46,7 +46,7 @@ none_some : (o : Option (List ℕ)) → is_none o ≡ true → is_some o ≡ fal
 none_some None e = refl
 none_some (Some x) e = absurd (false≢true e)
 
--- a base that is not refused as opaque may be merged with
+-- a base that is not rejected as opaque may be merged with
 pub not_opaque : (base r : Components) → is_refused_as_opaque base r ≡ false
     → is_none r.scheme ≡ true → is_empty r.path ≡ false → is_opaque base ≡ false
 not_opaque base r e s p =

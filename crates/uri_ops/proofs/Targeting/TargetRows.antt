@@ -6,7 +6,7 @@ use Rattle.uri_ops.specs.Dots.{remove_dot_segments, underflows, directory, run}
 use Rattle.uri_ops.specs.Target.{Refusal, BaseWithFragment, InvalidReferenceAgainstOpaqueBase}
 use Rattle.uri_ops.specs.Target.{resolution_of, target_underflows}
 
--- the target, where its path does not underflow and where it does; and a refusal
+-- the target of a path that does not underflow, of one that does; and an error
 Resolves : List ℕ → List ℕ → List ℕ → Type 0
 Resolves base reference target =
     (resolution_of (components base) (components reference) ≡ Ok target)
@@ -154,7 +154,7 @@ others = (
   (refl, refl),
 )
 
--- refusals: the base's fragment is asked for first
+-- errors: the base's fragment is tested first
 refused :
     Refuses (codes "foo:bar") (codes "//g") InvalidReferenceAgainstOpaqueBase
     × Refuses (codes "foo:bar#x") (codes "//g") BaseWithFragment

@@ -101,7 +101,7 @@ cleaned_lacks : (path : List ℕ) → Lacks (codes "?#") path → Lacks (codes "
 cleaned_lacks path h = cond_both (starts 47 path) (remove_dot_segments path) path
     (Lacks (codes "?#")) (λ e. removed_Lacks (codes "?#") refl path (true_to _ e) h) (λ e. h)
 
--- and no authority is read out of it
+-- and parsing it finds no other authority
 guarded_rooted : (authority : Option (List ℕ)) (path : List ℕ)
     → IfSome authority (λ a. Lacks (codes "/?#") a × IsRooted path)
     → IfSome authority (λ a. Lacks (codes "/?#") a × IsRooted (guarded authority path))

@@ -46,7 +46,7 @@ component_set marks test past private within percent ends = record {
   ends = ends;
 }
 
--- whatever stands past ASCII
+-- for any characters past ASCII
 kind_with : (past private needs : Bool) → Kind
 kind_with past private needs = record {
   userinfo = component is_userinfo_char past false;

@@ -1,4 +1,4 @@
--- The texts that pass the tests of a kind are those that its grammar spells.
+-- The texts that pass the tests of a kind are those of its grammar.
 use Rattle.std.proofs.Common.{◌≡◌, ℕ, Bool, true, false, not, List, refl, sym, ap, subst, ◌∙◌, ◌&&◌}
 use Rattle.std.proofs.Common.{◌||◌, inl, inr, ⊎_elim}
 use Rattle.std.specs.Prelude.{◌↔◌, ◌⊎◌, is_some}

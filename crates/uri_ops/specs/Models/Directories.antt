@@ -14,7 +14,7 @@ pub record IsPlainDirectory (path : List ℕ) : Type 0 where
 abbrev pub parent_directory : List ℕ → List ℕ
 parent_directory path = before_last_slash (before_last_slash path) ++ codes "/"
 
--- a segment begins after the front, unless nothing does
+-- a segment begins after the prefix, unless nothing does
 abbrev pub IsClosed : List ℕ → List ℕ → Type 0
 IsClosed front rest = (rest ≡ []) ⊎ EndsInSlash front
 

@@ -17,7 +17,7 @@ pub record IsUpToDirectory (base : Components) (front : List ℕ) : Type 0 where
   pub plain : IsPlainDirectory (directory base.path)
   pub text : front ≡ before_path base ++ directory base.path
 
--- the places of a base, after whose first n bytes the path and the query of a reference stand
+-- the positions of a base whose first n bytes are followed by the path and the query of a reference
 abbrev pub positions_behind : Positions → ℕ → Positions → Positions
 positions_behind base n reference = record base {
   path_end = n + reference.path_end;

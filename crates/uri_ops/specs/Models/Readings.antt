@@ -1,5 +1,5 @@
--- What the parts of a component leave in the reading that takes them, one part after the other: RFC
--- 3986, section 6.2.2.2.
+-- What a `Reading` appends for the parts of a component, one part after the other: RFC 3986,
+-- section 6.2.2.2.
 use Rattle.std.specs.Prelude.{take, drop, if◌then◌else◌}
 use Rattle.std.proofs.Common.{◌≡◌, ℕ, Bool, true, false, List, [], ◌++◌, map, refl, sym, ap, ◌∙◌}
 use Rattle.std.proofs.Common.{append_assoc, string_bytes}
@@ -15,7 +15,7 @@ use Rattle.uri_pct.specs.Tables.{set_of}
 use Rattle.uri_pct.specs.Tokens.{Token, Char, text_of_token, tokens, print}
 use Rattle.uri_ops.specs.declared.normalize.decode_unreserved.Reading.{Reading}
 
--- the tokens that are read of a part
+-- the decoded tokens of a part
 abbrev pub read_part : TableSet → Part → List Token
 read_part set (Plain text) = map Char (chars text)
 read_part set (Read piece) = read_piece set piece
@@ -35,17 +35,17 @@ cased_text lowers text = if lowers then str_to_ascii_lowercase text else text
 abbrev pub cased_code : Bool → ℕ → ℕ
 cased_code lowers ch = if lowers then to_ascii_lowercase ch else ch
 
--- what is printed of the reading of a text
+-- the decoded text, as printed
 abbrev pub text_read : Bool → TableSet → List ℕ → List ℕ
 text_read lowers set text = print (cased lowers (read_tokens set (tokens text)))
 
--- so many bytes at the start are read as they are, and what is after them by itself
+-- the first n bytes stay as they are, and what is after them is decoded by itself
 abbrev pub IsFront : Bool → TableSet → List ℕ → ℕ → Type 0
 IsFront lowers set text n =
     text_read lowers set text
     ≡ cased_text lowers (take n text) ++ text_read lowers set (drop n text)
 
--- the reading grew by what is read of the parts
+-- the text grew by the decoded parts
 pub record TookReading (s : Reading) (ps : List Part) (t : Reading) : Type 0 where
   pub set : set_of t.table ≡ set_of s.table
   pub lowers : t.lowers ≡ s.lowers

@@ -1,5 +1,4 @@
--- What is appended of the pieces of a path: themselves, or what is read of them (RFC 3986, sections
--- 5.2.4 and 6.2.2).
+-- How the segments of a path are appended: copied, or decoded (RFC 3986, sections 5.2.4 and 6.2.2).
 use Rattle.std.specs.Prelude.{◌≡◌, true, List, ℕ, codes}
 use Rattle.uri_pct.specs.Delimiters.{slash}
 use Rattle.uri_pct.specs.Reading.{read}
@@ -16,7 +15,7 @@ pub record IsPathPiece (set : TableSet) (text : List ℕ) : Type 0 where
   pub slash : set.ascii slash ≡ true
   pub valid : IsValidFor set text
 
--- a text of which pieces may be appended so
+-- a text whose segments may be appended so
 abbrev pub IsInPieces : SegmentMode → List ℕ → Type 0
 IsInPieces Copied text = Unit {0}
 IsInPieces (Read table) text = IsPathPiece (set_of table.now) text

@@ -67,7 +67,8 @@ impl Draft {
         }
     }
 
-    /// With these two pieces after the text, parts of these lengths, and the host at this place.
+    /// Returns the draft with these two texts appended, with parts of these lengths, and the host
+    /// at this position.
     #[inline(always)]
     fn appended(self, first: &str, second: &str, lengths: Lengths, host: HostPlace) -> Draft
         requires { self.failed ≡ false → IsDraft lengths

@@ -25,12 +25,12 @@ pub fn texts_of_wider_kinds()
     ensures reference { IsWithin uri uri_ref × IsWithin iri iri_ref }
 {}
 
-/// A text of a kind of IRIs with its characters past ASCII as octets is of the kind of URIs that
-/// goes with it (RFC 3987, section 3.1), and read as an IRI it means what the text means.
+/// If the characters past ASCII of a text of a kind of IRIs become octets, it is a text of the kind
+/// of URIs that goes with it (RFC 3987, section 3.1). As an IRI it is equivalent to the text.
 ///
 /// # Examples
 ///
-/// `http://a/é` and `http://a/%C3%A9` mean the same as IRIs.
+/// `http://a/é` and `http://a/%C3%A9` are equivalent as IRIs.
 pub fn encoded_texts_mean_the_same()
     ensures uri { ascii_kind iri ≡ uri }
     ensures uri_ref { ascii_kind iri_ref ≡ uri_ref }
@@ -43,8 +43,8 @@ pub fn encoded_texts_mean_the_same()
         → meaning_of kind ports (encoded_text text) ≡ meaning_of kind ports text }
 {}
 
-/// What a base and a reference resolve to, with the characters past ASCII of both as octets, is the
-/// same refusal, or the target with its characters past ASCII as octets, and underflows alike.
+/// If the characters past ASCII of a base and a reference become octets, resolution gives the same
+/// error, or the target with its characters past ASCII as octets. It underflows in the same cases.
 ///
 /// # Examples
 ///

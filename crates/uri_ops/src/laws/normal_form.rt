@@ -26,8 +26,8 @@ pub fn four_kinds_have_component_sets()
 ///
 /// # Examples
 ///
-/// `http://a:80` and `http://a` mean the same where 80 is the default port of `http`, and not where
-/// it has none.
+/// `http://a:80` and `http://a` are equivalent if 80 is the default port of `http`, and not if it
+/// has none.
 #[tactic(auto, using(crate::proofs::Theorems::canonical))]
 pub fn meaning_under_ports()
     ensures { (kind : Kind) (ports : PortFunction) (text : List ℕ)
@@ -52,7 +52,7 @@ pub fn meanings_are_equal_if_their_parts_are()
 ///
 /// # Examples
 ///
-/// `HTTP://a` and `http://a` mean the same, and both have the normal text `http://a`.
+/// `HTTP://a` and `http://a` are equivalent, and both have the normal text `http://a`.
 #[tactic(auto, using(crate::proofs::Theorems::canonical))]
 pub fn normal_texts_are_canonical()
     ensures text { (kind : Kind) (ports : PortFunction) (text : List ℕ) → HasComponentSets kind

@@ -21,8 +21,8 @@ pub fn targets_are_texts()
         → resolution_of_texts base reference ≡ Ok target → IsTextOf kind target }
 {}
 
-/// The meanings of a base and a reference decide the meaning of the target, or which refusal there
-/// is: those of other texts with the same meanings, and of the normal texts, come to the same.
+/// Resolution respects equivalence: an equivalent base and reference give an equivalent target, or
+/// the same error. The normal texts give these too.
 ///
 /// # Examples
 ///

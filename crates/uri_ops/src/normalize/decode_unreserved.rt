@@ -1,5 +1,5 @@
-//! Components as they are read (RFC 3986, sections 6.2.2.1 and 6.2.2.2; RFC 3987, sections 4.1 and
-//! 5.3.2.3).
+//! Decoding of unreserved octets in components (RFC 3986, sections 6.2.2.1 and 6.2.2.2; RFC 3987,
+//! sections 4.1 and 5.3.2.3).
 ghost use Rattle.std.specs.Prelude.{◌≡◌, ◌==◌, ◌&&◌, OnOk, map};
 ghost use Rattle.std.specs.Char.{is_ascii_uppercase};
 ghost use Rattle.std.specs.List.{position_or_len};
@@ -26,7 +26,8 @@ use uri_pct::pct_enc::EStr;
 use uri_pct::table::Table;
 use uri_pct::utf8_runs::TakeParts;
 
-/// A text that grows by what is read of a component, perhaps with its letters lowered.
+/// A text to which a component is appended with its readable octets decoded, and with its letters
+/// lowered if `lowers`.
 #[derive(Drop)]
 struct Reading<'a> {
     table: Table,
@@ -68,7 +69,8 @@ fn encodes_formatting(table: &Table) -> bool
     table.allows_some_past_ascii() && table.allows('\u{200E}') && table.allows_pct_encoded()
 }
 
-/// Appends what is read of the parts of the text, with its letters lowered where that is asked.
+/// Appends the parts of the text with their readable octets decoded, and with letters lowered if
+/// `lowers`.
 ///
 /// It is a function of its own, since most texts have no part that asks for a window.
 #[inline(never)]
@@ -86,9 +88,10 @@ fn push_parts(table: &Table, lowers: bool, text: &str, out: &mut String) -> Resu
     Ok(())
 }
 
-/// Appends what is read of the tokens of the text, with its letters lowered where that is asked:
-/// runs of what is read as it is, and between them what octets by themselves are read as. Only
-/// an octet past ASCII of an IRI is not read by itself. The first octet has been found.
+/// Appends the tokens of the text with readable octets decoded, and with letters lowered if
+/// `lowers`. It copies runs that stay as they are, and between them decodes octets one by one. At
+/// the first octet past ASCII of an IRI it calls `push_parts`. `first` is the position of the first
+/// octet.
 ///
 /// It is a function of its own, since most texts have no octet.
 #[inline(never)]
@@ -151,7 +154,7 @@ fn push_tokens(table: &Table, lowers: bool, text: &str, out: &mut String) -> Res
     push_runs(table, lowers, text, first, out)
 }
 
-/// Appends what is read of the text, with its letters lowered where that is asked.
+/// Appends the text with its readable octets decoded, and with its letters lowered if `lowers`.
 fn push_cased(table: &Table, lowers: bool, text: &str, out: &mut String) -> Result<(), AllocError>
     requires { IsValidFor widest_set text.now }
     ensures { OnOk result (Pushes out.old out.new
@@ -166,9 +169,8 @@ fn push_cased(table: &Table, lowers: bool, text: &str, out: &mut String) -> Resu
     }
 }
 
-/// Appends what is read of the text: each character that octets spell as it is where it is
-/// readable, every other octet with upper-case digits, and all else as it is; but formatting
-/// characters of bidirectional text as octets.
+/// Appends the text with its readable octets decoded. Every other octet gets upper-case digits,
+/// formatting characters of bidirectional text become octets, and all else stays as it is.
 ///
 /// After an error, part of it may have been appended.
 pub(crate) fn push_read(table: &Table, text: &str, out: &mut String) -> Result<(), AllocError>
@@ -178,7 +180,7 @@ pub(crate) fn push_read(table: &Table, text: &str, out: &mut String) -> Result<(
     push_cased(table, false, text, out)
 }
 
-/// Appends what is read of a component over its encoder, as `push_read` does.
+/// Appends a component, decoded as `push_read` decodes it with the table of its encoder.
 ///
 /// After an error, part of it may have been appended.
 pub(crate) fn push_component<E: Encoder>(
@@ -190,8 +192,8 @@ pub(crate) fn push_component<E: Encoder>(
     push_read(&E::table(), component.as_str(), out)
 }
 
-/// Appends what is read of a name: as `push_read` does, with the ASCII letters in lower case, also
-/// those that octets spell.
+/// Appends a name as `push_read` does, with its ASCII letters in lower case, also those that were
+/// octets.
 ///
 /// After an error, part of it may have been appended.
 pub(crate) fn push_read_host(table: &Table, text: &str, out: &mut String) -> Result<(), AllocError>

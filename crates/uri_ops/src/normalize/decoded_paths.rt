@@ -1,4 +1,5 @@
-//! Paths that are read while their dot segments are removed (RFC 3986, sections 5.2.4 and 6.2.2.3).
+//! Paths whose octets are decoded while their dot segments are removed (RFC 3986, sections 5.2.4
+//! and 6.2.2.3).
 ghost use Rattle.std.specs.Prelude.{◌≡◌, IfOk, OnOk, codes, true};
 ghost use Rattle.uri_pct.specs.Delimiters.{slash};
 ghost use Rattle.uri_pct.specs.Reading.{read};
@@ -13,9 +14,9 @@ use crate::path::segment_mode::SegmentMode;
 use std::alloc::AllocError;
 use uri_pct::table::Table;
 
-/// Appends what is read of a path that begins with `/`, without its dot segments, and returns
-/// whether a double dot had nothing left to remove. A double dot takes back the last segment of
-/// what was appended.
+/// Appends a path that begins with `/`, with its readable octets decoded and without its dot
+/// segments. Returns whether a double dot had nothing left to remove. A double dot removes the last
+/// segment that was appended.
 pub(crate) fn push_read_path(
     table: &Table,
     path: &str,

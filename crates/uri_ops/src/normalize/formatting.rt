@@ -61,7 +61,7 @@ fn push_written(text: &str, out: &mut String) -> Result<(), AllocError>
 /// Writes the formatting characters of what is from `start` on as octets; where there is none,
 /// nothing is written.
 ///
-/// After an error what stood from `start` on may be gone, or a part of it.
+/// After an error, what was in `out` from `start` on may be gone, wholly or in part.
 #[doc(hidden)]
 pub fn encode_formatting(start: usize, out: &mut String) -> Result<(), AllocError>
     requires { IsCharBoundary (string_bytes out.old) start }

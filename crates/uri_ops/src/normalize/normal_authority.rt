@@ -22,8 +22,8 @@ use uri_parts::component::{Authority, HostOf, Scheme};
 use uri_parts::positions::AuthorityPositions;
 use uri_pct::encoder::Encoder;
 
-/// Appends the normal form of an authority after its scheme: the userinfo and the host as they are
-/// read, and the port unless it is empty or the scheme's default. It returns where it is.
+/// Appends the normal form of an authority after its scheme: the userinfo and the host, decoded,
+/// and the port unless it is empty or the scheme's default. Returns its position.
 ///
 /// After an error, part of it may have been appended.
 #[doc(hidden)]
@@ -58,7 +58,7 @@ pub fn push_authority<U: Encoder, R: Encoder, P: DefaultPort>(
     })
 }
 
-/// Appends what is read of the userinfo, and its `@`.
+/// Appends the userinfo, decoded, and its `@`.
 fn push_userinfo<U: Encoder, R: Encoder>(
     authority: Authority<'_, U, R>,
     out: &mut String,
@@ -74,8 +74,8 @@ fn push_userinfo<U: Encoder, R: Encoder>(
     out.push('@')
 }
 
-/// Appends the normal form of the host: an IPv6 address by its numbers (RFC 5952), and every other
-/// host with its ASCII letters in lower case, a name as it is read.
+/// Appends the normal form of the host. An IPv6 address is written by its numbers (RFC 5952). Every
+/// other host gets ASCII letters in lower case, and a name is decoded too.
 ///
 /// After an error, part of it may have been appended.
 #[doc(hidden)]

@@ -82,7 +82,7 @@ fn push_marked_authority<U: Encoder, R: Encoder, P: DefaultPort>(
     Ok(Some(places))
 }
 
-/// Appends what is read of a query or a fragment, after its mark, and returns where it ends.
+/// Appends a query or a fragment, decoded, after its mark, and returns where it ends.
 fn push_marked<E: Encoder>(
     mark: char,
     part: Option<EStr<'_, E>>,
@@ -103,7 +103,8 @@ fn push_marked<E: Encoder>(
     Ok(Some(out.len()))
 }
 
-/// What is before a path under a scheme: `/.` if it would be read as an authority.
+/// Returns what comes before a path under a scheme: `/.` if the path would otherwise be parsed as
+/// an authority, and else nothing.
 fn guard_before(follows_authority: bool, path: &str) -> &'static str
     ensures { (authority : Option (List ℕ)) → is_some authority ≡ follows_authority
         → (text : List ℕ) → has_authority text ≡ has_authority path.now
@@ -116,7 +117,7 @@ fn guard_before(follows_authority: bool, path: &str) -> &'static str
     }
 }
 
-/// Appends what is read of a path, with `/.` before it where it would be read as an authority.
+/// Appends a path, decoded, after `/.` if it would otherwise be parsed as an authority.
 fn push_read_guarded<E: Encoder>(
     follows_authority: bool,
     path: &str,
@@ -131,8 +132,8 @@ fn push_read_guarded<E: Encoder>(
     push_read(&E::table(), path, out)
 }
 
-/// Appends what is read of a path without its dot segments, with `/.` before it where it would be
-/// read as an authority, and returns whether a double dot had nothing left to remove.
+/// Appends a path, decoded and without its dot segments, after `/.` if it would otherwise be parsed
+/// as an authority. Returns whether a double dot had nothing left to remove.
 fn push_read_cleaned<E: Encoder>(
     has_authority: bool,
     path: EStr<'_, E>,
@@ -154,8 +155,8 @@ fn push_read_cleaned<E: Encoder>(
     Ok(underflowed)
 }
 
-/// Appends what is read of a path that is under a scheme and begins with `/`, without its dot
-/// segments, and returns whether a double dot had nothing left to remove.
+/// Appends a path that is under a scheme and begins with `/`, decoded and without its dot segments.
+/// Returns whether a double dot had nothing left to remove.
 fn push_absolute<E: Encoder>(
     has_authority: bool,
     path: EStr<'_, E>,

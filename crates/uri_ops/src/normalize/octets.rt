@@ -1,4 +1,4 @@
-//! Prefixes of texts that are read as they are (RFC 3986, sections 6.2.2.1 and 6.2.2.2).
+//! Prefixes of texts that decoding leaves as they are (RFC 3986, sections 6.2.2.1 and 6.2.2.2).
 ghost use Rattle.std.specs.Prelude.{◌≡◌, ◌<◌, ◌&&◌, ◌∷◌, ◌+◌, ◌*◌, ℕ, [], Bool, IsTrue};
 ghost use Rattle.std.specs.Prelude.{MatchOption, OnOk, false, if◌then◌else◌, nat_lt, true};
 ghost use Rattle.std.specs.Char.{digit_value, is_ascii_hexdigit};
@@ -58,8 +58,8 @@ fn unreserved(lowers: bool, value: u8) -> Option<u8>
     if ch.is_ascii() { Some(ch) } else { None }
 }
 
-/// The unreserved character that the octet with these digits spells, if it spells one, a letter
-/// lowered where that is asked.
+/// Returns the unreserved character that the octet with these digits encodes, if any, with a letter
+/// lowered if `lowers`.
 #[inline(always)]
 pub(crate) fn spelt(lowers: bool, high: u8, low: u8) -> Option<u8>
     requires high { IsTrue (is_ascii_hexdigit high) }
@@ -113,7 +113,7 @@ pub(crate) fn push_plain(lowers: bool, text: &str, out: &mut String) -> Result<(
     }
 }
 
-/// Appends the unreserved character that an octet spells, by its code.
+/// Appends an unreserved character, decoded from an octet, by its code.
 #[inline(always)]
 pub(crate) fn push_letter(ch: u8, out: &mut String) -> Result<(), AllocError>
     ensures { (lowers : Bool) (value : ℕ) → is_unreserved value ≡ true
@@ -124,7 +124,7 @@ pub(crate) fn push_letter(ch: u8, out: &mut String) -> Result<(), AllocError>
     Ok(())
 }
 
-/// Appends an octet that spells no unreserved character, its digits in upper case.
+/// Appends an octet that does not decode to an unreserved character, its digits in upper case.
 #[inline(always)]
 pub(crate) fn push_octet(value: u8, out: &mut String) -> Result<(), AllocError>
     requires { is_unreserved value ≡ false }
@@ -134,7 +134,7 @@ pub(crate) fn push_octet(value: u8, out: &mut String) -> Result<(), AllocError>
     out.push_str(pct_encoded(value))
 }
 
-/// Appends what is read of an octet by itself, a letter lowered where that is asked.
+/// Appends an octet, decoded by itself, with a letter lowered if `lowers`.
 pub(crate) fn push_alone(lowers: bool, value: u8, out: &mut String) -> Result<(), AllocError>
     requires { value < 128 }
     ensures { OnOk result

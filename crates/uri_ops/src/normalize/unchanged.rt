@@ -1,5 +1,5 @@
-//! Values whose normal text is their own (RFC 3986, section 6.2.2), as a look at them tells. A few
-//! others are passed over, so that the look is cheap.
+//! A cheap test of values that are their own normal text (RFC 3986, section 6.2.2). It misses a few
+//! of them.
 ghost use Rattle.std.specs.Prelude.{◌≡◌, ◌+◌, ◌≤◌, ◌<◌, ℕ, List, Option, IfOk, IfSome, false};
 ghost use Rattle.std.specs.Prelude.{length, is_some, option_map, slice_index, string_bytes, true};
 ghost use Rattle.std.specs.Str.{str_to_ascii_lowercase};
@@ -44,7 +44,7 @@ fn is_plain_block(bytes: &[u8], at: usize) -> bool
     found == 0
 }
 
-/// Whether no byte begins one. The last sixteen are read again, as far as they were read.
+/// Returns whether no byte begins one. The last sixteen bytes overlap those before.
 fn is_plain(bytes: &[u8]) -> bool
     ensures { result ≡ true → IsPlain bytes.now }
 {
@@ -102,8 +102,8 @@ fn keeps_path(has_scheme: bool, path: &str) -> bool
     !has_dot_segments(path)
 }
 
-/// Whether the normal text of a value is its own, under any default ports, as a look tells. Where a
-/// long path begins with dots or octets, no more is read.
+/// Returns `true` only if the normal text of a value is its own, under any default ports. It
+/// returns `false` at once if a `/` near the start of a long path has a dot or an octet after it.
 pub(crate) fn is_unchanged<K: Kind>(core: Core<K, &str>) -> bool
     requires { HasComponentSets K.kind }
     ensures text { result ≡ true → (ports : PortFunction)

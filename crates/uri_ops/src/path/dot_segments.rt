@@ -21,8 +21,8 @@ use std::alloc::AllocError;
 use uri_pct::lanes::LANES;
 use uri_pct::search::places_of;
 
-/// Where the bytes end that are left of a text without the blocks of sixteen, from its end back to
-/// `start`, in which no `/` stands.
+/// Returns the end of what is left of a text without its last blocks of sixteen bytes that have no
+/// `/`. Blocks are counted from the end back to `start`.
 fn end_of_slashes(bytes: &[u8], start: usize) -> usize
     requires { start ≤ length bytes.now }
     ensures from { start ≤ result }
@@ -39,8 +39,8 @@ fn end_of_slashes(bytes: &[u8], start: usize) -> usize
     left
 }
 
-/// Where the last `/` stands that is not before `start`, or `start` if there is none, of a text
-/// that has none from `limit` on.
+/// Returns the position of the last `/` that is not before `start`, or `start` if there is none.
+/// The text has none from `limit` on.
 #[inline(always)]
 fn slash_before(bytes: &[u8], start: usize, limit: usize) -> usize
     requires from { start ≤ limit }
@@ -61,8 +61,8 @@ fn slash_before(bytes: &[u8], start: usize, limit: usize) -> usize
     start
 }
 
-/// Where the last `/` stands that is not before `start`, or `start` if there is none. It is looked
-/// for sixteen bytes at a time.
+/// Returns the position of the last `/` that is not before `start`, or `start` if there is none. It
+/// searches sixteen bytes at a time.
 pub(crate) fn last_slash(bytes: &[u8], start: usize) -> usize
     requires { start ≤ length bytes.now }
     ensures front { take result bytes.now
@@ -115,12 +115,11 @@ pub(crate) fn has_dot_segments(path: &str) -> bool
     false
 }
 
-/// Appends what the pieces make of the segments of a path, without dot segments, to the directory
-/// that is in `out` from `start` on, and returns whether a double dot had nothing left to
-/// remove.
+/// Appends the segments of a path, in the mode given, without dot segments, to the directory that
+/// is in `out` from `start` on. Returns whether a double dot had nothing left to remove.
 ///
-/// Segments that can't be dot segments are one piece, with the `/` between them. It is inlined, so
-/// that for each caller it is a constant how the pieces are appended.
+/// Segments that can't be dot segments are appended together, with the `/` between them. The
+/// function is inlined, so that the mode is a constant for each caller.
 #[inline(always)]
 pub(crate) fn push_segments(
     pieces: SegmentMode<'_>,
@@ -179,8 +178,8 @@ pub fn push_without_dot_segments(path: &str, out: &mut String) -> Result<bool, A
     Ok(underflowed)
 }
 
-/// Where the directory of a base's path ends (RFC 3986, section 5.2.3): after its last `/`, or at
-/// its end where it ends in a double dot, which stands for a directory.
+/// Returns the end of the directory of a base's path (RFC 3986, section 5.2.3): after its last `/`,
+/// or at the path's end if that is a double dot, which denotes a directory.
 fn directory_end(path: &str) -> usize
     requires { IsAbsolute path.now }
     ensures text { remove_dot_segments (take result path.now)
@@ -207,7 +206,8 @@ fn root_or(path: &str) -> &str
     if path.is_empty() { "/" } else { path }
 }
 
-/// Whether a path is a directory without dot segments, as a look at where segments begin tells.
+/// Returns `true` only if a path is a directory without dot segments. It looks only at where
+/// segments begin.
 fn is_plain_directory(path: &str) -> bool
     requires { IsAbsolute path.now }
     ensures { result ≡ true → IsPlainDirectory path.now }
@@ -292,8 +292,8 @@ fn push_behind(directory: &str, reference: &str, out: &mut String) -> Result<boo
 }
 
 /// Appends a reference's path after the directory of a base's path (RFC 3986, section 5.2.3),
-/// without dot segments, and returns whether a double dot had nothing left to remove. The two are
-/// read one after the other, and never joined.
+/// without dot segments. Returns whether a double dot had nothing left to remove. The two paths are
+/// scanned one after the other, and never joined.
 pub(crate) fn push_merged(base: &str, reference: &str, out: &mut String) -> Result<bool, AllocError>
     requires { IsRooted base.now }
     ensures text { OnOk result (Pushes out.old out.new

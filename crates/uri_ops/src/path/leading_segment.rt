@@ -1,5 +1,5 @@
-//! What a path begins with: dot segments, told by their bytes, or segments that are none
-//! (RFC 3986, section 3.3).
+//! The start of a path: dot segments, recognised by their bytes, or other segments (RFC 3986,
+//! section 3.3).
 ghost use Rattle.std.specs.Prelude.{◌≡◌, ◌≤◌, ◌<◌, ◌==◌, ◌||◌, ◌+◌, ◌&&◌, length, drop};
 ghost use Rattle.std.specs.Prelude.{slice_index};
 ghost use Rattle.std.specs.Str.{IsCharBoundary};
@@ -62,9 +62,9 @@ fn is_dot_start(byte: u8) -> bool
     byte == b'.' || byte == b'%'
 }
 
-/// How far a text reads up to the first `/` that has a dot or an octet after it, and with it.
+/// Returns the length up to and with the first `/` that has a dot or an octet after it.
 ///
-/// The last window begins so that it ends with the text: what is read twice has no such `/`.
+/// The last window ends with the text and overlaps those before, which have no such `/`.
 fn long_undotted_len(bytes: &[u8]) -> usize
     requires { LANES < length bytes.now }
     ensures { IsBeforeDots bytes.now result }
@@ -100,8 +100,8 @@ fn short_undotted_len(bytes: &[u8]) -> usize
     bytes.len()
 }
 
-/// How far a path whose first segment is none of dots reads before a segment that begins with a
-/// dot or an octet, as each dot segment does.
+/// Returns how many bytes come before the first segment that begins with a dot or an octet, as each
+/// dot segment does. The first segment is no dot segment.
 pub(crate) fn undotted_len(path: &str) -> usize
     requires some { 0 < length path.now }
     requires first { IsNoDots path.now }
@@ -134,7 +134,7 @@ pub(crate) enum Leading {
     NoDots,
 }
 
-/// The dot segment that a path begins with, told by the dots that stand first.
+/// Returns the dot segment that a path begins with, if any, by the dots at its start.
 fn leading_segment(path: &str) -> Leading
     requires { 0 < length path.now }
     ensures leading { IsLeading path.now result }
@@ -170,7 +170,7 @@ fn is_first_double_dot(path: &[u8]) -> bool
     matches!(path, [b'.', b'.'] | [b'.', b'.', b'/', ..])
 }
 
-/// The dot segment that a path begins with. One of dots that are no octets is told at once.
+/// Returns the dot segment that a path begins with, if any. It tests literal dots first.
 #[inline(always)]
 pub(crate) fn leading_dots(path: &str) -> Leading
     requires { 0 < length path.now }

@@ -1,4 +1,4 @@
-//! The pieces of a path that are appended while its dot segments are removed.
+//! How the segments of a path are appended while its dot segments are removed.
 ghost use Rattle.std.specs.Prelude.{◌≡◌, ◌==◌, ◌&&◌, OnOk, length, slice_index};
 ghost use Rattle.uri_pct.specs.Chunks.{widest_set};
 ghost use Rattle.uri_pct.specs.Delimiters.{slash};
@@ -19,8 +19,7 @@ fn is_slash(text: &[u8]) -> bool
     matches!(text, [b'/'])
 }
 
-/// Appends what is read of a piece of a path. A `/` by itself, as after an empty segment, is read
-/// as it is.
+/// Appends segments of a path, decoded. A `/` by itself, as after an empty segment, is copied.
 #[inline(always)]
 fn push_piece(table: &Table, piece: &str, out: &mut String) -> Result<(), AllocError>
     requires { IsValidFor widest_set piece.now }
@@ -33,17 +32,17 @@ fn push_piece(table: &Table, piece: &str, out: &mut String) -> Result<(), AllocE
     push_read(table, piece, out)
 }
 
-/// How the pieces of a path are appended.
+/// How segments of a path are appended.
 #[derive(Clone, Copy)]
 pub(crate) enum SegmentMode<'t> {
     /// As they are.
     Copied,
-    /// As what is read of them, where the table tells what a path allows.
+    /// Decoded: the table says which characters a path allows.
     Read(&'t Table),
 }
 
 impl SegmentMode<'_> {
-    /// Appends a piece.
+    /// Appends segments in this mode.
     #[inline(always)]
     pub(crate) fn push(self, piece: &str, out: &mut String) -> Result<(), AllocError>
         requires { IsInPieces self piece.now }

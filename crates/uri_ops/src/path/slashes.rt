@@ -14,15 +14,15 @@ pub fn begins_with_slash(path: &[u8]) -> bool
     path.first() == Some(&b'/')
 }
 
-/// Whether a path would be read as an authority, where none is before it.
+/// Returns whether a path would be parsed as an authority, if none is before it.
 pub fn begins_with_two_slashes(path: &[u8]) -> bool
     ensures { result ≡ has_authority path.now }
 {
     matches!(path, [b'/', b'/', ..])
 }
 
-/// Puts `/.` before the path that is in `out` from `start` on, with no authority before it,
-/// where it would be read as one.
+/// Inserts `/.` before the path that is in `out` from `start` on, if it would be parsed as an
+/// authority. No authority is before it.
 pub(crate) fn guard_path(start: usize, out: &mut String) -> Result<(), AllocError>
     requires { IsCharBoundary (string_bytes out.old) start }
     ensures { OnOk result (string_bytes out.new

@@ -1,4 +1,4 @@
-//! A text with where its components are, and the pieces that a target has of it as they are (RFC
+//! A text with the positions of its components, and the substrings that a target takes from it (RFC
 //! 3986, section 5.3).
 ghost use Rattle.std.specs.Prelude.{◌≡◌, ◌≤◌, ◌+◌, ◌++◌, ℕ, List, [], codes, length, Some, None};
 ghost use Rattle.std.specs.Prelude.{is_some, option_map};

@@ -251,7 +251,7 @@ text_parts text n u v e some =
       valid = valid;
     }
 
--- a text that does not begin with `%` begins with a chunk that ends where the first `%` stands
+-- if a text does not begin with `%`, its first chunk ends at the first `%`
 text_first : (text : List ℕ) (n : ℕ) → IsUtf8 text → IsValidFor widest_set text
     → 0 < length text → get_or text 0 0 ≢ 37 → n ≡ text_len text → BeginsText text n
 text_first text n u v some other e =

@@ -1,4 +1,4 @@
--- An octet in digits of either case is read as its value.
+-- An octet has the same value with digits of either case.
 use Rattle.std.proofs.Common.{◌≡◌, ℕ, ◌/◌, ◌%◌, ◌<◌, Bool, List, ◌∷◌, ap, ◌∙◌, lit<}
 use Rattle.std.specs.Fmt.{digit_glyph}
 use Rattle.std.proofs.lemmas.Bool.{cond-true, and_parts, eqb-true, ltb-true}

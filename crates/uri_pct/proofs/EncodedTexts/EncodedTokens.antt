@@ -1,4 +1,4 @@
--- The tokens of encoded texts and bytes: they may be printed and read back, and a set with octets
+-- The tokens of encoded texts and bytes: `tokens` inverts `print` on them, and a set with octets
 -- allows them.
 use Rattle.std.proofs.Common.{◌≡◌, ℕ, suc, ◌+◌, ◌/◌, ◌%◌, ◌<◌, Bool, true, ltb, List, [], ◌∷◌}
 use Rattle.std.proofs.Common.{get_or, map, refl, sym, ap, ◌∙◌, arith, ⊎_elim}

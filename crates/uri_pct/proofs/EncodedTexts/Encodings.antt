@@ -40,7 +40,7 @@ pub encode_char-octets : (set : TableSet) (c : ℕ) → allows set c ≡ false
     → encode_char set c ≡ map Octet (encode_utf8 c)
 encode_char-octets set c e = cond-false _ _ _ e
 
--- the bytes that the tokens stand for
+-- the bytes that the tokens decode to
 pub octets_bytes : (bytes : List ℕ) → token_bytes (map Octet bytes) ≡ bytes
 octets_bytes [] = refl
 octets_bytes (b ∷ bytes) = ap (λ x. b ∷ x) (octets_bytes bytes)

@@ -1,4 +1,4 @@
--- The lanes at which a `/` stands that has a `.` or a `%` after it.
+-- The lanes of each `/` that has a `.` or a `%` after it.
 use Rattle.std.proofs.Common.{◌≡◌, ℕ, ◌+◌, ◌<◌, ◌≤◌, Bool, false, eqb, List, map, length, get_or}
 use Rattle.std.proofs.Common.{sym, ap, ◌∙◌, arith, w64, bit_and, bit_or, ◌&&◌, ◌||◌}
 use Rattle.std.specs.Int.{bit_at, trailing_zeros}

@@ -1,4 +1,4 @@
--- Where a run of bytes that fail a test ends, the first stands that passes it.
+-- The end of a run of bytes that fail a test is the first byte that passes it.
 use Rattle.std.proofs.Common.{◌≡◌, ℕ, Bool, not, List, arith}
 use Rattle.std.specs.List.{position_or_len}
 use Rattle.std.proofs.lemmas.Bool.{not-true, not-false}

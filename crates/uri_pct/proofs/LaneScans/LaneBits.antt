@@ -49,7 +49,7 @@ lane_test test bs i w mask k m h e =
     unset true f = refl
     unset false f = sym f
 
--- the lanes of a load at which a byte stands
+-- the lanes of a load that hold a byte
 pub byte_lane : (byte : ℕ) (bs : List ℕ) (i k : ℕ) → i + 16 ≤ length bs → k < 16
     → bit (mask_l (map (λ b. eqb b byte) (chunk i 16 bs))) k ≡ eqb (get_or bs (i + k) 0) byte
 byte_lane byte bs i k room h =

@@ -1,4 +1,4 @@
--- Where a set has no characters past ASCII, each octet is read by itself.
+-- If a set has no characters past ASCII, each octet is decoded by itself.
 use Rattle.std.proofs.Common.{◌≡◌, ℕ, zero, suc, ◌<◌, ◌≤◌, true, false, cond, leb, List, []}
 use Rattle.std.proofs.Common.{◌∷◌, ◌++◌, take, drop, map, refl, sym, ap, ◌∙◌, arith, ◌&&◌}
 use Rattle.std.proofs.Common.{⊎_elim, append_assoc, Option, Some, None}
@@ -135,7 +135,7 @@ from_alone set run (Char c ∷ ts) alone =
     ap (λ x. x ++ Char c ∷ read_from set [] ts) (run_alone set run alone)
     ∙ ap (λ x. map octet run ++ Char c ∷ x) (from_alone set [] ts alone)
 
--- in a URI each octet is read by itself
+-- in a URI each octet is decoded by itself
 pub read-alone : (set : TableSet) (text : List ℕ) → LacksPastAscii set
     → read set text ≡ map read_alone (tokens text)
 read-alone set text alone =

@@ -1,4 +1,4 @@
--- What is printed is read back as the same tokens.
+-- `tokens` inverts `print`.
 use Rattle.std.proofs.Common.{◌≡◌, ℕ, ◌+◌, ◌*◌, ◌/◌, ◌%◌, ◌<◌, Bool, true, false, eqb, ltb, List}
 use Rattle.std.proofs.Common.{[], ◌∷◌, ◌++◌, refl, sym, ap, ◌∙◌, arith, ◌&&◌, lit<}
 use Rattle.std.specs.List.{list_all, flat_map}
@@ -102,7 +102,7 @@ pub chars-print : (ts : List Token) → list_all is_printable ts ≡ true
 chars-print ts e = ap chars (print-encodes ts e)
     ∙ chars-encodes (flat_map chars_of_token ts) (all_scalar_chars ts e)
 
--- what is printed spells the tokens that were printed
+-- printed tokens are the tokens of the printed text
 pub tokens-print : (ts : List Token) → list_all is_printable ts ≡ true → tokens (print ts) ≡ ts
 tokens-print ts e = ap tokens_of (chars-print ts e) ∙ tokens_of_chars ts e
 
@@ -110,7 +110,7 @@ tokens-print ts e = ap tokens_of (chars-print ts e) ∙ tokens_of_chars ts e
 pub IsUtf8-print : (ts : List Token) → list_all is_printable ts ≡ true → IsUtf8 (print ts)
 IsUtf8-print ts e = (flat_map chars_of_token ts, (all_scalar_chars ts e, sym (print-encodes ts e)))
 
--- it is spelt by what a set allows where the tokens are
+-- a set allows the printed text if it allows the tokens
 pub is_valid_for-print : (set : TableSet) (ts : List Token) → list_all is_printable ts ≡ true
     → is_valid_for set (print ts) ≡ list_all (allows_token set) ts
 unfolding is_valid_for

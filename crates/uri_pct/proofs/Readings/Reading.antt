@@ -1,5 +1,5 @@
--- What reading keeps: the bytes, what the set allows, and what is on either side of a
--- character.
+-- What decoding unreserved octets keeps: the bytes, what the set allows, and what is on either side
+-- of a character.
 use Rattle.std.proofs.Common.{◌≡◌, ℕ, Bool, true, false, cond, List, [], ◌∷◌, ◌++◌, map, refl, sym}
 use Rattle.std.proofs.Common.{ap, ◌∙◌, ◌&&◌, ⊎_elim, append_assoc}
 use Rattle.std.specs.Char.{encode_utf8, IsScalar}
@@ -63,7 +63,7 @@ token_bytes-read_from set run (Char c ∷ ts) =
     (token_bytes-read_run set run)
     ∙ ap (λ x. run ++ (encode_utf8 c ++ x)) (token_bytes-read_from set [] ts)
 
--- reading changes no bytes
+-- decoding unreserved octets keeps the bytes
 pub token_bytes-read : (set : TableSet) (text : List ℕ)
     → token_bytes (read set text) ≡ token_bytes (tokens text)
 token_bytes-read set text = token_bytes-encode_formatting set (read_tokens set (tokens text))
@@ -121,7 +121,7 @@ from_passes test set run (Char c ∷ ts) h e f =
     all_from_parts test (read_run set run) (Char c ∷ read_from set [] ts)
     (run_passes test set run h e) (and_from _ _ p.0 (from_passes test set [] ts h refl p.1))
 
--- what is read of printable tokens is printable
+-- decoding keeps tokens printable
 pub printable-read_tokens : (set : TableSet) (ts : List Token) → list_all is_printable ts ≡ true
     → list_all is_printable (read_tokens set ts) ≡ true
 printable-read_tokens set ts e =
@@ -132,7 +132,7 @@ pub printable-read : (set : TableSet) (text : List ℕ) → list_all is_printabl
 printable-read set text e = printable-encode_formatting set (read_tokens set (tokens text))
     (printable-read_tokens set (tokens text) e)
 
--- what is read of a text that the set allows is allowed by it
+-- if the set allows a text, it allows the decoded text
 pub allows-read : (set : TableSet) (text : List ℕ) → IsSubset unreserved_set set
     → IsValidFor set text → list_all (allows_token set) (read set text) ≡ true
 unfolding is_valid_for
@@ -149,7 +149,7 @@ is_valid_for-read set text lacks wide valid =
     (printable-read set text (printable_valid set text lacks valid))
     ∙ allows-read set text wide valid
 
--- a character that stands for itself parts the reading before it from that after it
+-- a literal character separates the decoding before it from that after it
 from_parted : (set : TableSet) (run : List ℕ) (ts : List Token) (c : ℕ) (us : List Token)
     → read_from set run (ts ++ Char c ∷ us) ≡ read_from set run ts ++ Char c ∷ read_tokens set us
 unfolding read_from
@@ -214,14 +214,14 @@ from_encoded set run (Octet value ∷ ts) c us scalar readable =
 from_encoded set run (Char d ∷ ts) c us scalar readable =
     ap (λ x. read_run set run ++ Char d ∷ x) (from_encoded set [] ts c us scalar readable)
 
--- the octets of a readable character are read as the character, wherever they stand
+-- the octets of a readable character decode to the character, in any context
 pub read_tokens-encoded : (set : TableSet) (ts : List Token) (c : ℕ) (us : List Token) → IsScalar c
     → is_readable set c ≡ true
     → read_tokens set (ts ++ (map Octet (encode_utf8 c) ++ us))
     ≡ read_tokens set (ts ++ Char c ∷ us)
 read_tokens-encoded set ts c us scalar readable = from_encoded set [] ts c us scalar readable
 
--- so formatting characters are read alike, whether they stand there as characters or as octets
+-- so formatting characters decode to the same tokens as their octets
 pub read_tokens-encode_formatting : (set : TableSet) (before ts : List Token)
     → read_tokens set (before ++ encode_formatting set ts) ≡ read_tokens set (before ++ ts)
 read_tokens-encode_formatting set before [] = refl
@@ -262,7 +262,7 @@ read-print_encoded set before c behind scalar readable e =
     ∙ ap (encode_formatting set) (read_tokens-encoded set before c behind scalar readable)
     ∙ sym (ap of (tokens-print (before ++ Char c ∷ behind) e))
 
--- no formatting character is read as itself
+-- no formatting character is literal after decoding
 pub formatting-read : (set : TableSet) (text : List ℕ) → (set.ucschar && set.pct_encoded) ≡ true
     → list_any is_literal_formatting (read set text) ≡ false
 formatting-read set text e = encode_formatting-all set (read_tokens set (tokens text)) e

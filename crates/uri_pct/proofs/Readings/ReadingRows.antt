@@ -1,4 +1,4 @@
--- What is read of some texts, and their lossy texts, by computation.
+-- The decoded forms of some texts, and their lossy texts, by computation.
 use Rattle.std.proofs.Common.{◌≡◌, ℕ, true, List, [], ◌∷◌, ◌++◌, refl, map}
 use Rattle.std.specs.Prelude.{codes}
 use Rattle.std.specs.Char.{encode_utf8}
@@ -20,7 +20,7 @@ iri set = record set { ucschar = true }
 iquery_set : TableSet
 iquery_set = record query_set { ucschar = true; iprivate = true }
 
--- the text of the reading, and of what is lowered after it
+-- the decoded text, and the same with its letters lowered
 reads : TableSet → List ℕ → List ℕ
 reads set text = print (read set text)
 
@@ -38,15 +38,15 @@ unfolding reads reads_lowered chars encode_utf8 tokens_of is_pct_encoded pieces_
     read_from read_run is_readable is_bidi_formatting is_never_literal allows_past_ascii
 uri_reference = (refl, refl, refl, refl, refl)
 
--- in a URI no octet past ASCII is read, and one by one is how octets are read
+-- in a URI no octet past ASCII is decoded, and each octet is decoded by itself
 uri_octets : (reads path_set (codes "/%c3%a9%61") ≡ codes "/%C3%A9a")
     × (map read_alone (tokens (codes "%c3%61%41")) ≡ read path_set (codes "%c3%61%41"))
 unfolding reads chars encode_utf8 tokens_of is_pct_encoded pieces_from following read_from read_run
     is_readable is_bidi_formatting is_never_literal allows_past_ascii
 uri_octets = (refl, refl)
 
--- a character between them parts two octets that together would be `é`, and does so again where the
--- text is read twice
+-- a character between two octets separates them, though together they would be `é`; decoding again
+-- keeps them apart
 parted : (reads (iri path_set) (codes "/%C3%41%A9%C3%A9") ≡ codes "/%C3A%A9" ++ encode_utf8 0xE9)
     × (reads (iri path_set) (codes "/%C3A%A9" ++ encode_utf8 0xE9)
     ≡ codes "/%C3A%A9" ++ encode_utf8 0xE9)
@@ -68,7 +68,7 @@ unfolding reads iri chars encode_utf8 tokens_of is_pct_encoded pieces_from follo
     read_run is_readable is_bidi_formatting is_never_literal allows_past_ascii is_ucschar
 override = (refl, refl)
 
--- U+200E between two octets parts them, and does so again where the text is read twice
+-- U+200E between two octets separates them; decoding again keeps them apart
 mark_between : (reads (iri path_set) (codes "%C3" ++ encode_utf8 0x200E ++ codes "%A9")
     ≡ codes "%C3%E2%80%8E%A9")
     × (reads (iri path_set) (codes "%C3%E2%80%8E%A9") ≡ codes "%C3%E2%80%8E%A9")
@@ -97,7 +97,7 @@ unfolding reads iri chars encode_utf8 tokens_of is_pct_encoded pieces_from follo
     read_run is_readable is_bidi_formatting is_never_literal allows_past_ascii is_ucschar
 mark_far_behind = refl
 
--- U+E000 is read in a query alone
+-- only a query decodes U+E000
 private_use : (reads iquery_set (codes "%EE%80%80") ≡ encode_utf8 0xE000)
     × (reads (iri path_set) (codes "%EE%80%80") ≡ codes "%EE%80%80")
 unfolding reads iri iquery_set chars encode_utf8 tokens_of is_pct_encoded pieces_from following

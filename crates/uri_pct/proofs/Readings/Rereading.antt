@@ -1,4 +1,4 @@
--- Reading what was read changes nothing, and neither does lowering letters in between.
+-- Decoding a decoded text changes nothing, also if letters were lowered in between.
 use Rattle.std.proofs.Common.{◌≡◌, ℕ, Bool, true, false, not, List, [], ◌∷◌, ◌++◌, map, refl, sym}
 use Rattle.std.proofs.Common.{ap, ◌∙◌, ⊎_elim, append_assoc, subst}
 use Rattle.std.specs.List.{list_all, flat_map}
@@ -19,7 +19,7 @@ use Rattle.uri_pct.proofs.ValidTexts.Allowed.{printable-lower}
 use Rattle.uri_pct.proofs.Readings.Formatting.{lower-encode_formatting}
 use Rattle.uri_pct.proofs.Readings.Reading.{printable-read, read_tokens-encode_formatting}
 
--- no octet of a run stands for a character
+-- no octet of a run decodes to a character
 abbrev StaysOctets : TableSet → List ℕ → Type 0
 StaysOctets set run = read_run set run ≡ map Octet run
 
@@ -77,7 +77,7 @@ cut_behind : (ps qs : List Piece) → AreCut (ps ++ qs) → AreCut qs
 cut_behind [] qs cut = cut
 cut_behind (p ∷ ps) qs cut = cut_behind ps qs (cut_back p (ps ++ qs) cut)
 
--- a piece that is read ends the run before it
+-- a decoded piece ends the run before it
 read_first : (set : TableSet) (done : List Piece) (p : Piece) (ps : List Piece) (ts : List Token)
     → is_unread set p ≡ false → StaysOctets set (bytes_of_pieces done)
     → IsRead set [] (flat_map (read_piece set) ps ++ ts)
@@ -88,8 +88,8 @@ read_first set done (WellFormed bytes) ps ts e stays behind =
     subst (λ x. IsRead set (bytes_of_pieces done) ((x ++ flat_map (read_piece set) ps) ++ ts))
     (sym (cond-true _ _ _ (not-false _ e))) (stays, behind)
 
--- what is read of the pieces of a run is read, where unread pieces are before it and what follows
--- is read
+-- the tokens of a decoded run are decoded, if the pieces before it are not decodable and what
+-- follows is decoded
 pieces_are_read : (set : TableSet) (done ps : List Piece) (ts : List Token) → AreCut (done ++ ps)
     → list_all (is_unread set) done ≡ true
     → ((run : List ℕ) → StaysOctets set run → IsRead set run ts)
@@ -118,7 +118,7 @@ pieces_are_read set done (p ∷ ps) ts cut unread behind = ⊎_elim
     (subst AreCut (sym (append_assoc done (p ∷ []) ps)) cut)) refl behind))
     (cases_Bool (is_unread set p))
 
--- what was read is read
+-- decoded tokens are decoded
 is_read : (set : TableSet) (run : List ℕ) (ts : List Token) → IsRead set [] (read_from set run ts)
 unfolding read_from read_run
 is_read set run [] = subst (IsRead set []) (append-nil (read_run set run))
@@ -132,7 +132,7 @@ pub read_tokens-read_tokens : (set : TableSet) (ts : List Token)
     → read_tokens set (read_tokens set ts) ≡ read_tokens set ts
 read_tokens-read_tokens set ts = read_from-IsRead set [] (read_tokens set ts) (is_read set [] ts)
 
--- reading twice is once
+-- decoding twice equals decoding once
 pub read-print_read : (set : TableSet) (text : List ℕ) → list_all is_printable (tokens text) ≡ true
     → read set (print (read set text)) ≡ read set text
 read-print_read set text e =
@@ -153,7 +153,7 @@ pub read_tokens-lower : (set : TableSet) (ts : List Token)
 read_tokens-lower set ts = read_from-IsRead set [] (map lower_token (read_tokens set ts))
     (lower_is_read set [] (read_tokens set ts) (is_read set [] ts))
 
--- what is read with its letters lowered is read again as itself
+-- decoded tokens with lowered letters decode to themselves
 pub read-print_lower : (set : TableSet) (text : List ℕ) → list_all is_printable (tokens text) ≡ true
     → read set (print (map lower_token (read set text))) ≡ map lower_token (read set text)
 read-print_lower set text e =

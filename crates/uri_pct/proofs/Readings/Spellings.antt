@@ -1,4 +1,4 @@
--- A text spells one list of characters and octets, which is the one that is read of it.
+-- A text represents at most one list of characters and octets: its tokens.
 use Rattle.std.proofs.Common.{◌≡◌, ℕ, ◌+◌, ◌*◌, true, eqb, List, [], ◌∷◌, ◌++◌, refl}
 use Rattle.std.proofs.Common.{sym, ap, subst, ◌∙◌, ⊎_elim, lit<}
 use Rattle.std.specs.Prelude.{◌↔◌}
@@ -45,14 +45,14 @@ token_first (Octet value) first rest h = ap (λ x. tokens (x ++ rest)) h.1.1.3
     ∙ octet_first h.0 h.1.0 rest h.1.1.0 h.1.1.1
     ∙ ap (λ n. Octet n ∷ tokens rest) (sym h.1.1.2)
 
--- what a text spells is what is read of it
+-- if a text represents some tokens, they are its tokens
 pub tokens-spelt : (text : List ℕ) (ts : List Token) → Spells text ts → tokens text ≡ ts
 unfolding Spells tokens_of
 tokens-spelt text [] e = ap tokens e ∙ ap tokens_of chars-nil
 tokens-spelt text (t ∷ ts) h = ap tokens h.1.1.0 ∙ token_first t h.0 h.1.0 h.1.1.1
     ∙ ap (λ r. t ∷ r) (tokens-spelt h.1.0 ts h.1.1.2)
 
--- a character that is no `%`, before characters that are spelt
+-- a character other than `%`, before characters that represent some tokens
 spells_char : (c : ℕ) (cs : List ℕ) (ts : List Token) → is_printable (Char c) ≡ true
     → Spells (encode_utf8_all cs) ts → Spells (encode_utf8_all (c ∷ cs)) (Char c ∷ ts)
 unfolding Spells
@@ -112,7 +112,7 @@ spells_chars (c ∷ high ∷ low ∷ cs) e = ⊎_elim
     (spells_char c (high ∷ low ∷ cs) _ p.0 (spells_chars (high ∷ low ∷ cs) p.1)))
     (cases_Bool (is_pct_encoded c high low))
 
--- a text without a `%` that two digits do not follow spells what is read of it
+-- if two digits follow each `%`, a text represents its tokens
 pub spells-tokens : (text : List ℕ) → IsUtf8 text → list_all is_printable (tokens text) ≡ true
     → Spells text (tokens text)
 spells-tokens text u e =
@@ -121,7 +121,7 @@ spells-tokens text u e =
     subst (λ x. Spells x (tokens text)) u.1.1
     (subst (λ cs. Spells (encode_utf8_all u.0) (tokens_of cs)) (sym same) spelt)
 
--- it is valid for a set exactly if it spells what the set allows
+-- it is valid for a set exactly if it represents what the set allows
 pub valid_spelt : (set : TableSet) (text : List ℕ) → LacksPercent set → IsUtf8 text
     → IsValidFor set text ↔ IsSpeltWithin set text
 unfolding is_valid_for

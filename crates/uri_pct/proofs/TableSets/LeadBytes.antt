@@ -1,4 +1,4 @@
--- Characters that are told by their first byte: from U+00C0 to U+D7FF each is in `ucschar`.
+-- First bytes that decide membership: each character from U+00C0 to U+D7FF is in `ucschar`.
 use Rattle.std.proofs.Common.{◌≡◌, ℕ, ◌+◌, ◌/◌, ◌<◌, ◌≤◌, true, false, cond, ltb, List, [], ◌∷◌}
 use Rattle.std.proofs.Common.{◌++◌, length, get_or, drop, refl, sym, ap, subst, ◌∙◌, arith, ⊎_elim}
 use Rattle.std.specs.Char.{encode_utf8, len_utf8, IsScalar}

@@ -16,7 +16,7 @@ none_of_two : (x y : Bool) → not (x || y) ≡ (not x && not y)
 none_of_two true y = refl
 none_of_two false y = refl
 
--- a byte stands nowhere in a text where none of the text is found to be it
+-- if a search finds a byte nowhere in a text, the text lacks it
 pub lacks_unless_found : (byte : ℕ) (text : List ℕ)
     → not (list_any (λ b. eqb b byte) text) ≡ lacks byte text
 lacks_unless_found byte [] = refl

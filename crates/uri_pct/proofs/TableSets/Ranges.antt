@@ -1,5 +1,5 @@
--- The ranges of `ucschar` and `iprivate`, told apart as the code tells them: below plane 1, planes
--- 1 to 13, and above.
+-- The ranges of `ucschar` and `iprivate`, in the cases that the code has: below plane 1, planes 1
+-- to 13, and above.
 use Rattle.std.proofs.Common.{◌≡◌, ℕ, zero, suc, ◌+◌, ◌*◌, ◌%◌, ◌<◌, ◌≤◌, Bool, false, leb, refl}
 use Rattle.std.proofs.Common.{ap, ◌∙◌, arith, ◌||◌, ⊎_elim}
 use Rattle.std.specs.Int.{is_in_range}

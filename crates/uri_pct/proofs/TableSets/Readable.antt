@@ -1,4 +1,4 @@
--- The set of the characters that are read where octets spell them.
+-- The set of the characters whose octets normalising decodes.
 use Rattle.std.proofs.Common.{◌≡◌, ℕ, ◌<◌, false, sym, ap, ◌∙◌, arith, ◌||◌, ⊎_elim}
 use Rattle.std.proofs.Math.Bool.{or-false}
 use Rattle.std.proofs.lemmas.Bool.{cond-true, cond-false, le-ltb, lt-ltb, false_from_ne_true}

@@ -1,5 +1,5 @@
--- The bytes of a character are a well-formed piece wherever they stand, and each well-formed piece
--- is those of one.
+-- The bytes of a character are a well-formed piece in any context, and each well-formed piece is
+-- the bytes of a character.
 use Rattle.std.proofs.Common.{◌≡◌, ℕ, zero, suc, ◌+◌, ◌-◌, ◌*◌, ◌/◌, ◌%◌, ◌<◌, ◌≤◌, ◌⊎◌, true}
 use Rattle.std.proofs.Common.{false, eqb, leb, List, [], ◌∷◌, ◌++◌, length, take, refl, sym}
 use Rattle.std.proofs.Common.{ap, ◌∙◌, arith, ⊎_elim, Option, Some, None, option_map, subst, inl}
@@ -108,7 +108,7 @@ begins_within-encode c rest = ⊎_elim (λ h. rw (encode_ascii c h) (outside c (
     (λ l3. rw (encode_4 c l3) (outside (240 + c / 262144) (inr (omega arith))))
     (cases_lt c 0x10000)) (cases_lt c 0x800)) (cases_lt c 0x80)
 
--- a character parts the pieces before it from those after it
+-- a character separates the pieces before it from those after it
 pub utf8_pieces-around_char : (xs : List ℕ) (c : ℕ) (ys : List ℕ) → IsScalar c
     → utf8_pieces (xs ++ (encode_utf8 c ++ ys))
     ≡ utf8_pieces xs ++ WellFormed (encode_utf8 c) ∷ utf8_pieces ys
@@ -175,7 +175,7 @@ char_1 b high rest bytes e =
 high_scalar : (c : ℕ) → 0xE000 ≤ c → c < 0x110000 → IsScalar c
 high_scalar c low high = grind (arith, nat_tests)
 
--- the number that the bytes spell, the marks of the bytes added up
+-- the code point that the bytes encode: the marks of the bytes, added up
 encode_from_2 : (b t c : ℕ) → c + 12416 ≡ b * 64 + t → 0xC2 ≤ b → b ≤ 0xDF → 0x80 ≤ t → t ≤ 0xBF
     → encode_utf8 c ≡ b ∷ t ∷ []
 encode_from_2 b t c e l h l1 h1 =

@@ -1,4 +1,4 @@
--- Bytes are UTF-8 where each piece is well-formed, and the lossy text is that of std.
+-- Bytes are UTF-8 if each piece is well-formed, and the lossy text is that of std.
 use Rattle.std.proofs.Common.{◌≡◌, ℕ, zero, suc, ◌+◌, ◌-◌, ◌<◌, ◌≤◌, ◌⊎◌, ◌↔◌, true, List, [], ◌∷◌}
 use Rattle.std.proofs.Common.{◌++◌, length, take, drop, map, refl, sym, ap, ◌∙◌, arith, ⊎_elim}
 use Rattle.std.proofs.Common.{append_assoc, Option, Some, None, subst, inl, inr}
@@ -273,7 +273,7 @@ pub first_of : (text : List ℕ) → 0 < length text → (b : ℕ) × (rest : Li
 first_of [] h = absurd (omega arith)
 first_of (b ∷ rest) h = (b, rest, refl)
 
--- after the longest prefix that is UTF-8 stands an ill-formed part
+-- after the longest prefix that is UTF-8 comes an ill-formed part
 pub fault_first : (bs : List ℕ) (b : ℕ) (rest : List ℕ) (p : Piece)
     → drop (utf8_valid_len bs) bs ≡ b ∷ rest → first_piece (following b) b rest ≡ p
     → (bytes : List ℕ) × (p ≡ IllFormed bytes)
@@ -311,7 +311,7 @@ lossy_first b rest bytes e =
     ∙ ap (λ ps. replacement_bytes ++ flat_map lossy_piece ps)
     (pieces_from-drop (taken (following b) rest) rest)
 
--- past a fault, where the rest is known
+-- after an ill-formed part, if the remaining text is known
 lossy_fault : (bs : List ℕ) (b : ℕ) (rest bytes : List ℕ) → ¬ (utf8_valid_len bs ≡ length bs)
     → drop (utf8_valid_len bs) bs ≡ b ∷ rest → first_piece (following b) b rest ≡ IllFormed bytes
     → ((ys : List ℕ) → length ys < length bs → lossy_text ys ≡ utf8_lossy ys)

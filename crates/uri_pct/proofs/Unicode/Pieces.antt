@@ -1,5 +1,5 @@
--- The pieces of bytes: they are together the bytes, those at the start stay what they are without
--- what follows, and a byte that continues no character always begins one.
+-- The pieces of bytes. Joined they are the bytes. What follows does not change the first ones. A
+-- byte that continues no character always begins one.
 use Rattle.std.proofs.Common.{◌≡◌, ℕ, zero, suc, ◌+◌, ◌<◌, ◌≤◌, Bool, true, false, cond, eqb, leb}
 use Rattle.std.proofs.Common.{List, [], ◌∷◌, ◌++◌, length, take, drop, refl, sym, ap, ◌∙◌, arith}
 use Rattle.std.proofs.Common.{◌&&◌, ⊎_elim, Option, Some, None, option_map, subst, zero-add}

@@ -39,7 +39,7 @@ faulty_first b rest bytes e =
     ap (λ p. p ∷ pieces_from (taken (following b) rest) rest) e
     ∙ ap (λ ps. IllFormed bytes ∷ ps) (pieces_from-drop (taken (following b) rest) rest)
 
--- after the longest text stands what is no text, as long as std takes it
+-- after the longest text comes an ill-formed part, as long as std takes it
 ill_formed_first : (bs invalid rest : List ℕ) → drop (utf8_valid_len bs) bs ≡ invalid ++ rest
     → 0 < length invalid → length invalid ≡ utf8_invalid_len (drop (utf8_valid_len bs) bs)
     → utf8_pieces (invalid ++ rest) ≡ IllFormed invalid ∷ utf8_pieces rest

@@ -1,5 +1,5 @@
--- Bytes at whose end no first byte calls for more are pieces by themselves, whatever follows, and
--- so are those before such an end.
+-- If bytes do not end in an unfinished character, their pieces are the same whatever follows. So
+-- are the pieces of the bytes before an unfinished end.
 use Rattle.std.proofs.Common.{◌≡◌, ℕ, zero, suc, ◌-◌, ◌<◌, ◌≤◌, true, false, cond, leb, nat_lt}
 use Rattle.std.proofs.Common.{List, [], ◌∷◌, ◌++◌, length, take, drop, get_or, map, refl, sym, ap}
 use Rattle.std.proofs.Common.{◌∙◌, append_assoc, arith, ⊎_elim, Option, Some, None, option_map}
@@ -159,7 +159,7 @@ end_begins (x ∷ xs) ys some = ⊎_elim
     ap (λ n. begins_within (drop n (x ∷ xs) ++ ys)) front ∙ end_begins xs ys (omega arith))
     (cases_Bool (nat_lt (length xs) (called_for x)))
 
--- the cut before an unfinished end, or after the bytes where there is none, parts no piece
+-- the cut is before an unfinished end, or after the bytes if there is none; it divides no piece
 unfinished_parts : (bytes : List ℕ)
     → PartNoPiece (take (length bytes - unfinished_len bytes) bytes)
     (drop (length bytes - unfinished_len bytes) bytes)

@@ -1,4 +1,4 @@
--- What a set allows may be printed and read back, and so may what is read of it.
+-- If a set allows a text, its tokens and its decoded tokens are printable.
 use Rattle.std.proofs.Common.{◌≡◌, ℕ, ◌+◌, ◌*◌, ◌<◌, ◌≤◌, Bool, true, false, eqb, ltb, not, List}
 use Rattle.std.proofs.Common.{[], ◌∷◌, map, refl, sym, ap, ◌∙◌, arith, ◌&&◌, ⊎_elim, inl, inr, ◌⊎◌}
 use Rattle.std.specs.Char.{IsScalar, digit_value, is_ascii_hexdigit, to_ascii_lowercase}
@@ -117,7 +117,7 @@ printable_tokens set (t ∷ ts) lacks e b =
     let q = and_parts (is_byte t) _ b in
     and_from _ _ (printable_token set t lacks p.0 q.0) (printable_tokens set ts lacks p.1 q.1)
 
--- the tokens of a text that a set without `%` allows may be printed and read back
+-- if a set without `%` allows a text, the text's tokens are printable
 pub printable_valid : (set : TableSet) (text : List ℕ) → LacksPercent set → IsValidFor set text
     → list_all is_printable (tokens text) ≡ true
 unfolding is_valid_for

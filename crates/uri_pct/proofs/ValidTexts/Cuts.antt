@@ -27,7 +27,7 @@ use Rattle.uri_pct.proofs.ValidTexts.Validity.{allows_first-ascii}
 abbrev pub to_mark : List ℕ → List ℕ → ℕ
 to_mark marks text = prefix_len (λ c. not (is_one_of marks c)) text
 
--- an ASCII character that is not of the set, and begins and spells no octet
+-- an ASCII character that the set lacks, and that neither begins an octet nor is in one
 abbrev is_excluded : TableSet → ℕ → Bool
 is_excluded set mark = nat_lt mark 128
     && (not (set.ascii mark) && (not (is_ascii_hexdigit mark) && not (eqb mark 37)))
@@ -103,7 +103,7 @@ pub other_len : (marks : List ℕ) (b : ℕ) (rest : List ℕ) → is_one_of mar
     → to_mark marks (b ∷ rest) ≡ suc (to_mark marks rest)
 other_len marks b rest e = cond-true _ _ _ (not_from_false _ e) ∙ omega arith
 
--- no mark stands within a character, and none in the first bytes, so many
+-- no mark is within a character, and none in the first bytes, so many
 unfoldable skips : List ℕ → ℕ → List ℕ → Bool
 skips marks skip [] = true
 skips marks zero (b ∷ rest) = skips marks (continuation_len b) rest

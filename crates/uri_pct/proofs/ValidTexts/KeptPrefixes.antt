@@ -66,7 +66,7 @@ kept_chars set (c ∷ cs) s =
     (λ a. subst (IsKept set text) (sym (first ∙ cond-false _ _ _ a)) refl)
     (cases_Bool (allows set c))
 
--- what is scanned of a text stands for itself
+-- what is scanned of a text is literal
 prefix_kept : (set : TableSet) (text : List ℕ) → IsUtf8 text
     → IsKept set text (valid_prefix (plain_set set) text)
 prefix_kept set text u = subst (λ t. IsKept set t (valid_prefix (plain_set set) t)) u.1.1
@@ -118,12 +118,12 @@ octets_more : (xs ys : List ℕ) → octets (xs ++ ys) ≡ octets xs ++ octets y
 unfolding octets
 octets_more xs ys = ap print (map-append Octet xs ys) ∙ print-append (map Octet xs) (map Octet ys)
 
--- no character is refused yet
+-- no character is rejected yet
 pub none_refused : (set : TableSet) (text : List ℕ) (start : ℕ)
     → IsEncodedBy (λ bytes. print (map Octet bytes)) set text start start
 none_refused set text start = let none : start - start ≡ 0 = omega arith in rw none refl
 
--- one more that is refused
+-- one more rejected character
 pub refused_more : (set : TableSet) (text : List ℕ) (start end next c : ℕ) → IsUtf8 (drop end text)
     → start ≤ end → drop end text ≡ encode_utf8 c ++ drop (end + len_utf8 c) text
     → next ≡ end + len_utf8 c → allows set c ≡ false
@@ -144,7 +144,7 @@ refused_more set text start end next c u ordered spelt place refused before =
     ∙ ap (λ k. octets (take (k - start) (drop start text)) ++ print (encode_text set (drop k text)))
     (sym place)
 
--- the first character is refused, so that some is
+-- the first character is rejected, so at least one is
 pub some_refused : (set : TableSet) (text : List ℕ) (start end c : ℕ) → start ≤ end
     → drop end text ≡ encode_utf8 c ++ drop (end + len_utf8 c) text → allows set c ≡ true
     → ((d : ℕ) (rest : List ℕ) → drop start text ≡ encode_utf8 d ++ rest → allows set d ≡ false)
@@ -158,7 +158,7 @@ some_refused set text start end c ordered spelt allowed first = ⊎_elim
     (ap (λ k. drop k text) (sym same) ∙ spelt)) allowed))
     (cases_lt start end)
 
--- what is written behind a run that is kept and one that is refused
+-- what is written after a run that is kept and one that is rejected
 pub run_step : (set : TableSet) (out mid new text all : List ℕ) (start end next : ℕ)
     → IsEncodedBy (λ bytes. bytes) set text start end
     → IsEncodedBy (λ bytes. print (map Octet bytes)) set text end next

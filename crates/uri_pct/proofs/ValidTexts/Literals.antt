@@ -1,4 +1,4 @@
--- A test of texts that computes at a literal, and what it tells.
+-- A test of texts that computes at a literal, and what it implies.
 use Rattle.std.proofs.Common.{◌≡◌, ℕ, Bool, true, List, [], ◌∷◌, ◌&&◌, ap, sym, refl, ◌∙◌}
 use Rattle.std.proofs.Common.{⊎_elim}
 use Rattle.std.specs.Prelude.{◌==◌, not, nat_lt, if◌then◌else◌}
@@ -31,7 +31,7 @@ literal_char set c e = ⊎_elim
     cond-false _ _ _ high ∙ letter_is_allowed set c parts.0 parts.1)
     (cases_Bool (nat_lt c 128))
 
--- the characters spell what the set allows, each `%` with its two digits
+-- the characters represent what the set allows, each `%` with its two digits
 abbrev pub are_literal_chars : TableSet → List ℕ → Bool
 are_literal_chars set [] = true
 are_literal_chars set (c ∷ []) = not (c == 37) && is_literal_char set c

@@ -1,4 +1,4 @@
--- Bytes and octets that are spelt by what a set allows are scanned.
+-- A scan passes bytes and octets that the set allows.
 use Rattle.std.proofs.Common.{◌≡◌, ℕ, zero, suc, ◌+◌, ◌<◌, ◌≤◌, Bool, true, false, List, length}
 use Rattle.std.proofs.Common.{get_or, drop, refl, sym, ap, subst, ◌∙◌, arith, ⊎_elim}
 use Rattle.std.specs.Char.{is_ascii_hexdigit}
@@ -11,7 +11,7 @@ use Rattle.uri_pct.specs.Texts.{has_digits}
 use Rattle.uri_pct.specs.Models.ByteRuns.{AreSpelt}
 use Rattle.uri_pct.proofs.ValidTexts.Prefixes.{valid_prefix-char, valid_prefix-octet, digits-ascii}
 
--- bytes and octets that are lanes from i on, of which octets begin where `oct` tells
+-- bytes and octets that are lanes from i on; `oct` marks where octets begin
 module _ (set : TableSet) (lacks : LacksPercent set) (pct : set.pct_encoded ≡ true)
     (ascii : (b : ℕ) → set.ascii b ≡ true → b < 128) (bs : List ℕ) (i n : ℕ)
     (room : i + n ≤ length bs) (oct : ℕ → Bool)

@@ -1,4 +1,4 @@
--- A text that is cut at a character which neither begins nor spells an octet.
+-- A text that is cut at a character which neither begins an octet nor is in one.
 use Rattle.std.proofs.Common.{◌≡◌, ℕ, suc, ◌+◌, ◌*◌, ◌<◌, true, false, eqb, List, [], ◌∷◌, ◌++◌}
 use Rattle.std.proofs.Common.{length, get_or, take, refl, sym, ap, subst, ◌∙◌, arith, ⊎_elim}
 use Rattle.std.specs.List.{list_all}
