@@ -1,4 +1,4 @@
-//! Builders: a step whose memory is refused marks the builder, which keeps its mark until `build`.
+//! Builders: a step whose allocation fails marks the builder, which keeps its mark until `build`.
 use crate::requests::{answers, end, tell};
 use test_support::equal;
 use fluent_uri::build::state::FragmentEnd;
@@ -10,7 +10,7 @@ use fluent_uri::pct_enc::encoder::{Encoder, IRegName, Port, RegName, Userinfo};
 use fluent_uri::{Iri, IriRef, RiMaybeRef, Uri, UriRef};
 use std::process::Abort;
 
-// Each is longer than the room that is left behind those before it.
+// Each is longer than the free room after those before it.
 const NAME: &str = "01234567";
 
 const PATH: &str = "/0123456789012345";
@@ -37,7 +37,7 @@ fn is_built<R: Abort + Print, V: RiMaybeRef + Drop>(
     }
 }
 
-/// That a builder is refused for this, or for want of memory alone.
+/// Checks that `build` returns this error, or `OutOfMemory`.
 fn is_refused<R: Abort + Print, V: RiMaybeRef + Drop>(
     rt: &R,
     built: Result<V, BuildError>,
@@ -131,7 +131,7 @@ fn international_parts(rt: HostRuntime) {
     end(&rt, rt.alloc());
 }
 
-/// `build` of a builder that is marked answers out of memory, whatever else would be refused.
+/// `build` of a marked builder returns `OutOfMemory`, whatever else it would reject.
 #[test]
 fn mark_before_another_refusal(rt: HostRuntime) {
     let built = UriRef::<String>::builder(rt.alloc())

@@ -1,5 +1,5 @@
-//! `run` of `uritool`: where memory is refused it says so and prints nothing, and else it prints
-//! what it always does.
+//! `run` of `uritool`: if an allocation fails it says so and prints nothing; else it prints what it
+//! always does.
 use crate::requests::{end, tell, tried};
 use test_support::equal;
 use std::alloc::Global;
@@ -48,7 +48,8 @@ fn word<R: Abort + Print>(rt: &R, alloc: Global, text: &str) -> String {
     tried!(rt; "a word", String::from_str(alloc, text))
 }
 
-/// Whether the words have this printed; else that memory was refused is told, and nothing printed.
+/// Returns whether the words print this text. If not, checks that `run` reports the failed
+/// allocation and prints nothing.
 fn prints<R: Abort + Print>(rt: &R, alloc: Global, words: &[String], text: &str) -> bool {
     let (mut out, mut err) = (Awaits::new(text), Awaits::new(OUT_OF_MEMORY));
     let status = run(alloc, words, &mut out, &mut err);

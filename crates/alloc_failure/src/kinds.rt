@@ -167,7 +167,7 @@ fn normal_iri_references(rt: HostRuntime) {
     end(&rt, alloc);
 }
 
-/// Formatting characters of bidirectional text are looked for in what was read.
+/// Formatting characters of bidirectional text are searched for in the decoded text.
 #[test]
 fn normal_forms_by_a_normalizer(rt: HostRuntime) {
     let alloc = rt.alloc();

@@ -1,5 +1,5 @@
-//! Every call that takes memory, held to "out of memory, or exactly this", while each request for
-//! memory is refused in turn (`.ci/alloc_failure.sh`).
+//! Every call that allocates, held to "out of memory, or exactly this", while each allocation fails
+//! in turn (`.ci/alloc_failure.sh`).
 #![tactic(auto)]
 
 #[cfg(test)]

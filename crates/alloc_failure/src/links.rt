@@ -1,4 +1,4 @@
-//! A register of links, which a refused request leaves as it was.
+//! A register of links, which a failed allocation leaves as it was.
 use crate::requests::{end, tell};
 use test_support::equal;
 use fluent_uri::normalize::{DefaultPort, Normalizer};
@@ -70,7 +70,7 @@ fn second_link(rt: HostRuntime) {
     end(&rt, rt.alloc());
 }
 
-/// Where memory is refused some front of the references was noted.
+/// If an allocation fails, a prefix of the references was noted.
 #[test]
 fn links_together(rt: HostRuntime) {
     let base = uri(&rt, "s:/a");

@@ -1,4 +1,4 @@
-//! What a test says of its requests for memory, of which a run refuses one at most.
+//! What a test prints of its allocations. In a run at most one fails.
 
 use fluent_uri::build::BuildError;
 use fluent_uri::component::SocketError;
@@ -8,7 +8,7 @@ use fluent_uri::resolve::ResolveError;
 use std::alloc::{AllocError, Global};
 use std::process::Abort;
 
-/// An error that may say that memory was refused.
+/// An error that may say that an allocation failed.
 pub trait Refusal {
     fn is_out_of_memory(&self) -> bool;
 }
@@ -49,20 +49,21 @@ impl Refusal for SocketError {
     }
 }
 
-/// Says that a call answered out of memory.
+/// Prints that an allocation failed in a call.
 pub fn tell<R: Print>(rt: &R, call: &str) {
     let _ = println!(rt; "refused: {call}");
 }
 
-/// The request behind those of a test's calls, on which each test ends: where this is the one that
-/// is refused, the calls met none, and the test says so.
+/// Makes the allocation after those of a test's calls, with which each test ends. If it is the one
+/// that fails, the calls met no failure, and the test prints so.
 pub fn end<R: Print>(rt: &R, alloc: Global) {
     if String::from_str(alloc, "behind the calls").is_err() {
         let _ = println!(rt; "refused none");
     }
 }
 
-/// Whether a call answered; else that it answered out of memory is told, and nothing else may be.
+/// Returns whether a call succeeded. If not, checks that its error is "out of memory", and prints
+/// so.
 pub fn answers<R: Abort + Print, T: Drop, E: Refusal>(
     rt: &R,
     call: &str,
@@ -77,13 +78,13 @@ pub fn answers<R: Abort + Print, T: Drop, E: Refusal>(
     }
 }
 
-/// Holds the error of a call to "out of memory", and tells of it.
+/// Checks that the error of a call is "out of memory", and prints so.
 pub fn told<R: Abort + Print, E: Refusal>(rt: &R, call: &str, error: &E) {
     assert!(rt; error.is_out_of_memory(), "{call} answers another error");
     tell(rt, call);
 }
 
-/// What a call answers, or, where memory is refused, what it answers with memory. It is a macro,
+/// The value of a call, or, if an allocation fails, the value of a second call. It is a macro,
 /// since a closure in place of the call would be four functions to prove.
 macro_rules! tried {
     ($rt:expr; $call:expr, $make:expr) => {

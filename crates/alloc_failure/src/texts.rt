@@ -10,7 +10,7 @@ fn path<'a, R: Abort>(rt: &R, text: &'a str) -> EStr<'a, Path> {
     EStr::new(text).expect(rt, text)
 }
 
-/// That a text which was to grow, and was refused, is as it was.
+/// Checks that a failed growth left the text as it was.
 fn is_left<R: Abort + Print>(rt: &R, call: &str, text: &EString<Path>, left: &str) {
     tell(rt, call);
     equal(text.as_str(), left).expect(rt, call);
@@ -39,7 +39,7 @@ fn made_and_pushed(rt: HostRuntime) {
     end(&rt, alloc);
 }
 
-/// Each of its growths refused leaves the text as it was, though some of it had been appended.
+/// Each growth that fails leaves the text as it was, though some of it had been appended.
 #[test]
 fn encoded_texts(rt: HostRuntime) {
     let mut text = EString::<Path>::new(rt.alloc());
@@ -97,7 +97,7 @@ fn lossy_texts(rt: HostRuntime) {
     end(&rt, alloc);
 }
 
-/// A text that is not UTF-8 is refused with all of its bytes, or with none.
+/// A text that is not UTF-8 gives an error with all of its bytes, or `OutOfMemory`.
 #[test]
 fn bytes_of_no_text(rt: HostRuntime) {
     let text = path(&rt, "0123456%FF8%C3%A9%FF");

@@ -1,4 +1,4 @@
-//! Calls that make no request for memory, so that none of them meets one that is refused.
+//! Calls that do not allocate, so that none of them meets a failed allocation.
 use crate::requests::end;
 use test_support::equal;
 use fluent_uri::build::Builder;

@@ -114,7 +114,7 @@ const ANSWERED: &[(&[&str], &str)] = &[
         &["links", "http://x/#f", "a"],
         "refused base should not have fragment\n",
     ),
-    // A base with a fragment refuses each reference, one with a scheme too.
+    // A base with a fragment rejects each reference, one with a scheme too.
     (
         &["links", "foo:bar#x", "//g", "s:"],
         "refused base should not have fragment\nrefused base should not have fragment\n",
@@ -128,7 +128,7 @@ fn prints_answers(rt: HostRuntime) {
     }
 }
 
-/// Words, and the line that tells why they are refused.
+/// Words, and the line that says why they are rejected.
 const REFUSED: &[(&[&str], &str)] = &[
     // A text to parse.
     (
@@ -205,7 +205,7 @@ const REFUSED: &[(&[&str], &str)] = &[
         &["resolve", "uri", "foo:bar", "//g"],
         "error: when base has a rootless path and no authority, reference should either have scheme, be empty or start with '#'\n",
     ),
-    // A base of links, or one of the references, of which the first is told.
+    // A base of links, or the first reference that is rejected.
     (
         &["links", "foo", "%"],
         "error: base: unexpected character at index 3\n",
@@ -227,7 +227,7 @@ fn says_why_words_are_refused(rt: HostRuntime) {
     }
 }
 
-/// A text for each kind of fault.
+/// A text for each kind of error.
 const FAULTS: &[&str] = &["a b", "text%a", "http://[:]"];
 
 const RESOLVE_ERRORS: &[ResolveError] = &[
@@ -304,8 +304,8 @@ fn says_that_the_output_failed(rt: HostRuntime) {
     equal(status.expect(&rt, "memory"), 0).expect(&rt, "status");
 }
 
-/// Whether the words have their answer where the output takes so many writes; else the output is
-/// said to have failed.
+/// Returns whether the words succeed if the output takes this many writes. If not, the error line
+/// says that the output failed.
 fn is_answered<R: Abort>(rt: &R, alloc: Global, words: &[&str], writes: usize) -> bool {
     let mut err = Vec::new(alloc);
     let status = run_words(alloc, words, &mut Takes(writes), &mut err).expect(rt, "memory");

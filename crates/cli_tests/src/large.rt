@@ -5,7 +5,7 @@ use uri_commands::run::run;
 
 const LENGTH: usize = 10_000_000;
 
-/// What stands first, and the unit that is repeated behind it.
+/// A prefix, and the unit that is repeated after it.
 type Large = (&'static str, &'static str);
 
 fn repeated(alloc: Global, (front, unit): Large, times: usize) -> Result<String, AllocError> {
@@ -30,7 +30,7 @@ fn run_on(
     Ok((status, out, err))
 }
 
-/// Words, the text behind them, and the line that they have printed, which has as many units.
+/// Words, the text after them, and the line that they print, which has as many units.
 const ANSWERED: &[(&[&str], Large, Large)] = &[
     (&["parse", "uri-ref"], ("", "/a"), ("path=", "/a")),
     (&["parse", "iri-ref"], ("?", "é"), ("path=\nquery=", "é")),
@@ -59,7 +59,7 @@ fn prints_answers(rt: HostRuntime) {
     }
 }
 
-/// Words, the text behind them, and the line that tells why it is refused.
+/// Words, the text after them, and the line that says why it is rejected.
 const REFUSED: &[(&[&str], Large, &str)] = &[
     (
         &["parse", "uri-ref"],

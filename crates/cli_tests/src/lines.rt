@@ -1,4 +1,4 @@
-//! What the programs of the calling guide print for stored lines, and what its functions answer.
+//! What the programs of the calling guide print for stored lines, and what its functions return.
 use cookbook::pairs::{Pair, query_of};
 use cookbook::parts::parts_of;
 use cookbook::reach::reach;
@@ -22,7 +22,7 @@ fn owned(alloc: Global, words: &[&str]) -> Result<Vec<String>, AllocError> {
     Ok(owned)
 }
 
-/// What is printed for the lines, and how many are refused.
+/// Returns what is printed for the lines, and how many are rejected.
 fn run(alloc: Global, words: &[&str], lines: &[&str]) -> Result<(Vec<u8>, usize), Refusal> {
     let mut task = Task::from_words(alloc, owned(alloc, words)?.as_slice())?.unwrap_or(Task::Query);
     let mut out = Vec::new(alloc);
@@ -35,7 +35,7 @@ fn run(alloc: Global, words: &[&str], lines: &[&str]) -> Result<(Vec<u8>, usize)
     Ok((out, refused))
 }
 
-/// Words, lines, what they have printed, and how many lines are refused.
+/// Words, lines, what they print, and how many lines are rejected.
 const RUNS: &[(&[&str], &[&str], &str, usize)] = &[
     // RFC 3986, section 6.2.2: case, octets, dot segments and the default port.
     (
@@ -120,7 +120,7 @@ fn builds_from_what_was_typed(rt: HostRuntime) {
 fn counts_visits(rt: HostRuntime) {
     let alloc = rt.alloc();
     let mut visits = BTreeMap::new(alloc);
-    // RFC 3986, section 6.2.2: the first and the last mean the same.
+    // RFC 3986, section 6.2.2: the first and the last are equivalent.
     for (text, wanted) in [("http://a/b", 1), ("http://a/c", 1), ("HTTP://A:80/%62", 2)] {
         let count = count_visit(alloc, &mut visits, text).expect(&rt, text);
         equal(count, wanted).expect(&rt, text);

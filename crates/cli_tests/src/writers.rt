@@ -1,7 +1,7 @@
 //! Writers that fail.
 use std::io::{self, ErrorKind, Write};
 
-/// Takes so many writes, and refuses those after them.
+/// Takes so many writes, and fails after them.
 #[derive(Drop)]
 pub struct Takes(pub usize);
 

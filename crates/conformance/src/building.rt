@@ -1,4 +1,4 @@
-//! What is built of parts, and what is refused (RFC 3986, section 5.3).
+//! What is built of parts, and which parts are rejected (RFC 3986, section 5.3).
 use test_support::equal;
 use fluent_uri::build::state::FragmentEnd;
 use fluent_uri::build::{BuildError, Builder};
@@ -66,7 +66,7 @@ fn optional_parts(rt: HostRuntime) {
     is_built(&rt, built, "foo?bar");
 }
 
-/// The answer of `optional` is the builder that its closure returns.
+/// `optional` returns the builder that its closure returns.
 #[test]
 fn another_builder_for_an_optional_part(rt: HostRuntime) {
     let alloc = rt.alloc();
@@ -119,8 +119,8 @@ fn authority_of_another_uri(rt: HostRuntime) {
     is_built(&rt, built, "http://user@example.com:8042");
 }
 
-/// A name that spells an IPv4 address is one (RFC 3986, section 3.2.2), and the default port is
-/// left out.
+/// A name with the form of an IPv4 address is one (RFC 3986, section 3.2.2), and the default port
+/// is left out.
 #[test]
 fn address_that_a_name_spells(rt: HostRuntime) {
     let name: EStr<'_, RegName> = part(&rt, "127.0.0.1");
@@ -214,7 +214,7 @@ fn address_of_either_version(rt: HostRuntime) {
     is_built(&rt, named, "//é");
 }
 
-/// RFC 3986, section 3.3: behind an authority a path is empty or begins with `/`.
+/// RFC 3986, section 3.3: after an authority a path is empty or begins with `/`.
 #[test]
 fn rootless_path_behind_an_authority(rt: HostRuntime) {
     let built = UriRef::<String>::builder(rt.alloc())
@@ -224,7 +224,7 @@ fn rootless_path_behind_an_authority(rt: HostRuntime) {
     is_refused(&rt, built, BuildError::NonemptyRootlessPath);
 }
 
-/// The answer of `authority_with` is the builder that its closure returns.
+/// `authority_with` returns the builder that its closure returns.
 #[test]
 fn another_builder_for_the_authority(rt: HostRuntime) {
     let alloc = rt.alloc();

@@ -81,7 +81,7 @@ fn pieces_from_both_ends(rt: HostRuntime) {
     equal(front.is_none() && back.is_none(), true).expect(&rt, "no piece");
 }
 
-/// The piece is the name, `=` and the value, decoded.
+/// Checks that a substring decodes to the name, `=` and the value.
 fn is_pair<R: Abort>(rt: &R, alloc: Global, piece: EStr<'_, Query>, name: &str, value: &str) {
     let (before, after) = piece.split_once('=').expect(rt, name);
     let before = before.decode().to_string_lossy(alloc).expect(rt, name);

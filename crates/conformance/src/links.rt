@@ -79,7 +79,8 @@ fn noted_together(rt: HostRuntime) {
     }
 }
 
-/// Notes a reference. Where memory is refused the register has what it had, and notes it next time.
+/// Notes a reference. If an allocation fails the register keeps what it had, and notes it next
+/// time.
 fn noted<R: Abort, P: DefaultPort>(
     rt: &R,
     register: &mut Register<P>,
@@ -98,7 +99,7 @@ fn noted<R: Abort, P: DefaultPort>(
     }
 }
 
-/// Holds too where one request for memory is refused, whichever it is.
+/// Holds too if one allocation fails, whichever it is.
 #[test]
 fn noted_one_by_one(rt: HostRuntime) {
     for row in ROWS {

@@ -84,7 +84,7 @@ fn iris_and_their_uris(rt: HostRuntime) {
     is_target(&rt, target, "http://%C3%A9/%C3%BC");
 }
 
-/// The fragment, or none: `None` stands for a fragment that is taken away.
+/// Returns the fragment, or none: `None` removes a fragment.
 fn fragment_of<'a, R: Abort, E: Encoder>(rt: &R, text: Option<&'a str>) -> Option<EStr<'a, E>> {
     Some(EStr::new(text?).expect(rt, "a fragment"))
 }

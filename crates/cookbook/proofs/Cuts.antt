@@ -1,4 +1,4 @@
--- A piece that is cut at its first `=`.
+-- A substring that is cut at its first `=`.
 use Rattle.std.proofs.Common.{◌≡◌, ℕ, true, List, [], ◌∷◌, ◌++◌, refl, ap, arith, sym, ◌∙◌}
 use Rattle.fluent_uri.specs.Texts.{IsFirstCut, lacks}
 use Rattle.cookbook.specs.Pairs.{name_part, read_pair, read_text, value_part}

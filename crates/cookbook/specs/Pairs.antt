@@ -22,11 +22,11 @@ Texts = List ℕ × List ℕ
 abbrev pub pair_texts : Pair → Texts
 pair_texts pair = (string_bytes pair.name, string_bytes pair.value)
 
--- what a piece decodes to, as text
+-- the text that a substring decodes to
 abbrev pub read_text : List ℕ → List ℕ
 read_text piece = lossy_text (token_bytes (tokens piece))
 
--- what stands before the first `=` of a piece, and what stands behind it
+-- what is before the first `=` of a substring, and what is after it
 unfoldable pub name_part : List ℕ → List ℕ
 name_part [] = []
 name_part (b ∷ bs) = if b == equals_sign then [] else b ∷ name_part bs
@@ -38,7 +38,7 @@ value_part (b ∷ bs) = if b == equals_sign then bs else value_part bs
 abbrev pub read_pair : List ℕ → Texts
 read_pair piece = (read_text (name_part piece), read_text (value_part piece))
 
--- the pairs of a query: a piece between its `&` that is not empty is one
+-- the pairs of a query: each nonempty substring between its `&` is one
 abbrev pub read_pieces : List (List ℕ) → List Texts
 read_pieces pieces = map read_pair (filter (λ piece. not (is_empty piece)) pieces)
 
@@ -53,12 +53,12 @@ data_text text = print (encode_text data_set text)
 abbrev pub pair_text : Texts → List ℕ
 pair_text pair = data_text pair.0 ++ codes "=" ++ data_text pair.1
 
--- a pair behind those before it
+-- a pair after those before it
 abbrev pub behind : List ℕ → Texts → List ℕ
 behind [] pair = pair_text pair
 behind (c ∷ cs) pair = (c ∷ cs) ++ codes "&" ++ pair_text pair
 
--- the pairs behind a text, joined by `&`
+-- the pairs after a text, joined by `&`
 abbrev pub query_from : List ℕ → List Texts → List ℕ
 query_from text [] = text
 query_from text (pair ∷ pairs) = query_from (behind text pair) pairs
@@ -66,7 +66,7 @@ query_from text (pair ∷ pairs) = query_from (behind text pair) pairs
 abbrev pub query_text : List Texts → List ℕ
 query_text pairs = query_from [] pairs
 
--- the pairs behind a text, `name is value`, a line each
+-- the pairs after a text, `name is value`, a line each
 abbrev pub lines_from : List ℕ → List Texts → List ℕ
 lines_from text [] = text
 lines_from text (pair ∷ pairs) =

@@ -1,4 +1,4 @@
--- When a line has no answer.
+-- When a line causes an error.
 use Rattle.std.specs.Prelude.{ℕ, List, ⊤}
 use Rattle.fluent_uri.specs.Components.{components}
 use Rattle.fluent_uri.specs.Grammar.{IsOfKind, Kind, uri_ref}

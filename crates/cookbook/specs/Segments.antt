@@ -9,7 +9,7 @@ use Rattle.fluent_uri.specs.Tokens.{print}
 abbrev pub is_dots : {Z : Type 0} → String Z → Bool
 is_dots s = bytes_eq (string_bytes s) (codes ".") || bytes_eq (string_bytes s) (codes "..")
 
--- the segments behind a path, each as data behind a `/`
+-- the segments after a path, each percent-encoded as data after a `/`
 abbrev pub path_from : {Z : Type 0} → List ℕ → List (String Z) → List ℕ
 path_from path [] = path
 path_from path (segment ∷ segments) =

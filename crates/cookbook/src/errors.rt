@@ -1,4 +1,4 @@
-//! The error of a text that is written out: its kind and its index, by computing `refusal`.
+//! The error of a literal text: its kind and its index, by computing `refusal`.
 ghost use Rattle.std.specs.Prelude.{◌≡◌, IfErr};
 ghost use Rattle.fluent_uri.specs.Errors.{malformed_ipv6, unexpected};
 

@@ -33,11 +33,11 @@ impl Frontier {
         }
     }
 
-    /// The normal form of a URI, if none that was met means the same. It is then met.
+    /// Returns the normal form of a URI, if no equivalent one was met before. The URI is then met.
     ///
     /// # Errors
     ///
-    /// `Text` exactly if the text is no URI; `OutOfMemory` if memory is refused.
+    /// `Text` exactly if the text is not a URI; `OutOfMemory` if allocation fails.
     #[tactic(auto, using(crate::proofs::Keys::met_after))]
     pub fn note(&mut self, alloc: Global, text: &str) -> Result<Option<Uri<String>>, Refusal>
         ensures new { IfOk result (λ answer.
@@ -62,7 +62,7 @@ impl Frontier {
         }
     }
 
-    /// Writes the normal form of a URI and a newline, unless one that was met means the same.
+    /// Writes the normal form of a URI and a newline, if no equivalent one was met before.
     ///
     /// # Errors
     ///

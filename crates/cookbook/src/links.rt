@@ -15,8 +15,8 @@ use std::io::Write;
 ///
 /// # Errors
 ///
-/// `Text` exactly if the link is no URI reference; `Target` exactly if it has no target; and
-/// `OutOfMemory` if memory is refused.
+/// `Text` exactly if the link is not a URI reference; `Target` exactly if it has no target; and
+/// `OutOfMemory` if allocation fails.
 pub fn page(alloc: Global, base: &Uri<String>, link: &str) -> Result<Uri<String>, Refusal>
     ensures page { IfOk result (λ page. IsPage (uri_text base.now) link.now (uri_text page)) }
     ensures refused { IfErr result (IsRefusedLink (uri_text base.now) link.now) }

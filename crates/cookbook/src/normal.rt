@@ -14,7 +14,7 @@ use std::alloc::Global;
 ///
 /// # Errors
 ///
-/// `Text` exactly if the text is no URI; `OutOfMemory` if memory is refused.
+/// `Text` exactly if the text is not a URI; `OutOfMemory` if allocation fails.
 pub fn normal_form(alloc: Global, text: &str) -> Result<Uri<String>, Refusal>
     ensures normal { IfOk result (λ made.
         IsNormalForm uri default_port text.now (uri_text made)) }

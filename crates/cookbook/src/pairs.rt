@@ -19,13 +19,13 @@ pub struct Pair {
     pub value: String,
 }
 
-/// The pairs that a query spells: what stands between its `&`, where that isn't empty, each cut
-/// at its first `=` and then decoded. Without `=` the value is empty; what does not decode to
-/// UTF-8 has U+FFFD in its place, and `+` is no space.
+/// Returns the pairs of a query. Each nonempty substring between its `&` is cut at its first `=`,
+/// and both halves are decoded. Without `=` the value is empty. Bytes that are not UTF-8 become
+/// U+FFFD, and `+` is not a space.
 ///
 /// # Errors
 ///
-/// Only if memory is refused.
+/// Only if allocation fails.
 ///
 /// # Examples
 ///
@@ -43,7 +43,7 @@ pub fn pairs_of(alloc: Global, query: EStr<'_, Query>) -> Result<Vec<Pair>, Allo
     Ok(pairs)
 }
 
-/// The pair that a piece spells.
+/// Returns the pair of a substring.
 fn pair_of(alloc: Global, piece: EStr<'_, Query>) -> Result<Pair, AllocError>
     ensures { IfOk result (λ pair. pair_texts pair ≡ read_pair (text_of piece.entry)) }
 {
@@ -54,7 +54,7 @@ fn pair_of(alloc: Global, piece: EStr<'_, Query>) -> Result<Pair, AllocError>
     })
 }
 
-/// What stands before the first `=` of a piece, and behind it.
+/// Returns what is before the first `=` of a substring, and what is after it.
 #[tactic(auto, using(fluent_uri::proofs::Calling::calling, crate::proofs::Cuts::cuts))]
 fn name_and_value(piece: EStr<'_, Query>) -> (EStr<'_, Query>, EStr<'_, Query>)
     ensures name { text_of result.0 ≡ name_part (text_of piece.entry) }
@@ -66,19 +66,19 @@ fn name_and_value(piece: EStr<'_, Query>) -> (EStr<'_, Query>, EStr<'_, Query>)
     }
 }
 
-/// The text that a piece decodes to.
+/// Returns the text that a substring decodes to.
 fn decoded(alloc: Global, piece: EStr<'_, Query>) -> Result<String, AllocError>
     ensures { IfOk result (λ text. string_bytes text ≡ read_text (text_of piece.entry)) }
 {
     piece.decode().to_string_lossy(alloc)?.into_owned(alloc)
 }
 
-/// The query that spells the pairs: `name=value`, joined by `&`, each name and value as data,
-/// in which reserved characters are octets (RFC 3986, section 2.4).
+/// Returns the query of the pairs: `name=value`, joined by `&`. Each name and value is data, in
+/// which reserved characters are percent-encoded (RFC 3986, section 2.4).
 ///
 /// # Errors
 ///
-/// Only if memory is refused.
+/// Only if allocation fails.
 ///
 /// # Examples
 ///
@@ -99,11 +99,12 @@ pub fn query_of(alloc: Global, pairs: &[Pair]) -> Result<EString<Query>, AllocEr
     Ok(query)
 }
 
-/// Writes a query's pairs as they are read, one a line, and then the query that spells them.
+/// Writes the decoded pairs of a query, one a line, and then the query that `query_of` makes of
+/// them.
 ///
 /// # Errors
 ///
-/// `Query` exactly if the text is no query; `OutOfMemory` if memory is refused, and
+/// `Query` exactly if the text is not a query; `OutOfMemory` if allocation fails, and
 /// `OutputFailed` if the writer fails.
 pub fn print_pairs<O: Write>(alloc: Global, text: &str, out: &mut O) -> Result<(), Refusal>
     ensures { OnOk result (Appends (O.contents out.old) (O.contents out.new)

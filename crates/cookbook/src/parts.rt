@@ -20,7 +20,7 @@ pub struct Parts<'a> {
 ///
 /// # Errors
 ///
-/// Exactly if the text is no URI reference; the error says what is wrong, and where.
+/// Exactly if the text is not a URI reference; the error says what is wrong, and where.
 ///
 /// # Examples
 ///

@@ -1,4 +1,4 @@
-//! Why a line has no answer.
+//! The errors of a line.
 ghost use Rattle.std.specs.Prelude.{◌≡◌};
 ghost use Rattle.cookbook.specs.declared.refusal.Refusal.TheVariants.{OutOfMemory, OutputFailed};
 ghost use Rattle.cookbook.specs.declared.refusal.Refusal.TheVariants.{Target, Text};
@@ -9,7 +9,7 @@ use std::alloc::{AllocError, AllocFailed};
 use std::io;
 use thiserror::Error;
 
-/// Why a line has no answer.
+/// The error of a line.
 #[derive(Clone, Copy, Debug, PartialEq, Eq, Error)]
 pub enum Refusal {
     /// The text is not of the kind that was asked for.
@@ -21,10 +21,10 @@ pub enum Refusal {
     /// The text is no query (RFC 3986, section 3.4).
     #[error("no query")]
     Query,
-    /// Memory was refused.
+    /// Allocation failed.
     #[error("out of memory")]
     OutOfMemory,
-    /// The output took less than the answer.
+    /// The writer did not take the whole output.
     #[error("output failed")]
     OutputFailed,
 }

@@ -16,7 +16,7 @@ pub enum PathError {
     /// and 6.2.2.3).
     #[error("segment is `.` or `..`")]
     DotSegment,
-    /// Memory was refused.
+    /// Allocation failed.
     #[error("out of memory")]
     OutOfMemory,
 }
@@ -27,11 +27,12 @@ impl From<AllocError> for PathError {
     }
 }
 
-/// The path of the segments, whatever characters they have: each as data, behind a `/`.
+/// Returns the path of the segments, whatever characters they have: each one percent-encoded as
+/// data, after a `/`.
 ///
 /// # Errors
 ///
-/// `DotSegment` exactly if a segment is `.` or `..`; `OutOfMemory` if memory is refused.
+/// `DotSegment` exactly if a segment is `.` or `..`; `OutOfMemory` if allocation fails.
 ///
 /// # Examples
 ///

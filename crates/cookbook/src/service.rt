@@ -17,8 +17,8 @@ use std::alloc::Global;
 ///
 /// # Errors
 ///
-/// Those of `Builder::build`: `NonemptyRootlessPath` if the path is neither empty nor begins
-/// with `/`, and `OutOfMemory` if memory is refused.
+/// Those of `Builder::build`: `NonemptyRootlessPath` if the path is neither empty nor begins with
+/// `/`, and `OutOfMemory` if allocation fails.
 ///
 /// # Examples
 ///

@@ -24,7 +24,7 @@ impl Task {
     ///
     /// # Errors
     ///
-    /// `Text` exactly if BASE is no URI; `OutOfMemory` if memory is refused.
+    /// `Text` exactly if BASE is not a URI; `OutOfMemory` if allocation fails.
     pub fn from_words(alloc: Global, words: &[String]) -> Result<Option<Task>, Refusal> {
         match words {
             [word] if word.as_str() == "frontier" => {

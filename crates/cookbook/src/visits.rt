@@ -11,12 +11,12 @@ use crate::refusal::Refusal;
 use std::alloc::Global;
 use std::collections::BTreeMap;
 
-/// Counts a visit of a URI under its normal form, and answers how many there are, up to the
-/// largest `u32`.
+/// Counts a visit of a URI under its normal form, and returns how many there are, up to the largest
+/// `u32`.
 ///
 /// # Errors
 ///
-/// `Text` exactly if the text is no URI; `OutOfMemory` if memory is refused.
+/// `Text` exactly if the text is not a URI; `OutOfMemory` if allocation fails.
 #[tactic(auto, using(crate::proofs::Keys::counted_after))]
 pub fn count_visit(
     alloc: Global,

@@ -25,7 +25,7 @@ pub fn with_the_query_if_any(
         .build()
 }
 
-/// `authority_with` is handed a closure that answers another builder.
+/// Calls `authority_with` with a closure that returns another builder.
 pub fn with_no_authority(
     alloc: Global,
     path: EStr<'_, Path>,

@@ -1,4 +1,4 @@
-//! How many pieces and parts there are.
+//! Numbers of substrings, segments and chunks.
 #![tactic(auto)]
 
 ghost use Rattle.std.specs.Prelude.{◌≡◌, ◌==◌, length};
@@ -9,7 +9,7 @@ ghost use Rattle.fluent_uri.specs.EncodedTexts.{text_of};
 use fluent_uri::pct_enc::EStr;
 use fluent_uri::pct_enc::encoder::{Path, Query};
 
-/// How many pieces lie between the places of `&`.
+/// Returns how many substrings are between the `&` of a query.
 pub fn pair_count(query: EStr<'_, Query>) -> usize
     ensures { result ≡ length (slice_split (λ b. b == 38) (text_of query.entry)) }
 {

@@ -62,17 +62,17 @@ pub fn encode_bytes_if_allowed<E: Encoder, SubE: Encoder>(
     Ok(())
 }
 
-/// A path may stand as a query.
+/// Converts a path to a query.
 pub fn path_as_query(path: EStr<'_, Path>) -> EStr<'_, Query> {
     path.upcast()
 }
 
-/// A path of a URI may stand in an IRI.
+/// Converts a path of a URI to one of an IRI.
 pub fn path_of_a_uri(path: EStr<'_, Path>) -> EStr<'_, IPath> {
     path.upcast()
 }
 
-/// A query may stand as a fragment.
+/// Converts a query to a fragment.
 pub fn query_as_fragment(query: EStr<'_, Query>) -> EStr<'_, Fragment> {
     query.upcast()
 }

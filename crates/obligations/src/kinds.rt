@@ -190,7 +190,7 @@ pub fn with_fragment(
     value.with_fragment(alloc, Some(fragment))
 }
 
-/// `set_fragment` with none, which is never refused.
+/// Calls `set_fragment` with `None`, which never fails.
 pub fn take_fragment_away(value: &mut IriRef<String>) -> Result<(), AllocError>
     ensures { IsOk result }
 {

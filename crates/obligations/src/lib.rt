@@ -1,9 +1,9 @@
 //! What callers of `fluent_uri` write, with no proof of their own.
 //!
-//! Each condition of a public call is met twice: at a literal, and behind the public test that the
-//! docs of the call name. A module that begins with `#![tactic(auto)]` needs nothing, and the
-//! others need the one line that stands here for a whole crate. So this crate is refused where a
-//! condition, a law or a public name falls behind what callers need.
+//! Each condition of a public call is met twice: at a literal, and after the public test that the
+//! docs of the call name. A module that begins with `#![tactic(auto)]` needs no hint. The others
+//! need the one line that is below, once for the crate. So this crate fails its check if a
+//! condition, a law or a public name no longer gives callers what they need.
 #![tactic(auto, using(fluent_uri::proofs::Calling::calling))]
 
 pub mod building;

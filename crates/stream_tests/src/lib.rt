@@ -1,4 +1,4 @@
-//! What `uri_streams` writes, whatever the sizes of reads, and where a read or a write fails.
+//! What `uri_streams` writes, whatever the sizes of reads, and if a read or a write fails.
 #![tactic(auto)]
 
 #[cfg(test)]

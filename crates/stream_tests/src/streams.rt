@@ -43,7 +43,7 @@ fn told(alloc: Global, job: &Job<'_>, input: &[u8]) -> Result<(Vec<u8>, Vec<u8>)
     Ok((out, err))
 }
 
-/// Each piece, one of them, or none: an input is three of these.
+/// An input is a sequence of three of these.
 const PIECES: [&[u8]; 6] = [
     b"HTTP://a:80/%7e\r\n",
     b"a b\n",

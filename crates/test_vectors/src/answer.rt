@@ -1,4 +1,4 @@
-//! The answer to what a row asks.
+//! The result of what a row asks.
 
 use crate::fields::{Fault, Fields, Words};
 use crate::operation::{Kind, OfPair, OfValue, Operation};
@@ -9,7 +9,7 @@ use fluent_uri::{Iri, IriRef, Uri, UriRef};
 use std::alloc::Global;
 use std::hash::{DefaultHasher, Hash, Hasher};
 
-/// The words of the answer.
+/// Returns the words of the result.
 pub(crate) fn answer(alloc: Global, asked: &str) -> Result<Words, Fault> {
     let mut fields = Fields::new(alloc, asked);
     let mut words = Words::new(alloc);

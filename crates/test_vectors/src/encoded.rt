@@ -92,7 +92,7 @@ fn read(alloc: Global, text: &str, words: &mut Words) -> Result<(), Fault> {
     Ok(words.text(lossy.as_str())?)
 }
 
-/// Says the pieces of a path.
+/// Appends the substrings of a path that a row asks for.
 pub(crate) fn of_pieces(
     ask: OfPieces,
     text: &str,

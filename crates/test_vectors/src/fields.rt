@@ -3,7 +3,7 @@
 use std::alloc::{AllocError, Global};
 use std::fmt;
 
-/// Why a row has no answer; all but the first are malformed rows.
+/// Why a row has no result; all but the first are malformed rows.
 #[derive(Clone, Copy, Debug)]
 pub(crate) enum Fault {
     OutOfMemory,
@@ -71,7 +71,7 @@ impl fmt::Display for Fault {
     }
 }
 
-/// The fields of the question that are still to be read.
+/// The fields of the question that are not yet taken.
 #[derive(Drop)]
 pub(crate) struct Fields<'a> {
     alloc: Global,
@@ -86,7 +86,7 @@ impl<'a> Fields<'a> {
         }
     }
 
-    /// Reads the next field as it is written.
+    /// Takes the next field as it is written.
     pub(crate) fn word(&mut self) -> Result<&'a str, Fault> {
         if self.rest.is_empty() {
             return Err(Fault::FieldMissing);
@@ -104,13 +104,13 @@ impl<'a> Fields<'a> {
         }
     }
 
-    /// Reads the text that the next field writes.
+    /// Takes the next field and unescapes its text.
     pub(crate) fn text(&mut self) -> Result<String, Fault> {
         let word = self.word()?;
         unescaped(self.alloc, word)
     }
 
-    /// Reads the next field as a decimal number.
+    /// Takes the next field as a decimal number.
     pub(crate) fn number(&mut self) -> Result<u16, Fault> {
         match self.word()?.parse::<u16>() {
             Ok(number) => Ok(number),
@@ -118,7 +118,7 @@ impl<'a> Fields<'a> {
         }
     }
 
-    /// Reads the next field as a hexadecimal number.
+    /// Takes the next field as a hexadecimal number.
     pub(crate) fn hexadecimal(&mut self) -> Result<u16, Fault> {
         match u16::from_str_radix(self.word()?, 16) {
             Ok(number) => Ok(number),
@@ -126,7 +126,7 @@ impl<'a> Fields<'a> {
         }
     }
 
-    /// Reads the bytes that the next field writes, hexadecimal numbers with a comma between two.
+    /// Takes the bytes of the next field: hexadecimal numbers with a comma between two.
     pub(crate) fn bytes(&mut self) -> Result<Vec<u8>, Fault> {
         let mut bytes = Vec::new(self.alloc);
         for pair in self.word()?.split(',') {
@@ -195,7 +195,7 @@ fn character(digits: &str) -> Result<char, Fault> {
     }
 }
 
-/// Words of an answer, with a space between two of them.
+/// The words of a result, with a space between two of them.
 #[derive(Drop)]
 pub(crate) struct Words {
     alloc: Global,

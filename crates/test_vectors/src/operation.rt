@@ -92,7 +92,7 @@ pub(crate) enum OfPath {
 /// What is asked of a text and a delimiter.
 #[derive(Clone, Copy)]
 pub(crate) enum OfPieces {
-    /// All pieces.
+    /// All substrings.
     Split,
     /// What is before the first delimiter, and what is after it.
     First,
@@ -115,7 +115,7 @@ pub(crate) enum Operation {
     EncodeBytes,
     /// The scheme, if the text is one.
     Scheme,
-    /// Whether two schemes are equal, and hash alike.
+    /// Whether two schemes are equal and have equal hashes.
     SameScheme,
     /// The default port of a scheme, in letters of either case.
     DefaultPort,

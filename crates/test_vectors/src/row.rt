@@ -1,11 +1,11 @@
-//! Rows as they stand in a file.
+//! Rows as they are in a file.
 
 use crate::answer::answer;
 use crate::fields::{Fault, Words, unescaped};
 use std::alloc::Global;
 use std::io::{self, BufRead};
 
-/// A row: where it stands, and its text.
+/// A row: its file and line, and its text.
 #[derive(Drop)]
 pub struct Row<'f> {
     pub(crate) file: &'f str,
@@ -43,9 +43,9 @@ pub fn push_rows<'f, R: BufRead + Drop>(
 /// What is wrong with a row that does not hold.
 #[derive(Drop)]
 pub(crate) enum Difference {
-    /// The row has no answer.
+    /// The row has no result.
     Fault(Fault),
-    /// The answer is another one.
+    /// The result is another one.
     Answer { expected: Words, got: Words },
 }
 
@@ -56,7 +56,7 @@ impl From<Fault> for Difference {
 }
 
 impl Row<'_> {
-    /// Compares the answer with the expected one.
+    /// Compares the result with the expected one.
     pub(crate) fn check(&self, alloc: Global) -> Result<(), Difference> {
         let Some((asked, wanted)) = self.text.split_once(" -> ") else {
             return Err(Difference::Fault(Fault::NoArrow));
@@ -71,7 +71,7 @@ impl Row<'_> {
     }
 }
 
-/// The words with one space between two of them, each escaped as answers are.
+/// Returns the words with one space between two of them, each escaped as results are.
 fn canonical(alloc: Global, wanted: &str) -> Result<Words, Fault> {
     let mut words = Words::new(alloc);
     for word in wanted.split(' ') {

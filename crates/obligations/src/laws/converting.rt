@@ -12,11 +12,11 @@ use fluent_uri::resolve::{ResolveError, Resolver};
 use fluent_uri::{Iri, IriRef, Uri};
 use std::alloc::{AllocError, Global};
 
-/// Whether the URI of an IRI, read as an IRI again, has the normal form of the IRI: it has.
+/// Returns whether an IRI and its URI, as an IRI, have the same normal form: they have.
 ///
 /// # Errors
 ///
-/// Only if memory is refused.
+/// Only if allocation fails.
 pub fn same_normal_form(alloc: Global, iri: &Iri<String>) -> Result<bool, AllocError>
     ensures { IfOk result (λ same. same ≡ true) }
 {
@@ -24,12 +24,12 @@ pub fn same_normal_form(alloc: Global, iri: &Iri<String>) -> Result<bool, AllocE
     Ok(converted.normalize(alloc)? == iri.normalize(alloc)?)
 }
 
-/// Whether the URI reference of an IRI reference, read as an IRI reference again, has the normal
-/// form of the IRI reference: it has.
+/// Returns whether an IRI reference and its URI reference, as an IRI reference, have the same
+/// normal form: they have.
 ///
 /// # Errors
 ///
-/// Only if memory is refused.
+/// Only if allocation fails.
 pub fn same_normal_reference(alloc: Global, reference: &IriRef<String>) -> Result<bool, AllocError>
     ensures { IfOk result (λ same. same ≡ true) }
 {

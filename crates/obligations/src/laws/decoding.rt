@@ -9,11 +9,11 @@ use fluent_uri::pct_enc::encoder::Path;
 use fluent_uri::pct_enc::{CowSlice, EStr};
 use std::alloc::{AllocError, Global};
 
-/// The bytes behind the first item: those of the items that are left.
+/// Returns the bytes after the first item: those of the items that are left.
 ///
 /// # Errors
 ///
-/// Only if memory is refused.
+/// Only if allocation fails.
 pub fn bytes_behind_first<'a>(
     alloc: Global,
     text: EStr<'a, Path>,

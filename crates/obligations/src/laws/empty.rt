@@ -12,7 +12,7 @@ use std::alloc::Global;
 ///
 /// # Errors
 ///
-/// Only if memory is refused.
+/// Only if allocation fails.
 pub fn empty_parts(alloc: Global) -> Result<UriRef<String>, BuildError>
     ensures { IfOk result (λ built. uri_ref_text built ≡ codes "//?#") }
 {

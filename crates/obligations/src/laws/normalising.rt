@@ -17,7 +17,7 @@ use std::alloc::{AllocError, Global};
 ///
 /// # Errors
 ///
-/// Only if memory is refused.
+/// Only if allocation fails.
 pub fn same_when_normalised_twice(alloc: Global, given: Iri<&str>) -> Result<bool, AllocError>
     ensures { IfOk result (λ same. same ≡ true) }
 {
@@ -45,11 +45,11 @@ pub fn normal_text_of_equal_parts(text: &str, other: &str)
     laws::meanings_are_equal_if_their_parts_are();
 }
 
-/// The normal form, whose text is parsed once more: it is never refused.
+/// Returns the normal form after parsing its text again, which never fails.
 ///
 /// # Errors
 ///
-/// Only if memory is refused.
+/// Only if allocation fails.
 pub fn parsed_once_more(alloc: Global, given: Iri<&str>) -> Result<Iri<String>, AllocError>
     ensures { IfOk result (λ normal.
         IsNormalForm iri default_port (iri_text given.entry) (iri_text normal)) }

@@ -1,4 +1,4 @@
-//! Percent-encoded texts, and what is read of them (RFC 3986, sections 2.1 and 6.2.2.2).
+//! Percent-encoded texts, and their unreserved decoding (RFC 3986, sections 2.1 and 6.2.2.2).
 ghost use Rattle.std.specs.Prelude.{◌≡◌, ◌∷◌, [], List, codes, map};
 ghost use Rattle.fluent_uri.specs.EncodedTexts.{text_of};
 ghost use Rattle.fluent_uri.specs.Reading.{read, read_alone};
@@ -10,14 +10,14 @@ use fluent_uri::laws;
 use fluent_uri::pct_enc::EStr;
 use fluent_uri::pct_enc::encoder::Path;
 
-/// In the path of a URI each octet is read by itself.
+/// In the path of a URI each octet is decoded by itself.
 pub fn read_octet_by_octet(path: EStr<'_, Path>)
     ensures { read path_set (text_of path.entry) ≡ map read_alone (tokens (text_of path.entry)) }
 {
     laws::uris_are_read_octet_by_octet();
 }
 
-/// The text of a path: characters and octets of the set spell it.
+/// Returns the text of a path: it consists of characters and octets of the set.
 pub fn spelt(path: EStr<'_, Path>) -> &str
     ensures { IsSpeltWithin path_set result.now }
 {
@@ -25,13 +25,13 @@ pub fn spelt(path: EStr<'_, Path>) -> &str
     path.as_str()
 }
 
-/// `a%3a` and `a%3A` both spell the character `a` and the octet 3A.
+/// Both `a%3a` and `a%3A` are the character `a` and the octet 3A.
 pub fn either_case()
     ensures lower { Spells (codes "a%3a") (Char 97 ∷ Octet 58 ∷ []) }
     ensures upper { Spells (codes "a%3A") (Char 97 ∷ Octet 58 ∷ []) }
 {}
 
-/// Texts that spell the same, in digits of whichever case, are read alike.
+/// Texts of the same characters and octets, with digits of either case, have the same tokens.
 pub fn read_alike(text: &str, other: &str)
     ensures { (ts : List Token) → Spells text.now ts → Spells other.now ts
         → tokens text.now ≡ tokens other.now }

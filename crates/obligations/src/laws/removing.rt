@@ -28,7 +28,7 @@ pub fn removed_before_merging(base: &str, reference: &str)
     laws::bases_may_be_removed_before_merging();
 }
 
-/// Dot segments may be removed before a path is read or after.
+/// Dot segments may be removed before or after unreserved octets are decoded.
 pub fn removed_before_reading(path: EStr<'_, IPath>)
     requires { IsAbsolute (text_of path) }
     ensures { remove_dot_segments (print (read ipath_set (text_of path.entry)))

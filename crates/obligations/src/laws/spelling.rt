@@ -8,7 +8,7 @@ use fluent_uri::component::Authority;
 use fluent_uri::pct_enc::encoder::{RegName, Userinfo};
 use fluent_uri::{Iri, ParseError, laws};
 
-/// The text, where it is an IRI: the grammar spells it.
+/// Returns the text if it is an IRI: it follows the grammar.
 ///
 /// # Errors
 ///
