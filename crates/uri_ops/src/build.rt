@@ -130,16 +130,16 @@ impl<R: RiMaybeRef, S: StateOf<R>> Builder<R, S> {
         Builder::holding(self.held.taken())
     }
 
-    /// The builder that the step returns for the value, where there is one, and else the same
-    /// builder in the state after the step.
+    /// Calls the step with the value, if there is one, and returns its builder. Without a value it
+    /// returns the same builder, in the state after the step.
     ///
     /// The step may be called on every builder, as each method of `Builder` may that asks nothing.
     /// `optional(Builder::query, None)` adds nothing.
     ///
     /// # Examples
     ///
-    /// `builder.optional(Builder::query, None)` leaves the query out, and
-    /// `Some(EStr::new_or_panic("q"))` in place of `None` gives it.
+    /// `builder.optional(Builder::query, None)` leaves the query out; with
+    /// `Some(EStr::new_or_panic("q"))` in place of `None` it adds it.
     pub fn optional<F, V, T: StateOf<R>>(self, step: F, value: Option<V>) -> Builder<R, T>
     where
         S: AdvanceTo<T>,
@@ -359,7 +359,7 @@ impl<R: RiMaybeRef, S: StateOf<R>> Builder<R, S> {
     /// # Errors
     ///
     /// `OutOfMemory` exactly if the allocation of a step failed. Else `NonemptyRootlessPath`,
-    /// `PathStartsWithDoubleSlash` or `FirstPathSegmentContainsColon`, where it applies.
+    /// `PathStartsWithDoubleSlash` or `FirstPathSegmentContainsColon`, if its condition holds.
     ///
     /// # Examples
     ///

@@ -63,7 +63,7 @@ pub fn needs_scheme<K: Kind>(core: Core<K, &str>) -> Result<(), ConvertError>
 ///
 /// # Errors
 ///
-/// `NotAscii`, exactly if there is one, with the place of the first.
+/// `NotAscii`, exactly if there is one, with the position of the first.
 #[doc(hidden)]
 #[tactic(auto, unfolding(crate::specs::Conversions::ascii_refusal))]
 pub fn needs_ascii(text: &str) -> Result<(), ConvertError>

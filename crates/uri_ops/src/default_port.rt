@@ -1,4 +1,4 @@
-//! The default ports of schemes, as a normaliser asks for them.
+//! The default ports of schemes, for a normaliser.
 use uri_parts::component::Scheme;
 
 /// The default ports of schemes (RFC 3986, sections 3.2.3 and 6.2.3).

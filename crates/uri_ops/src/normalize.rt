@@ -71,7 +71,7 @@ pub struct Normalizer<P> {
     pub(crate) ports: P,
 }
 
-/// A normal text with the places of its components, and whether the removal of its dot segments
+/// A normal text with the positions of its components, and whether the removal of its dot segments
 /// underflows.
 #[derive(Drop)]
 pub(crate) struct Normalized {
@@ -104,7 +104,7 @@ fn written_form<K: Kind, P: DefaultPort>(
     })
 }
 
-/// The normal text of a text of a kind. Where it is the text, that is copied.
+/// Returns the normal text of a text of a kind. If the text is found unchanged, it is copied.
 pub(crate) fn normal_form<K: Kind, P: DefaultPort>(
     alloc: Global,
     core: Core<K, &str>,
@@ -125,7 +125,8 @@ pub(crate) fn normal_form<K: Kind, P: DefaultPort>(
     written_form(alloc, core, ports)
 }
 
-/// The normal text of a text of a kind whose components are so. Where it is the text, that is kept.
+/// Returns the normal text of a text of a kind whose components are at these positions. If the text
+/// is found unchanged, it is kept.
 pub(crate) fn normal_form_of<K: Kind, P: DefaultPort>(
     alloc: Global,
     text: String,
@@ -178,8 +179,8 @@ impl Default for Normalizer<SchemeDefaults> {
 }
 
 impl<P: DefaultPort> Normalizer<P> {
-    /// The same with another say on whether dot segments may underflow: whether `/..` is removed
-    /// where no segment is before it (RFC 3986, section 5.2.4), in place of an error.
+    /// Returns the normaliser with dot segments allowed to underflow, or not. If they may, `/..` is
+    /// removed where no segment is before it (RFC 3986, section 5.2.4); else it is an error.
     ///
     /// # Examples
     ///

@@ -106,8 +106,8 @@ fn resolved_text<B: Ri, Q: RefOf<B>>(
     )
 }
 
-/// The target of a reference against a base (RFC 3986, section 5.2). An error that the two texts
-/// alone decide comes before memory is asked for.
+/// Returns the target of a reference against a base (RFC 3986, section 5.2). An error that the two
+/// texts alone decide comes before any allocation.
 #[doc(hidden)]
 pub fn resolved<B: Ri, Q: RefOf<B>>(
     alloc: Global,
@@ -135,8 +135,8 @@ pub fn resolved<B: Ri, Q: RefOf<B>>(
     Ok(B::make_owned(target.text, target.positions))
 }
 
-/// The target of a reference against a base, where dot segments may underflow (RFC 3986, section
-/// 5.2). An error that the two texts alone decide comes before memory is asked for.
+/// Returns the target of a reference against a base, with dot segments allowed to underflow (RFC
+/// 3986, section 5.2). An error that the two texts alone decide comes before any allocation.
 #[doc(hidden)]
 pub fn resolved_against<B: Ri, Q: RefOf<B>>(
     alloc: Global,
@@ -175,8 +175,8 @@ impl<R: Ri> Resolver<R> {
         }
     }
 
-    /// The same with another say on whether dot segments may underflow: whether `/..` is removed
-    /// where no segment is before it (RFC 3986, section 5.2.4), in place of an error.
+    /// Returns the resolver with dot segments allowed to underflow, or not. If they may, `/..` is
+    /// removed where no segment is before it (RFC 3986, section 5.2.4); else it is an error.
     ///
     /// # Examples
     ///
@@ -192,8 +192,8 @@ impl<R: Ri> Resolver<R> {
         }
     }
 
-    /// The target of a reference against the base, by the strict algorithm of RFC 3986, section
-    /// 5.2, where it differs only in this:
+    /// Returns the target of a reference against the base, by the strict algorithm of RFC 3986,
+    /// section 5.2. The only differences are:
     ///
     /// - A base without an authority whose path doesn't begin with `/` takes only a reference that
     ///   has a scheme, is empty or begins with `#`.
@@ -214,7 +214,7 @@ impl<R: Ri> Resolver<R> {
     /// # Errors
     ///
     /// `BaseWithFragment` if the base has a fragment, and else `InvalidReferenceAgainstOpaqueBase`
-    /// if the base takes no such reference, both before memory is asked for; `PathUnderflow` if
+    /// if the base takes no such reference, both before any allocation; `PathUnderflow` if
     /// underflow is not allowed, and a double dot of a target path that begins with `/` has nothing
     /// left to remove; `OutOfMemory` if allocation fails.
     ///

@@ -153,8 +153,8 @@ pub trait RiMaybeRef {
 
 /// A kind whose `Owned` is of the kind as well.
 ///
-/// It is implemented for the four kinds alone. Generic code that goes on with what a call returns,
-/// as a normal form, asks for `R: WithOwned` and `R::Owned: RiMaybeRef`.
+/// It is implemented for the four kinds alone. Generic code that uses the returned value further,
+/// such as a normal form, needs `R: WithOwned` and `R::Owned: RiMaybeRef`.
 ///
 /// # Examples
 ///

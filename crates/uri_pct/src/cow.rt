@@ -48,11 +48,11 @@ impl<'a> CowStr<'a> {
         }
     }
 
-    /// The text as one of its own: a copy, where it is borrowed.
+    /// Returns the text as an owned one. If it is borrowed, it is copied.
     ///
     /// # Errors
     ///
-    /// Only if allocation fails for a copy. The borrowed text is where it was.
+    /// Only if allocation fails for a copy. The borrowed text remains.
     ///
     /// # Examples
     ///

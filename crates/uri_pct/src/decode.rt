@@ -21,14 +21,14 @@ use std::iter::FusedIterator;
 /// The parts of `a%20b` are the text `a`, the byte 20 (hexadecimal) and the text `b`.
 #[derive(Clone, Copy, Debug, PartialEq, Eq)]
 pub enum DecodedChunk<'a> {
-    /// A part without `%`, not empty and as long as can be.
+    /// A maximal part without `%`, not empty.
     Unencoded(&'a str),
     /// The value of a percent-encoded octet: 0x20 for `%20`.
     PctDecoded(u8),
 }
 
-/// What is left to decode of a text: an iterator of its parts, which returns `None` for ever once
-/// nothing is left.
+/// What is left to decode of a text: an iterator of its parts. After the last it always returns
+/// `None`.
 ///
 /// # Examples
 ///
@@ -40,7 +40,7 @@ pub struct Decode<'a> {
     pub ghost whole: { IsValidFor widest_set rest.now },
 }
 
-/// The byte offset of the first `%`, or the length where there is none.
+/// Returns the byte offset of the first `%`, or the length if there is none.
 #[doc(hidden)]
 pub fn unencoded_len(text: &str) -> usize
     ensures { result ≡ position_or_len (λ b. b == percent_sign) text.now }
@@ -82,7 +82,7 @@ impl<'a> Decode<'a> {
     ///
     /// # Errors
     ///
-    /// Only if allocation fails. Memory is asked for only where a `%` is left.
+    /// Only if allocation fails. Without a `%` left, nothing is allocated.
     ///
     /// # Examples
     ///

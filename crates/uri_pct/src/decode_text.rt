@@ -87,8 +87,8 @@ impl<'a> Decode<'a> {
     ///
     /// # Errors
     ///
-    /// `NotUtf8` with the bytes, exactly if they are not UTF-8; `OutOfMemory` if allocation fails,
-    /// which is asked for only where a `%` is left.
+    /// `NotUtf8` with the bytes, exactly if they are not UTF-8; `OutOfMemory` if allocation fails.
+    /// Without a `%` left, nothing is allocated.
     ///
     /// # Examples
     ///
@@ -125,7 +125,7 @@ impl<'a> Decode<'a> {
     ///
     /// # Errors
     ///
-    /// Only if allocation fails. Memory is asked for only where a `%` is left.
+    /// Only if allocation fails. Without a `%` left, nothing is allocated.
     ///
     /// # Examples
     ///

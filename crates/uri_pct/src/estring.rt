@@ -16,8 +16,8 @@ use std::fmt;
 use std::hash::{Hash, Hasher};
 use std::marker::PhantomData;
 
-/// A text of its own that is valid for `E`, as an `EStr<E>` is. It grows, and keeps the allocator
-/// that it was handed.
+/// An owned text that is valid for `E`, as an `EStr<E>` is. It can grow, with the allocator that it
+/// was made with.
 ///
 /// # Examples
 ///
@@ -65,7 +65,7 @@ impl<E: Encoder> EString<E> {
     ///
     /// # Examples
     ///
-    /// With room for 10 bytes, ten letters are appended and no memory is asked for again.
+    /// With room for 10 bytes, ten letters are appended without another allocation.
     pub fn with_capacity(alloc: Global, capacity: usize) -> Result<EString<E>, AllocError>
         ensures text { IfOk result (λ s. owned_text s ≡ []) }
         ensures capacity { IfOk result (λ s. capacity ≤ owned_capacity s) }

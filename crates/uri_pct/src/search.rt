@@ -19,7 +19,7 @@ pub fn places_of(byte: u8, bytes: &[u8], at: usize) -> u64
     lanes.simd_eq(u8x16::splat(byte)).to_bitmask()
 }
 
-/// Where the byte is first, from `start` on, or the end where it does not.
+/// Returns the position of the first such byte from `start` on, or the end if there is none.
 pub fn find_byte(byte: u8, bytes: &[u8], start: usize) -> usize
     requires { start ≤ length bytes.now }
     ensures { IsRun (λ b. not (b == byte)) bytes.now start result }

@@ -11,10 +11,10 @@ use crate::decode::{Decode, DecodedChunk};
 use crate::window::{Window, unfinished_len};
 use std::alloc::AllocError;
 
-/// What is made of a text as it is decoded: it takes the parts one after the other.
+/// Receives the parts of a text as it is decoded, one after the other.
 #[doc(hidden)]
 pub trait TakeParts {
-    /// From the one value to the other, these parts were taken.
+    /// These parts were taken between the first value and the second.
     ghost took: { Self → List Part → Self → Type 0 };
 
     /// Takes literal text.
@@ -41,7 +41,7 @@ pub trait TakeParts {
         → took s ps t → took t qs u → took s (ps ++ qs) u };
 }
 
-/// Hands over characters, where there are some.
+/// Passes characters to the taker, if there are any.
 fn take_text<T: TakeParts>(text: &str, taker: &mut T) -> Result<(), AllocError>
     requires { ArePastAscii text.now }
     ensures { OnOk result (T.took taker.old (map Read (utf8_pieces text.now)) taker.new) }
@@ -52,7 +52,7 @@ fn take_text<T: TakeParts>(text: &str, taker: &mut T) -> Result<(), AllocError>
     taker.take_well_formed(text)
 }
 
-/// Hands over the pieces of a text, and of the ill-formed part after it where there is one.
+/// Passes the pieces of a text to the taker, and the ill-formed part after it, if there is one.
 fn take_chunk<T: TakeParts>(text: &str, fault: &[u8], taker: &mut T) -> Result<(), AllocError>
     requires { ArePastAscii text.now }
     ensures { OnOk result
@@ -65,7 +65,7 @@ fn take_chunk<T: TakeParts>(text: &str, fault: &[u8], taker: &mut T) -> Result<(
     taker.take_ill_formed(fault)
 }
 
-/// Hands over the pieces of a run of octets, text by text and ill-formed part by part.
+/// Passes the pieces of a run of octets to the taker: each text, and each ill-formed part.
 fn take_chunks<T: TakeParts>(run: &[u8], taker: &mut T) -> Result<(), AllocError>
     requires { ArePastAscii run.now }
     ensures { OnOk result (T.took taker.old (map Read (utf8_pieces run.now)) taker.new) }
@@ -76,7 +76,7 @@ fn take_chunks<T: TakeParts>(run: &[u8], taker: &mut T) -> Result<(), AllocError
     Ok(())
 }
 
-/// Hands over the pieces of a run of octets, at once where it is text.
+/// Passes the pieces of a run of octets to the taker, in one call if the run is UTF-8.
 fn take_run<T: TakeParts>(run: &[u8], taker: &mut T) -> Result<(), AllocError>
     requires { ArePastAscii run.now }
     ensures { OnOk result (T.took taker.old (map Read (utf8_pieces run.now)) taker.new) }
@@ -87,8 +87,8 @@ fn take_run<T: TakeParts>(run: &[u8], taker: &mut T) -> Result<(), AllocError>
     }
 }
 
-/// Hands over what a full window holds, but for an unfinished character at its end: that it keeps,
-/// since what follows decides whether it is one.
+/// Passes what a full window holds to the taker, but for an unfinished character at its end. That
+/// stays in the window, since what follows decides whether it is a character.
 ///
 /// A function of its own, so that an octet which has room is put into the window without a call.
 #[inline(never)]
@@ -106,7 +106,7 @@ fn take_full<T: TakeParts>(window: &mut Window, taker: &mut T) -> Result<(), All
     Ok(())
 }
 
-/// Hands over what the window holds, and empties it.
+/// Passes what the window holds to the taker, and empties the window.
 fn take_held<T: TakeParts>(window: &mut Window, taker: &mut T) -> Result<(), AllocError>
     ensures emptied { OnOk result (held window.new ≡ []) }
     ensures taken { OnOk result
@@ -140,7 +140,7 @@ fn take_octet<T: TakeParts>(byte: u8, window: &mut Window, taker: &mut T) -> Res
 
 /// Takes a chunk: an octet, or text, which ends the run.
 ///
-/// Whatever takes the parts that are left from then on has taken those of the chunk too.
+/// If a taker then takes the remaining parts, it has taken those of the chunk too.
 fn take_decoded<T: TakeParts>(
     chunk: DecodedChunk<'_>,
     window: &mut Window,
@@ -162,7 +162,7 @@ fn take_decoded<T: TakeParts>(
 impl<'a> Decode<'a> {
     ghost use Rattle.uri_pct.specs.Decodes.{undecoded};
 
-    /// Hands over the parts of the text that is left, in order. An error is one of the taker.
+    /// Passes the remaining parts of the text to the taker, in order. Only the taker causes errors.
     #[doc(hidden)]
     pub fn take_parts<T: TakeParts>(self, taker: &mut T) -> Result<(), AllocError>
         ensures { OnOk result (T.took taker.old (parts (undecoded self.entry)) taker.new) }

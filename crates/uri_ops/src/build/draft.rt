@@ -21,7 +21,7 @@ use std::alloc::Global;
 use uri_parts::positions::Positions;
 use uri_pct::encoder::Encoder;
 
-/// How long each part is, where it is there, in bytes.
+/// The length of each part that is present, in bytes.
 #[doc(hidden)]
 #[derive(Clone, Copy)]
 pub struct Lengths {
@@ -32,8 +32,8 @@ pub struct Lengths {
     pub fragment: Option<usize>,
 }
 
-/// The text so far, with the lengths of its parts and the place of the host in the authority.
-/// Unless it is marked failed, it is that of its parts by RFC 3986, section 5.3.
+/// The text so far, with the lengths of its parts and the position of the host in the authority.
+/// Unless it is marked failed, it is the text of its parts by RFC 3986, section 5.3.
 #[derive(Drop)]
 pub struct Draft {
     pub text: String,
@@ -109,7 +109,7 @@ impl Draft {
         self.appended(scheme, ":", lengths, host)
     }
 
-    /// With an authority after its `//`, in which the host is at this place.
+    /// Appends an authority after its `//`, with the host at this position in it.
     #[inline(always)]
     pub fn with_authority(self, authority: &str, host: HostPlace) -> Draft
         requires { self.failed ≡ false → lacks_authority (draft_parts self) ≡ true }
@@ -274,7 +274,7 @@ impl Draft {
         )
     }
 
-    /// The bytes of the path, which is empty where there is none.
+    /// Returns the bytes of the path, or none if there is no path.
     fn path(&self) -> &[u8]
         requires whole { self.now.failed ≡ false }
         ensures { result.now ≡ unwrap_or (draft_parts self.now).path [] }

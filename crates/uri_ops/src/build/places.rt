@@ -31,7 +31,7 @@ pub(crate) fn host_place<U: Encoder, N: Encoder>(authority: Authority<'_, U, N>)
     }
 }
 
-/// The place after a part and its marks, where it is there, in their text.
+/// Returns the position after a part and its marks, if the part is present, in their text.
 #[inline(always)]
 fn behind(place: usize, marks: usize, part: Option<usize>, text: &str) -> usize
     requires { place + span marks part ≤ length text.now }

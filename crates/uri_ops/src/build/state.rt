@@ -23,7 +23,7 @@ pub trait State {
 
 /// A state of a builder of an `R`.
 ///
-/// Each state is one for every kind. Code over any state of a builder asks for it.
+/// Each state is one for every kind. Code over any state of a builder needs this bound.
 ///
 /// # Examples
 ///

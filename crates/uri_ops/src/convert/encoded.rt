@@ -44,7 +44,7 @@ fn past_ascii(bytes: &[u8]) -> usize
     count
 }
 
-/// Appends the bytes, one by one where there are few.
+/// Appends the bytes, one by one if they are few.
 #[inline(always)]
 fn push_run(bytes: &[u8], out: &mut Vec<u8>) -> Result<(), AllocError>
     ensures { OnOk result (out.new.items ≡ out.old.items ++ bytes.now) }
@@ -78,8 +78,8 @@ fn push_encoded(bytes: &[u8], out: &mut Vec<u8>) -> Result<(), AllocError>
     Ok(())
 }
 
-/// Appends what is between two places, as `push_encoded`, where what is before the first is
-/// written, and returns where it ends.
+/// Appends the bytes between two positions, as `push_encoded`, after those before the first.
+/// Returns the position of the end in `out`.
 fn push_between(
     bytes: &[u8],
     start: usize,
@@ -175,8 +175,8 @@ fn push_components(
 /// The text of a value with each character past ASCII as the octets of its UTF-8, and where its
 /// components are.
 ///
-/// Memory is asked for once, for as many bytes as it has. Where all characters are ASCII, the text
-/// is copied, with its positions.
+/// It allocates once, for as many bytes as it has. If all characters are ASCII, the text is copied,
+/// with its positions.
 #[doc(hidden)]
 pub fn encoded<R: RiMaybeRef>(alloc: Global, value: &R) -> Result<(String, Positions), AllocError>
     ensures text { IfOk result (λ made. string_bytes made.0 ≡ encoded_text (R.text value.now)) }

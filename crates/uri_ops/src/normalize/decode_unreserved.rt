@@ -72,7 +72,7 @@ fn encodes_formatting(table: &Table) -> bool
 /// Appends the parts of the text with their readable octets decoded, and with letters lowered if
 /// `lowers`.
 ///
-/// It is a function of its own, since most texts have no part that asks for a window.
+/// It is a function of its own, since most texts have no part that needs a window.
 #[inline(never)]
 fn push_parts(table: &Table, lowers: bool, text: &str, out: &mut String) -> Result<(), AllocError>
     requires { IsValidFor widest_set text.now }

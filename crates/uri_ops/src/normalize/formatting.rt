@@ -58,8 +58,8 @@ fn push_written(text: &str, out: &mut String) -> Result<(), AllocError>
     Ok(())
 }
 
-/// Writes the formatting characters of what is from `start` on as octets; where there is none,
-/// nothing is written.
+/// Writes the formatting characters from `start` on as octets. If there is none, nothing is
+/// written.
 ///
 /// After an error, what was in `out` from `start` on may be gone, wholly or in part.
 #[doc(hidden)]

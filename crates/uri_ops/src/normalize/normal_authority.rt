@@ -140,7 +140,8 @@ fn kept_port<'a, U: Encoder, R: Encoder>(
     }
 }
 
-/// The default port of the scheme, which is asked for only where there is a port that isn't empty.
+/// Returns the default port of the scheme. It calls `ports` only if there is a port that isn't
+/// empty.
 fn default_behind<U: Encoder, R: Encoder, P: DefaultPort>(
     authority: Authority<'_, U, R>,
     scheme: Option<Scheme<'_>>,

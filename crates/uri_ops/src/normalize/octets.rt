@@ -38,7 +38,7 @@ const LOWERED: &[u8; 128] = &[
     112, 113, 114, 115, 116, 117, 118, 119, 120, 121, 122, 128, 128, 128, 126, 128, // 70
 ];
 
-/// The codes of the unreserved characters, letters lowered where that is asked.
+/// Returns the codes of the unreserved characters, with letters lowered if `lowers`.
 #[inline(always)]
 fn codes(lowers: bool) -> &'static [u8; 128]
     ensures { result.now ≡ (if lowers then LOWERED.now else UNRESERVED.now) }
@@ -46,8 +46,8 @@ fn codes(lowers: bool) -> &'static [u8; 128]
     if lowers { LOWERED } else { UNRESERVED }
 }
 
-/// The code of the unreserved character of this value, if there is one, a letter lowered where that
-/// is asked.
+/// Returns the code of the unreserved character of this value, if there is one, with a letter
+/// lowered if `lowers`.
 #[inline(always)]
 fn unreserved(lowers: bool, value: u8) -> Option<u8>
     requires { value < 128 }
@@ -98,7 +98,7 @@ pub(crate) fn push_some(text: &str, out: &mut String) -> Result<(), AllocError>
     out.push_str(text)
 }
 
-/// Appends the text, with its letters lowered where that is asked. An empty one costs no call.
+/// Appends the text, with its letters lowered if `lowers`. An empty one costs no call.
 #[inline(always)]
 pub(crate) fn push_plain(lowers: bool, text: &str, out: &mut String) -> Result<(), AllocError>
     ensures { OnOk result (Pushes out.old out.new (cased_text lowers text.now)) }

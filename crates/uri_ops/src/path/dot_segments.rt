@@ -156,8 +156,8 @@ pub(crate) fn push_segments(
     Ok(underflowed)
 }
 
-/// Appends a path that begins with `/`, without its dot segments, and returns whether a double dot
-/// had nothing left to remove (RFC 3986, section 5.2.4). A dot counts percent-encoded too.
+/// Appends a path that begins with `/`, without its dot segments (RFC 3986, section 5.2.4). Returns
+/// whether a double dot had nothing left to remove. A percent-encoded dot counts as a dot.
 ///
 /// # Errors
 ///
@@ -225,8 +225,9 @@ fn parent(directory: &str) -> &str
     &directory[..slash + 1]
 }
 
-/// What is left of a directory where the dot segments that a reference begins with lead from it,
-/// what is left of the reference, and whether a double dot had nothing left to remove.
+/// Follows the dot segments that a reference begins with from a directory. Returns what is left of
+/// the directory, what is left of the reference, and whether a double dot had nothing left to
+/// remove.
 #[inline(always)]
 fn seam<'a>(directory: &'a str, reference: &'a str) -> (&'a str, &'a str, bool)
     requires { IsPlainDirectory directory.now }
@@ -251,7 +252,7 @@ fn seam<'a>(directory: &'a str, reference: &'a str) -> (&'a str, &'a str, bool)
     (kept, rest, underflowed)
 }
 
-/// Appends segments like `push_segments`, of which the first is none of dots.
+/// Appends segments like `push_segments`. The first is no dot segment.
 #[inline(always)]
 fn push_from_plain(path: &str, start: usize, out: &mut String) -> Result<bool, AllocError>
     requires directory { IsPlainDirectory (drop start (string_bytes out.old)) }

@@ -163,7 +163,7 @@ fn push_guarded(
     Ok(underflowed)
 }
 
-/// Appends the query of a text with its `?`, where it is present, and returns where it ends.
+/// Appends the query of a text with its `?`, if it is present, and returns where it ends.
 fn push_marked_query(source: &TextView<'_>, out: &mut String) -> Result<Option<usize>, AllocError>
     ensures text { OnOk result (Pushes out.old out.new
         (marked (codes "?") (components_of source.now).query [])) }
@@ -178,7 +178,7 @@ fn push_marked_query(source: &TextView<'_>, out: &mut String) -> Result<Option<u
     Ok(None)
 }
 
-/// Appends the fragment of a text with its `#`, where it is present.
+/// Appends the fragment of a text with its `#`, if it is present.
 fn push_marked_fragment(source: &TextView<'_>, out: &mut String) -> Result<(), AllocError>
     ensures { OnOk result (Pushes out.old out.new
         (marked (codes "#") (components_of source.now).fragment [])) }
@@ -348,8 +348,8 @@ fn plain_target(
     Ok(Target { text, positions })
 }
 
-/// The target's text, and where its components are. An error that the components alone decide comes
-/// before memory is asked for.
+/// Returns the target's text, and where its components are. An error that the components alone
+/// decide comes before any allocation.
 pub(crate) fn target_text(
     alloc: Global,
     base: &TextView<'_>,
