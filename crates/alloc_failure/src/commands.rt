@@ -9,7 +9,7 @@ use uri_commands::run::run;
 
 const OUT_OF_MEMORY: &str = "error: out of memory\n";
 
-/// Holds what it takes to what it has to get, and asks for no memory.
+/// Compares what it takes with the expected text, and does not allocate.
 #[derive(Drop)]
 struct Awaits<'a> {
     rest: &'a [u8],

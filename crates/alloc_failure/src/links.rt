@@ -23,7 +23,7 @@ fn reference<'a, R: Abort>(rt: &R, text: &'a str) -> UriRef<&'a str> {
     UriRef::<&str>::parse(text).expect(rt, text)
 }
 
-/// Notes a reference, whose outcome this has to be, where the register has these targets.
+/// Notes a reference, and checks the outcome. Before it the register has the targets `held`.
 fn notes<R: Abort + Print, P: DefaultPort>(
     rt: &R,
     register: &mut Register<P>,

@@ -18,7 +18,7 @@ pub enum Refusal {
     /// The reference has no target against the base.
     #[error("{0}")]
     Target(ResolveError),
-    /// The text is no query (RFC 3986, section 3.4).
+    /// The text is not a query (RFC 3986, section 3.4).
     #[error("no query")]
     Query,
     /// Allocation failed.

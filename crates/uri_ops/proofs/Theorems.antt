@@ -16,11 +16,11 @@ use Rattle.uri_ops.proofs.Normal.NormalTexts.{normal_text-normal_text, same_norm
 use Rattle.uri_ops.proofs.Targeting.Targets.{target_is_split, target_components}
 -- The target of a reference against a base of a kind is a text of that kind: RFC 3986, section 5.2.
 pub use Rattle.uri_ops.proofs.Targeting.TargetTexts.{target_is_text}
--- The meanings of a base and a reference decide the meaning of the target, so resolving and
--- normalising swap: RFC 3986, sections 5.2 and 6.2.2.
+-- Resolution respects equivalence, so resolving and normalising swap: RFC 3986, sections 5.2 and
+-- 6.2.2.
 pub use Rattle.uri_ops.proofs.Targeting.Swaps.{resolved_alike, resolved_normal_texts}
 -- A text with its characters past ASCII as octets is of the kind of URIs that goes with its kind,
--- and means what the text means: RFC 3987, section 3.1.
+-- and is equivalent to the text: RFC 3987, section 3.1.
 pub use Rattle.uri_ops.proofs.AsciiForms.EncodedMeanings.{encoded_is_text, meaning_of-encoded}
 -- If a base and a reference change so, the target changes so, and underflows in the same cases.
 pub use Rattle.uri_ops.proofs.AsciiForms.EncodedTargets.{resolution_encoded}

@@ -27,7 +27,7 @@ pub record HasMeaningOf (kind : Kind) (ports : PortFunction) (text other : List 
   pub of_kind : IsTextOf kind other
   pub meaning : meaning_of kind ports other ≡ meaning_of kind ports text
 
--- there is a target, and it means what this text means
+-- there is a target, and it is equivalent to this text
 abbrev pub HasTargetMeaning : Kind → PortFunction → List ℕ → List ℕ → List ℕ → Type 0
 HasTargetMeaning kind ports base reference text =
     (target : List ℕ)

@@ -25,7 +25,7 @@ pub fn same_when_normalised_twice(alloc: Global, given: Iri<&str>) -> Result<boo
     Ok(normal.normalize(alloc)? == normal)
 }
 
-/// A text of any kind with sets such as those of the four kinds means what its normal text means.
+/// A text of any kind with sets such as those of the four kinds is equivalent to its normal text.
 pub fn normal_text_means_the_same(text: &str)
     ensures { (kind : Kind) (ports : PortFunction) → HasComponentSets kind
         → IsTextOf kind text.now

@@ -1,5 +1,5 @@
--- A text without characters past ASCII is of the kind of URIs that goes with its kind, and means
--- what the text means.
+-- A text without characters past ASCII is of the kind of URIs that goes with its kind. It is
+-- equivalent to the text that it was made from.
 use Rattle.std.proofs.Common.{◌≡◌, ℕ, true, false, eqb, ltb, not, List, refl, sym, ap, subst, ◌∙◌}
 use Rattle.std.proofs.Common.{◌&&◌, ◌||◌, option_map}
 use Rattle.std.specs.Prelude.{codes, Option, Some, None, IfSome, is_some, slice_index}

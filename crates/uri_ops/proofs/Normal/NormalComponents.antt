@@ -266,7 +266,7 @@ module _ (kind : Kind) (sets : HasComponentSets kind) (keeps : KeepsAuthorities 
             split.no_authority;
       }
 
-  -- and mean what they were printed from
+  -- and are equivalent to the components that they were made from
   pub normal_meaning : (p : Components) → AreParts kind p
       → components_meaning kind ports (normal_of p) ≡ components_meaning kind ports p
   normal_meaning p parts =

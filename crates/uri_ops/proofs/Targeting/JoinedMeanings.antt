@@ -57,7 +57,7 @@ with_scheme P each c h = some c.scheme h
 
 module _ (set : TableSet) (w : IsComponentSet (codes "?#[]") set)
     (slash : set.ascii 47 ≡ true) where
-  -- a path decodes to the same if its dot segments are removed before or after
+  -- dot segments may be removed from a path or from its decoded form
   read_cleaned : (path : List ℕ) → is_part set path ≡ true
       → read set (cleaned_path (print (read set path))) ≡ read set (cleaned_path path)
   unfolding reprinted

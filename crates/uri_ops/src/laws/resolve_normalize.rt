@@ -26,7 +26,7 @@ pub fn targets_are_texts()
 ///
 /// # Examples
 ///
-/// `%67` against `HTTP://a/b` means what `g` against `http://a/b` means: `http://a/g`.
+/// `%67` against `HTTP://a/b` is equivalent to `g` against `http://a/b`: `http://a/g`.
 pub fn resolving_and_normalising_swap()
     ensures alike { (kind : Kind) (ports : PortFunction) (b c r s : List ℕ) → HasComponentSets kind
         → kind.needs_scheme ≡ true → IsTextOf kind b → IsTextOf kind c

@@ -244,7 +244,7 @@ read_tokens-encode_formatting set before (Char c ∷ ts) =
     ∙ next)
     (cases_Bool (is_never_literal set c))
 
--- the octets of a readable character mean what it means
+-- the octets of a readable character, printed, decode as the character does
 pub read-print_encoded : (set : TableSet) (before : List Token) (c : ℕ) (behind : List Token)
     → IsScalar c → is_readable set c ≡ true
     → list_all is_printable (before ++ Char c ∷ behind) ≡ true

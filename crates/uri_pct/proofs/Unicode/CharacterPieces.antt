@@ -175,7 +175,7 @@ char_1 b high rest bytes e =
 high_scalar : (c : ℕ) → 0xE000 ≤ c → c < 0x110000 → IsScalar c
 high_scalar c low high = grind (arith, nat_tests)
 
--- the code point that the bytes encode: the marks of the bytes, added up
+-- the bytes encode c if their value, without their marks, is c
 encode_from_2 : (b t c : ℕ) → c + 12416 ≡ b * 64 + t → 0xC2 ≤ b → b ≤ 0xDF → 0x80 ≤ t → t ≤ 0xBF
     → encode_utf8 c ≡ b ∷ t ∷ []
 encode_from_2 b t c e l h l1 h1 =
