@@ -19,8 +19,8 @@ pub use Rattle.uri_ops.proofs.Targeting.TargetTexts.{target_is_text}
 -- Resolution respects equivalence, so resolving and normalising swap: RFC 3986, sections 5.2 and
 -- 6.2.2.
 pub use Rattle.uri_ops.proofs.Targeting.Swaps.{resolved_alike, resolved_normal_texts}
--- A text with its characters past ASCII as octets is of the kind of URIs that goes with its kind,
--- and is equivalent to the text: RFC 3987, section 3.1.
+-- A text with its characters past ASCII as octets is of the kind of URIs that goes with its kind.
+-- It is equivalent to the text: RFC 3987, section 3.1.
 pub use Rattle.uri_ops.proofs.AsciiForms.EncodedMeanings.{encoded_is_text, meaning_of-encoded}
 -- If a base and a reference change so, the target changes so, and underflows in the same cases.
 pub use Rattle.uri_ops.proofs.AsciiForms.EncodedTargets.{resolution_encoded}

@@ -25,8 +25,9 @@ pub fn texts_of_wider_kinds()
     ensures reference { IsWithin uri uri_ref × IsWithin iri iri_ref }
 {}
 
-/// If the characters past ASCII of a text of a kind of IRIs become octets, it is a text of the kind
-/// of URIs that goes with it (RFC 3987, section 3.1). As an IRI it is equivalent to the text.
+/// `encoded_text` turns a text of a kind of IRIs into one of the kind of URIs that goes with it
+/// (RFC 3987, section 3.1). Its characters past ASCII become octets. As an IRI it is equivalent to
+/// the text.
 ///
 /// # Examples
 ///
@@ -43,8 +44,9 @@ pub fn encoded_texts_mean_the_same()
         → meaning_of kind ports (encoded_text text) ≡ meaning_of kind ports text }
 {}
 
-/// If the characters past ASCII of a base and a reference become octets, resolution gives the same
-/// error, or the target with its characters past ASCII as octets. It underflows in the same cases.
+/// If `encoded_text` turns the characters past ASCII of a base and a reference into octets, the
+/// target changes in the same way. An error stays the same error. The target underflows in the same
+/// cases.
 ///
 /// # Examples
 ///

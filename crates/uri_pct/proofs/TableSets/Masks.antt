@@ -79,8 +79,8 @@ bit_read_is words b third fourth h =
     (cases_lt b 128))
     (cases_lt b 64)
 
--- `has_bit` of two words is a test of characters if the bits of `low` agree with it below 64, those
--- of `high` below 128, and it fails from 128 on
+-- The bits of two words are a test of characters if those of `low` agree with it below 64, and
+-- those of `high` below 128. From 128 on the test fails.
 has_bit_by : (low high : ℕ) (f : ℕ → Bool) → ((c : ℕ) → c < 64 → eqb (bit_at low c) 1 ≡ f c)
     → ((c : ℕ) → 64 ≤ c → c < 128 → eqb (bit_at high (c - 64)) 1 ≡ f c)
     → ((c : ℕ) → 128 ≤ c → f c ≡ false) → (c : ℕ) → has_bit low high c ≡ f c
