@@ -1,6 +1,5 @@
 //! Builders: a step whose allocation fails marks the builder, which keeps its mark until `build`.
 use crate::requests::{answers, end, tell};
-use test_support::equal;
 use fluent_uri::build::state::FragmentEnd;
 use fluent_uri::build::{BuildError, Builder};
 use fluent_uri::component::Scheme;
@@ -9,6 +8,7 @@ use fluent_uri::pct_enc::EStr;
 use fluent_uri::pct_enc::encoder::{Encoder, IRegName, Port, RegName, Userinfo};
 use fluent_uri::{Iri, IriRef, RiMaybeRef, Uri, UriRef};
 use std::process::Abort;
+use test_support::equal;
 
 // Each is longer than the free room after those before it.
 const NAME: &str = "01234567";

@@ -1,10 +1,10 @@
 //! `run` of `uritool`: if an allocation fails it says so and prints nothing; else it prints what it
 //! always does.
 use crate::requests::{end, tell, tried};
-use test_support::equal;
 use std::alloc::Global;
 use std::io::{self, Write};
 use std::process::Abort;
+use test_support::equal;
 use uri_commands::run::run;
 
 const OUT_OF_MEMORY: &str = "error: out of memory\n";

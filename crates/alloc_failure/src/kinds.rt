@@ -1,6 +1,5 @@
 //! The four kinds: copies, fragments, normal forms and conversions, and where to connect.
 use crate::requests::{end, tell, tried};
-use test_support::equal;
 use fluent_uri::component::SocketTarget;
 use fluent_uri::normalize::Normalizer;
 use fluent_uri::pct_enc::EStr;
@@ -8,6 +7,7 @@ use fluent_uri::pct_enc::encoder::{Encoder, Fragment, IFragment};
 use fluent_uri::{Iri, IriRef, Uri, UriRef};
 use std::alloc::AllocError;
 use std::process::Abort;
+use test_support::equal;
 
 /// Longer than what any text here has room for.
 const FRAGMENT: &str = "0123456789012345678901234567890123456789";

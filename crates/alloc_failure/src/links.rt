@@ -1,10 +1,10 @@
 //! A register of links, which a failed allocation leaves as it was.
 use crate::requests::{end, tell};
-use test_support::equal;
 use fluent_uri::normalize::{DefaultPort, Normalizer};
 use fluent_uri::{Uri, UriRef};
 use std::alloc::AllocError;
 use std::process::Abort;
+use test_support::equal;
 use uri_links::links::{Outcome, Register};
 
 fn has_targets<R: Abort, P: DefaultPort>(rt: &R, register: &Register<P>, targets: &[&str]) {

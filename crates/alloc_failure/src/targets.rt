@@ -1,9 +1,9 @@
 //! Targets of references against a base.
 use crate::requests::{end, tried};
-use test_support::equal;
 use fluent_uri::normalize::Normalizer;
 use fluent_uri::resolve::Resolver;
 use fluent_uri::{Iri, IriRef, Uri, UriRef};
+use test_support::equal;
 
 #[test]
 fn targets_of_uri_references(rt: HostRuntime) {

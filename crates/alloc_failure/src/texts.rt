@@ -1,10 +1,10 @@
 //! Texts that are percent-encoded: what grows one, and what decodes it.
 use crate::requests::{answers, end, tell, tried};
-use test_support::equal;
 use fluent_uri::pct_enc::encoder::{Data, Path};
 use fluent_uri::pct_enc::{CowSlice, CowStr, DecodeError, EStr, EString};
 use std::alloc::AllocError;
 use std::process::Abort;
+use test_support::equal;
 
 fn path<'a, R: Abort>(rt: &R, text: &'a str) -> EStr<'a, Path> {
     EStr::new(text).expect(rt, text)

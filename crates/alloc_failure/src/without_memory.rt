@@ -1,6 +1,5 @@
 //! Calls that do not allocate, so that none of them meets a failed allocation.
 use crate::requests::end;
-use test_support::equal;
 use fluent_uri::build::Builder;
 use fluent_uri::build::state::FragmentEnd;
 use fluent_uri::component::{Authority, Scheme, SocketError, SocketTarget};
@@ -10,6 +9,7 @@ use fluent_uri::pct_enc::{CowStr, EStr, EString};
 use fluent_uri::resolve::{ResolveError, Resolver};
 use fluent_uri::{ConvertError, Iri, IriRef, Uri, UriRef};
 use std::process::Abort;
+use test_support::equal;
 use uri_links::links::{Outcome, Register};
 
 const TEXT: &str = "s://u@h:1/a/b?q#f";

@@ -1,7 +1,6 @@
 //! More calls that make no request for memory: tests of presence, hosts and ports, texts of an
 //! encoder, tables, addresses, and the setters.
 use crate::requests::end;
-use test_support::equal;
 use fluent_uri::component::{HostOf, Scheme};
 use fluent_uri::net::{IpAddr, Ipv4Addr, Ipv6Addr};
 use fluent_uri::normalize::{DefaultPort, Normalizer, SchemeDefaults};
@@ -9,6 +8,7 @@ use fluent_uri::pct_enc::encoder::{Encoder, Path, Query};
 use fluent_uri::pct_enc::{EStr, EString, Table, table};
 use fluent_uri::resolve::Resolver;
 use fluent_uri::{Iri, IriRef, Uri, UriRef};
+use test_support::equal;
 
 const TEXT: &str = "s://u@h:1/a/b?q#f";
 

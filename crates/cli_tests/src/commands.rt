@@ -1,11 +1,11 @@
 //! What `uritool` prints for given words, and the status that it ends with.
 use crate::writers::{Slow, Takes};
-use test_support::{equal, prints};
 use fluent_uri::UriRef;
 use fluent_uri::resolve::ResolveError;
 use std::alloc::{AllocError, Global};
 use std::io::Write;
 use std::process::Abort;
+use test_support::{equal, prints};
 use uri_commands::refusal::Refusal;
 use uri_commands::run::run;
 

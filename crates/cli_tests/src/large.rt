@@ -1,6 +1,6 @@
 //! What `uritool` prints for texts of 10 MB.
-use test_support::equal;
 use std::alloc::{AllocError, Global};
+use test_support::equal;
 use uri_commands::run::run;
 
 const LENGTH: usize = 10_000_000;

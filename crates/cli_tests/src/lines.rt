@@ -7,12 +7,12 @@ use cookbook::segments::{PathError, path_of};
 use cookbook::service::resource;
 use cookbook::task::Task;
 use cookbook::visits::count_visit;
-use test_support::{equal, prints};
 use fluent_uri::Uri;
 use fluent_uri::component::SocketTarget;
 use std::alloc::{AllocError, Global};
 use std::collections::BTreeMap;
 use std::process::Abort;
+use test_support::{equal, prints};
 
 fn owned(alloc: Global, words: &[&str]) -> Result<Vec<String>, AllocError> {
     let mut owned = Vec::new(alloc);

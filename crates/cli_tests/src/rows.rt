@@ -1,9 +1,9 @@
 //! What `vectors` prints for rows that hold, for rows that differ and for malformed rows, and the
 //! status that it ends with.
 use crate::writers::Takes;
-use test_support::equal;
 use std::alloc::Global;
 use std::process::Abort;
+use test_support::equal;
 use test_vectors::run::run;
 use test_vectors::{Row, push_rows};
 

@@ -1,9 +1,9 @@
 //! How addresses are ordered, which of std they are, and how authorities print.
-use test_support::{equal, prints};
 use fluent_uri::UriRef;
 use fluent_uri::component::HostOf;
 use fluent_uri::net::{IpAddr, Ipv4Addr, Ipv6Addr};
 use std::net;
+use test_support::{equal, prints};
 
 #[test]
 fn addresses_are_ordered_by_their_numbers(rt: HostRuntime) {

@@ -1,5 +1,4 @@
 //! What is built of parts, and which parts are rejected (RFC 3986, section 5.3).
-use test_support::equal;
 use fluent_uri::build::state::FragmentEnd;
 use fluent_uri::build::{BuildError, Builder};
 use fluent_uri::component::{Authority, Host, Scheme};
@@ -8,6 +7,7 @@ use fluent_uri::pct_enc::EStr;
 use fluent_uri::pct_enc::encoder::{Encoder, IRegName, Port, RegName, Userinfo};
 use fluent_uri::{Iri, IriRef, RiMaybeRef, Uri, UriRef};
 use std::process::Abort;
+use test_support::equal;
 
 fn part<'a, R: Abort, E: Encoder>(rt: &R, text: &'a str) -> EStr<'a, E> {
     EStr::new(text).expect(rt, text)

@@ -1,13 +1,13 @@
 //! Texts that an encoder allows, what they decode to, and what is cut from them (RFC 3986, section
 //! 2.1).
 use crate::owned_encoding::{Nothing, Octets, Private, valid};
-use test_support::{equal, prints};
 use fluent_uri::UriRef;
 use fluent_uri::pct_enc::DecodedChunk::{PctDecoded, Unencoded};
 use fluent_uri::pct_enc::encoder::{Encoder, Path, Query};
 use fluent_uri::pct_enc::{CowStr, DecodedChunk, EStr};
 use std::alloc::Global;
 use std::process::Abort;
+use test_support::{equal, prints};
 
 /// Whether the value of the text, if there is one, is as the text.
 fn keeps<E: Encoder>(text: &str) -> Option<bool> {

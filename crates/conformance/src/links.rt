@@ -1,10 +1,10 @@
 //! Links that are registered by the normal forms of their targets.
-use test_support::equal;
 use fluent_uri::normalize::{DefaultPort, Normalizer};
 use fluent_uri::resolve::ResolveError;
 use fluent_uri::{Uri, UriRef};
 use std::alloc::AllocError;
 use std::process::Abort;
+use test_support::equal;
 use uri_links::links::{Outcome, Register};
 
 /// References in order, with their outcomes, and the targets that a register then has.

@@ -1,5 +1,4 @@
 //! The messages of errors. The expected texts are those of `docs/PARSE_ERRORS.md`.
-use test_support::prints;
 use fluent_uri::ConvertError;
 use fluent_uri::build::BuildError;
 use fluent_uri::component::SocketError;
@@ -9,6 +8,7 @@ use fluent_uri::resolve::ResolveError;
 use std::alloc::Global;
 use std::fmt::Display;
 use std::process::Abort;
+use test_support::prints;
 
 fn print<R: Abort, E: Display>(rt: &R, alloc: Global, messages: &[(E, &str)]) {
     for (error, message) in messages {

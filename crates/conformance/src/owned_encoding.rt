@@ -2,11 +2,11 @@
 ghost use Rattle.std.specs.Prelude.{◌≡◌, ◌∷◌, [], refl, true};
 ghost use Rattle.fluent_uri.specs.Sets.{plain, difference, is_one_of, path_set};
 
-use test_support::{equal, prints};
 use fluent_uri::pct_enc::encoder::{Data, Encoder, IData, Path, Query};
 use fluent_uri::pct_enc::{EStr, EString, Table, table};
 use std::cmp::Ordering;
 use std::process::Abort;
+use test_support::{equal, prints};
 
 /// No character and no octet.
 pub(crate) struct Nothing;

@@ -1,7 +1,7 @@
 //! Tables that are combined.
-use test_support::equal;
 use fluent_uri::pct_enc::Table;
 use std::process::Abort;
+use test_support::equal;
 
 /// The table has these characters, and no others up to 127, nor `é`.
 fn has_characters<R: Abort>(rt: &R, table: &Table, characters: &str) {

@@ -1,12 +1,12 @@
 //! Values of a text: made by `TryFrom`, resolved by their own calls, and with one fragment after
 //! another; what outlives them, and what a scheme prints.
-use test_support::{equal, prints};
 use fluent_uri::component::Scheme;
 use fluent_uri::pct_enc::EStr;
 use fluent_uri::pct_enc::encoder::{Encoder, Fragment};
 use fluent_uri::resolve::ResolveError;
 use fluent_uri::{Iri, IriRef, RiMaybeRef, Uri, UriRef};
 use std::process::Abort;
+use test_support::{equal, prints};
 
 #[test]
 fn converts_from_text(rt: HostRuntime) {

@@ -1,9 +1,9 @@
 //! The tests.
-use test_support::equal;
 use fluent_uri::Uri;
 use std::alloc::{AllocError, Global};
 use std::io::{self, BufReader, ErrorKind, Read, Write};
 use std::process::Abort;
+use test_support::equal;
 use uri_streams::command::{Base, Command, KindName};
 use uri_streams::failure::Failure;
 use uri_streams::job::{Job, OnError};
