@@ -4,9 +4,9 @@
  *
  * TEXTS are a pointer and a length in bytes of UTF-8, and need no NUL at their end.
  *
- * RESULTS are written into the caller's buffer OUT of OUT_LEN bytes, with no NUL behind them, as
+ * RESULTS are written into the caller's buffer OUT of OUT_LEN bytes, with no NUL after them, as
  * snprintf does it: outcome->length is the length of the whole result. If it is at most OUT_LEN, OUT
- * begins with the result, and no byte behind it has changed. Else OUT is as it was, and the caller
+ * begins with the result, and no byte after it has changed. Else OUT is as it was, and the caller
  * calls again with a buffer of outcome->length bytes. So nothing is freed across the border.
  *
  * ERRORS. Each call returns 0, or the number of an error, which is in the outcome too. OUT is then
@@ -20,7 +20,7 @@
  * It raises no signal, prints nothing and never exits.
  *
  * PROCESSORS. The library is compiled for x86-64-v2 (SSE4.2; since 2009). On an older processor
- * glibc refuses to load it, with the message `CPU ISA level is lower than required`.
+ * glibc does not load it, and reports `CPU ISA level is lower than required`.
  */
 #ifndef FLUENT_URI_H
 #define FLUENT_URI_H
@@ -48,13 +48,13 @@ enum fluent_uri_error {
     FLUENT_URI_OK = 0,
     FLUENT_URI_INVALID_PCT_ENCODED_OCTET = 1, /**< index: of the `%` */
     FLUENT_URI_UNEXPECTED_CHAR = 2,           /**< index: of the character, or the text's end */
-    FLUENT_URI_INVALID_IPV6_ADDR = 3,         /**< index: of the byte behind the `[` */
+    FLUENT_URI_INVALID_IPV6_ADDR = 3,         /**< index: of the byte after the `[` */
     FLUENT_URI_NOT_UTF8 = 4,                  /**< index: of the first byte that is not UTF-8 */
     FLUENT_URI_BASE_WITH_FRAGMENT = 5,
     FLUENT_URI_INVALID_REFERENCE_AGAINST_OPAQUE_BASE = 6,
     FLUENT_URI_PATH_UNDERFLOW = 7,            /**< reserved: no call returns it */
     FLUENT_URI_OUT_OF_MEMORY = 8,
-    FLUENT_URI_INVALID_ARGUMENT = 9,          /**< no such kind or component, or bad offsets */
+    FLUENT_URI_INVALID_ARGUMENT = 9,          /**< no such kind or component; bad offsets */
     FLUENT_URI_FULL = 10                      /**< a batch: an output is too small */
 };
 
@@ -85,15 +85,15 @@ typedef struct {
     size_t start, end;
 } fluent_uri_span;
 
-/** Where the components of a text lie, or why it is rejected. */
+/** Where the components of a text are, or why it is rejected. */
 typedef struct {
     uint32_t error;     /**< 0, or why the text is rejected; then every component is absent */
     uint32_t host_kind; /**< enum fluent_uri_host_kind */
-    size_t index;       /**< where the error is */
+    size_t index;       /**< where the error is; 0 where there is none */
     fluent_uri_span scheme, authority, userinfo, host, port, path, query, fragment;
 } fluent_uri_parts;
 
-/** What a call tells. */
+/** What a call reports. */
 typedef struct {
     uint32_t error;
     uint32_t which; /**< the text that is rejected: 0 the first, or the base; 1 the reference */
@@ -101,7 +101,7 @@ typedef struct {
     size_t length;  /**< how long the result is; of a batch: how long the results so far are */
 } fluent_uri_outcome;
 
-/** Parses a text, and tells where its components lie. Takes no memory. */
+/** Parses a text, and reports where its components are. Takes no memory. */
 uint32_t fluent_uri_parse(uint32_t kind, const uint8_t *text, size_t text_len,
                           fluent_uri_parts *parts);
 
@@ -140,19 +140,22 @@ uint32_t fluent_uri_encode(uint32_t component, const uint8_t *bytes, size_t byte
  * these: those of `utf8` are of 32 bits, those of `large_utf8` of 64, as the calls with `64` take
  * them. A column of results needs N + 1 offsets and (N + 7) / 8 bytes of VALID, of which bit i is 1
  * where the text i has a result; other bits stay. A text that is rejected has an empty result and
- * bit 0: fluent_uri_parse tells why.
+ * bit 0: fluent_uri_parse reports why.
  *
- * Where a call ends early, outcome->index texts are done, as after a call with these alone, and
- * outcome->length is the length of their results:
+ * A call returns 0 if all N texts are done. It returns FLUENT_URI_INVALID_ARGUMENT if there is no
+ * such kind or component, and else FLUENT_URI_FULL if there are not N + 1 offsets for the results,
+ * or not (N + 7) / 8 bytes of VALID. Then no text is done, and no output has changed.
  *
- * FLUENT_URI_FULL: the result of the text outcome->index does not fit OUT, or its end an offset.
- * The caller goes on with that text, in a second column. Where there are not N + 1 offsets, or not
- * (N + 7) / 8 bytes of VALID, none is done and nothing is written.
+ * Else the texts are done one by one. Where a call ends early, outcome->index texts are done, as
+ * after a call with these alone, and outcome->length is the length of their results. The caller can
+ * go on with the text outcome->index, in a second column. The number says what is wrong with it:
  *
- * FLUENT_URI_INVALID_ARGUMENT: the offsets fall at the text outcome->index, or lie outside DATA; or
- * there is no such kind or component.
+ * FLUENT_URI_FULL: its result does not fit what is left of OUT, or ends at a number that is no
+ * offset of that width.
  *
- * FLUENT_URI_OUT_OF_MEMORY: memory was refused at the text outcome->index.
+ * FLUENT_URI_INVALID_ARGUMENT: it is not within DATA, since its offsets fall or are past the end.
+ *
+ * FLUENT_URI_OUT_OF_MEMORY: malloc or realloc failed. Calls that take no memory do not return it.
  */
 uint32_t fluent_uri_normalize_batch(uint32_t kind, const uint8_t *data, size_t data_len,
                                     const uint32_t *offsets, size_t offsets_len, uint8_t *out,
@@ -211,15 +214,19 @@ uint32_t fluent_uri_component_batch(uint32_t kind, uint32_t component, const uin
                                     size_t out_offsets_len, uint8_t *valid, size_t valid_len,
                                     fluent_uri_outcome *outcome);
 
-/** Parses each text; parts[i].error tells why one is rejected. Takes no memory. */
+/** Parses each text; parts[i].error says why one is rejected. Takes no memory. Returns
+ * FLUENT_URI_FULL if there are not N parts; then no text is done, and no parts have changed. */
 uint32_t fluent_uri_parse_batch(uint32_t kind, const uint8_t *data, size_t data_len,
                                 const uint32_t *offsets, size_t offsets_len,
                                 fluent_uri_parts *parts, size_t parts_len,
                                 fluent_uri_outcome *outcome);
 
-/** Writes the normal form of each line, with a newline behind each. The line of a text that is
- * rejected is empty, and errors[i] is the number of its error. N lines have N - 1 newlines between
- * them. */
+/** Writes the normal form of each line, with a newline after each. What is between newlines is a
+ * line, so N - 1 newlines part N lines. The line of a text that is rejected is empty, and errors[i]
+ * is the number of its error; else errors[i] is 0. Where the call ends early, outcome->index lines
+ * are done, and the caller can go on with the next: FLUENT_URI_FULL if what is written for it does
+ * not fit what is left of OUT, or there is no errors[i] for it; FLUENT_URI_OUT_OF_MEMORY if malloc
+ * or realloc failed. FLUENT_URI_INVALID_ARGUMENT: there is no such kind, and nothing is written. */
 uint32_t fluent_uri_normalize_lines(uint32_t kind, const uint8_t *lines, size_t lines_len,
                                     uint8_t *out, size_t out_len, uint8_t *errors,
                                     size_t errors_len, fluent_uri_outcome *outcome);

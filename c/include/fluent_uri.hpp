@@ -1,7 +1,7 @@
 /**
  * @file fluent_uri.hpp
  * The calls of fluent_uri.h on std::string_view, with results as std::string. C++17. Nothing throws
- * but std::bad_alloc, where memory is refused.
+ * but std::bad_alloc, where malloc fails.
  */
 #ifndef FLUENT_URI_HPP
 #define FLUENT_URI_HPP
@@ -18,7 +18,8 @@
 
 namespace fluent_uri {
 
-/** Why a text is rejected: an error of fluent_uri.h, in which text (1: the reference), and where. */
+/** Why a text is rejected: an error of fluent_uri.h, in which text (1: the reference), and at
+ * which byte. */
 struct rejection {
     std::uint32_t error;
     std::uint32_t which;
@@ -41,16 +42,16 @@ inline const std::uint8_t *bytes(std::string_view text) noexcept {
     return reinterpret_cast<const std::uint8_t *>(text.data());
 }
 
-/** Makes a call twice at most: the first tells how long the result is, or has it. */
+/** Makes a call twice at most: the first has the result, or reports how long it is. */
 template <typename Call> result make(std::size_t room, Call call) {
     std::string made(room, '\0');
     for (;;) {
-        fluent_uri_outcome told;
+        fluent_uri_outcome outcome;
         auto *out = reinterpret_cast<std::uint8_t *>(made.data());
-        if (call(out, made.size(), &told) == FLUENT_URI_OUT_OF_MEMORY) throw std::bad_alloc();
-        if (told.error) return {std::nullopt, {told.error, told.which, told.index}};
-        bool fits = told.length <= made.size();
-        made.resize(told.length);
+        if (call(out, made.size(), &outcome) == FLUENT_URI_OUT_OF_MEMORY) throw std::bad_alloc();
+        if (outcome.error) return {std::nullopt, {outcome.error, outcome.which, outcome.index}};
+        bool fits = outcome.length <= made.size();
+        made.resize(outcome.length);
         if (fits) return {std::move(made), {0, 0, 0}};
     }
 }
@@ -61,22 +62,22 @@ template <typename Call> result make(std::size_t room, Call call) {
 class parts {
   public:
     parts(std::uint32_t kind, std::string_view text) noexcept : text_(text) {
-        fluent_uri_parse(kind, detail::bytes(text), text.size(), &told_);
+        fluent_uri_parse(kind, detail::bytes(text), text.size(), &parts_);
     }
 
-    explicit operator bool() const noexcept { return told_.error == 0; }
-    rejection why() const noexcept { return {told_.error, 0, told_.index}; }
-    std::uint32_t host_kind() const noexcept { return told_.host_kind; }
+    explicit operator bool() const noexcept { return parts_.error == 0; }
+    rejection why() const noexcept { return {parts_.error, 0, parts_.index}; }
+    std::uint32_t host_kind() const noexcept { return parts_.host_kind; }
 
     using component = std::optional<std::string_view>;
-    component scheme() const noexcept { return at(told_.scheme); }
-    component authority() const noexcept { return at(told_.authority); }
-    component userinfo() const noexcept { return at(told_.userinfo); }
-    component host() const noexcept { return at(told_.host); }
-    component port() const noexcept { return at(told_.port); }
-    component path() const noexcept { return at(told_.path); }
-    component query() const noexcept { return at(told_.query); }
-    component fragment() const noexcept { return at(told_.fragment); }
+    component scheme() const noexcept { return at(parts_.scheme); }
+    component authority() const noexcept { return at(parts_.authority); }
+    component userinfo() const noexcept { return at(parts_.userinfo); }
+    component host() const noexcept { return at(parts_.host); }
+    component port() const noexcept { return at(parts_.port); }
+    component path() const noexcept { return at(parts_.path); }
+    component query() const noexcept { return at(parts_.query); }
+    component fragment() const noexcept { return at(parts_.fragment); }
 
   private:
     component at(fluent_uri_span span) const noexcept {
@@ -85,7 +86,7 @@ class parts {
     }
 
     std::string_view text_;
-    fluent_uri_parts told_;
+    fluent_uri_parts parts_;
 };
 
 inline parts parse(std::uint32_t kind, std::string_view text) noexcept {
@@ -94,17 +95,17 @@ inline parts parse(std::uint32_t kind, std::string_view text) noexcept {
 
 /** The normal form (RFC 3986, section 6.2.2). */
 inline result normalize(std::uint32_t kind, std::string_view text) {
-    return detail::make(text.size(), [&](std::uint8_t *out, std::size_t room, auto *told) {
-        return fluent_uri_normalize(kind, detail::bytes(text), text.size(), out, room, told);
+    return detail::make(text.size(), [&](std::uint8_t *out, std::size_t room, auto *outcome) {
+        return fluent_uri_normalize(kind, detail::bytes(text), text.size(), out, room, outcome);
     });
 }
 
 /** The target of a reference against a base of the kind (RFC 3986, section 5.2). */
 inline result resolve(std::uint32_t kind, std::string_view base, std::string_view reference) {
     auto most = base.size() + reference.size() + 2;
-    return detail::make(most, [&](std::uint8_t *out, std::size_t room, auto *told) {
+    return detail::make(most, [&](std::uint8_t *out, std::size_t room, auto *outcome) {
         return fluent_uri_resolve(kind, detail::bytes(base), base.size(), detail::bytes(reference),
-                                  reference.size(), out, room, told);
+                                  reference.size(), out, room, outcome);
     });
 }
 
@@ -112,31 +113,31 @@ inline result resolve(std::uint32_t kind, std::string_view base, std::string_vie
 inline result resolve_normalized(std::uint32_t kind, std::string_view base,
                                  std::string_view reference) {
     auto most = base.size() + reference.size() + 2;
-    return detail::make(most, [&](std::uint8_t *out, std::size_t room, auto *told) {
+    return detail::make(most, [&](std::uint8_t *out, std::size_t room, auto *outcome) {
         return fluent_uri_resolve_normalized(kind, detail::bytes(base), base.size(),
                                              detail::bytes(reference), reference.size(), out, room,
-                                             told);
+                                             outcome);
     });
 }
 
 /** An IRI or an IRI reference as a URI or a URI reference (RFC 3987, section 3.1). */
 inline result to_uri(std::uint32_t kind, std::string_view text) {
-    return detail::make(text.size(), [&](std::uint8_t *out, std::size_t room, auto *told) {
-        return fluent_uri_to_uri(kind, detail::bytes(text), text.size(), out, room, told);
+    return detail::make(text.size(), [&](std::uint8_t *out, std::size_t room, auto *outcome) {
+        return fluent_uri_to_uri(kind, detail::bytes(text), text.size(), out, room, outcome);
     });
 }
 
 /** The bytes that a component stands for. */
 inline result decode(std::uint32_t component, std::string_view text) {
-    return detail::make(text.size(), [&](std::uint8_t *out, std::size_t room, auto *told) {
-        return fluent_uri_decode(component, detail::bytes(text), text.size(), out, room, told);
+    return detail::make(text.size(), [&](std::uint8_t *out, std::size_t room, auto *outcome) {
+        return fluent_uri_decode(component, detail::bytes(text), text.size(), out, room, outcome);
     });
 }
 
 /** Bytes, encoded as data of a component. */
 inline result encode(std::uint32_t component, std::string_view data) {
-    return detail::make(data.size(), [&](std::uint8_t *out, std::size_t room, auto *told) {
-        return fluent_uri_encode(component, detail::bytes(data), data.size(), out, room, told);
+    return detail::make(data.size(), [&](std::uint8_t *out, std::size_t room, auto *outcome) {
+        return fluent_uri_encode(component, detail::bytes(data), data.size(), out, room, outcome);
     });
 }
 

@@ -25,7 +25,7 @@ static void normalizes(void) {
                                      &outcome) == FLUENT_URI_FULL && outcome.index == 0);
     CHECK(fluent_uri_normalize_batch(0, TEXT(data), offsets, 4, out, sizeof out, ends, 4, NULL, 0,
                                      &outcome) == FLUENT_URI_FULL && outcome.index == 0);
-    /* Offsets that fall, or that lie outside. */
+    /* Offsets that fall, or that are outside. */
     const uint32_t falling[] = {0, 3, 2}, outside[] = {0, 3, 99};
     CHECK(fluent_uri_normalize_batch(1, TEXT("a:b"), falling, 3, out, 10, ends, 4, &valid, 1,
                                      &outcome) == FLUENT_URI_INVALID_ARGUMENT && outcome.index == 1);
@@ -74,9 +74,45 @@ static void others(void) {
     CHECK(errors[0] == 0 && errors[1] == 2 && errors[2] == 0);
     CHECK(fluent_uri_normalize_lines(0, TEXT("A:\n \nB:"), out, sizeof out, errors, 2, &outcome) ==
           FLUENT_URI_FULL && outcome.index == 2);
+    /* A room that the lines fill, and one that lacks a byte. */
+    CHECK(fluent_uri_normalize_lines(0, TEXT("A:\n \nB:"), out, 7, errors, 3, &outcome) == 0);
+    CHECK(fluent_uri_normalize_lines(0, TEXT("A:\n \nB:"), out, 6, errors, 3, &outcome) ==
+          FLUENT_URI_FULL && outcome.index == 2 && outcome.length == 4);
+    /* A newline at the end has a line after it, and no input has one line. */
+    CHECK(fluent_uri_normalize_lines(1, TEXT("A:\n"), out, sizeof out, errors, 3, &outcome) == 0);
+    CHECK(is_text(out, outcome.length, "a:\n\n") && outcome.index == 2);
+    CHECK(fluent_uri_normalize_lines(1, NULL, 0, out, sizeof out, errors, 3, &outcome) == 0);
+    CHECK(is_text(out, outcome.length, "\n") && outcome.index == 1 && errors[0] == 0);
 }
 
-/* Many texts, in rooms of every size: after FULL the caller goes on with the text that is told. */
+/* Numbers that name nothing are tested before the first text, and before the room. */
+static void invalid(void) {
+    uint32_t ends[4] = {7, 7, 7, 7};
+    uint8_t valid = 0xff, errors[3] = {7, 7, 7};
+    fluent_uri_parts parts = {.error = 7};
+    memset(out, '#', sizeof out);
+    for (uint32_t length = 0; length <= 4; length += 4) {
+        CHECK(fluent_uri_normalize_batch(4, TEXT(data), offsets, 4, out, sizeof out, ends, length,
+                                         &valid, 1, &outcome) == FLUENT_URI_INVALID_ARGUMENT);
+        CHECK(fluent_uri_to_uri_batch(1, TEXT(data), offsets, 4, out, sizeof out, ends, length,
+                                      &valid, 1, &outcome) == FLUENT_URI_INVALID_ARGUMENT);
+        CHECK(fluent_uri_resolve_batch(1, TEXT("a:"), TEXT(data), offsets, 4, out, sizeof out, ends,
+                                       length, &valid, 1, &outcome) == FLUENT_URI_INVALID_ARGUMENT);
+        CHECK(fluent_uri_component_batch(0, FLUENT_URI_DATA, TEXT(data), offsets, 4, out, sizeof out,
+                                         ends, length, &valid, 1, &outcome) ==
+              FLUENT_URI_INVALID_ARGUMENT && outcome.index == 0 && outcome.length == 0);
+    }
+    CHECK(fluent_uri_normalize_batch(4, NULL, 0, NULL, 0, out, sizeof out, ends, 4, &valid, 1,
+                                     &outcome) == FLUENT_URI_INVALID_ARGUMENT);
+    CHECK(fluent_uri_parse_batch(4, TEXT(data), offsets, 4, &parts, 1, &outcome) ==
+          FLUENT_URI_INVALID_ARGUMENT && outcome.index == 0);
+    CHECK(fluent_uri_normalize_lines(4, TEXT("A:"), out, sizeof out, errors, 3, &outcome) ==
+          FLUENT_URI_INVALID_ARGUMENT && outcome.index == 0 && outcome.length == 0);
+    for (size_t i = 0; i < sizeof out; i++) CHECK(out[i] == '#');
+    CHECK(ends[0] == 7 && valid == 0xff && errors[0] == 7 && parts.error == 7);
+}
+
+/* Many texts, in rooms of every size: after FULL the caller goes on with the next text. */
 static void goes_on(void) {
     enum { COUNT = 40 };
     uint8_t texts[COUNT * 24];
@@ -109,6 +145,7 @@ static void goes_on(void) {
 int main(void) {
     normalizes();
     others();
+    invalid();
     goes_on();
     return ended("columns");
 }

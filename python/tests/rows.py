@@ -37,7 +37,7 @@ ERRORS = {
     "PATH_UNDERFLOW": "PathUnderflow",
 }
 # What the package has no call for.
-UNANSWERED = {
+WITHOUT_A_CALL = {
     "default-port",
     "normalize-strict",
     "normalize-under",
@@ -262,8 +262,8 @@ CALLS = {
 }
 
 
-def answer(operation, fields):
-    """The words that the package answers a row with."""
-    if operation in UNANSWERED:
+def result(operation, fields):
+    """The words that the package returns for a row."""
+    if operation in WITHOUT_A_CALL:
         raise Skipped
     return CALLS[operation](*map(field, fields))

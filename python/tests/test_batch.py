@@ -25,7 +25,7 @@ TEXTS = URLS + [
 
 
 def one(call, text):
-    """What a call answers of a text, or None if it raises ValueError."""
+    """What a call returns of a text, or None if it raises ValueError."""
     try:
         return str(call(text))
     except ValueError:
@@ -117,7 +117,7 @@ class Columns(unittest.TestCase):
         for data, offsets in self.buffers():
             self.assertEqual(batch.to_uri_column(data, offsets, IriRef).texts(), wanted)
 
-    def test_answers_longer_than_expected(self):
+    def test_results_longer_than_expected(self):
         texts = ["/" + "é" * 1000] * 100
         wanted = [str(IriRef.parse(it).to_uri()) for it in texts]
         self.assertEqual(batch.to_uri_column(*batch.column(texts), IriRef).texts(), wanted)
@@ -141,6 +141,7 @@ class Columns(unittest.TestCase):
                 wanted = [None if it is None else getattr(it, name) for it in values]
                 made = batch.component_column(self.data, self.offsets, name, kind)
                 self.assertEqual(made.texts(), wanted)
+                self.assertEqual(batch.component(TEXTS, name, kind), wanted)
 
     def test_a_part_of_a_column(self):
         made = batch.normalize_column(self.data, self.offsets[5:20])

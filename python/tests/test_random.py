@@ -47,8 +47,8 @@ def texts():
         yield begin + "".join(dice.choices(PIECES, k=dice.randrange(8)))
 
 
-def told(call):
-    """What a call answers, or what it raises."""
+def outcome_of(call):
+    """What a call returns, or what it raises."""
     try:
         return str(call())
     except ValueError as error:
@@ -70,15 +70,17 @@ def authority(value):
 
 
 class Random(unittest.TestCase):
-    def test_both_ways_to_call_answer_alike(self):
+    def test_both_ways_to_call_agree(self):
         if not fluent_uri.is_compiled:
             self.skipTest("there is no compiled module")
         for text in texts():
             for one, other in KINDS:
-                self.assertEqual(told(lambda: one.parse(text)), told(lambda: other.parse(text)))
                 self.assertEqual(
-                    told(lambda: one.parse(text).normalize()),
-                    told(lambda: other.parse(text).normalize()),
+                    outcome_of(lambda: one.parse(text)), outcome_of(lambda: other.parse(text))
+                )
+                self.assertEqual(
+                    outcome_of(lambda: one.parse(text).normalize()),
+                    outcome_of(lambda: other.parse(text).normalize()),
                 )
 
     def test_components_put_together_are_the_text(self):
@@ -91,7 +93,7 @@ class Random(unittest.TestCase):
                     if it.authority is not None:
                         self.assertEqual(authority(it), it.authority)
 
-    def test_each_way_to_normalise_answers_alike(self):
+    def test_each_way_to_normalise_agrees(self):
         every = list(texts())
         for kind, _ in KINDS:
             values = batch.parse(every, kind)
@@ -104,7 +106,7 @@ class Random(unittest.TestCase):
             forms = [it for it in batch.normalize(texts(), kind) if it is not None]
             self.assertEqual(batch.normalize(forms, kind), forms)
 
-    def test_each_way_to_resolve_answers_alike(self):
+    def test_each_way_to_resolve_agrees(self):
         every = list(texts())
         for base in [Uri.parse("http://a/b/c/d;p?q"), Iri.parse("x:/é/..//"), Iri.parse("x:y")]:
             for normalize in [False, True]:

@@ -12,20 +12,20 @@ BASE = Iri.parse("http://a/b/c/d;p?q")
 
 
 def work():
-    """What every sort of call answers."""
-    answers = []
+    """What every sort of call returns."""
+    results = []
     for text in TEXTS:
         try:
             value = Iri.parse(text)
-            answers += [str(value.normalize()), value.path, str(value.to_uri())]
-            answers.append(str(BASE.resolve(text)))
+            results += [str(value.normalize()), value.path, str(value.to_uri())]
+            results.append(str(BASE.resolve(text)))
         except ParseError as error:
-            answers.append((error.kind, error.index))
+            results.append((error.kind, error.index))
     column = batch.column(TEXTS)
-    answers.append(batch.normalize(TEXTS, Iri))
-    answers.append(batch.normalize_column(*column, Iri).texts())
-    answers.append(batch.component_column(*column, "path", Iri).texts())
-    return answers
+    results.append(batch.normalize(TEXTS, Iri))
+    results.append(batch.normalize_column(*column, Iri).texts())
+    results.append(batch.component_column(*column, "path", Iri).texts())
+    return results
 
 
 class Threads(unittest.TestCase):
@@ -35,25 +35,25 @@ class Threads(unittest.TestCase):
         sys.setswitchinterval(1e-6)
 
     def together(self, call):
-        """What a call answered in each thread."""
-        answers, begin = [], threading.Barrier(THREADS)
+        """What a call returned in each thread."""
+        results, begin = [], threading.Barrier(THREADS)
 
         def run():
             begin.wait()
-            answers.extend(call() for _ in range(ROUNDS))
+            results.extend(call() for _ in range(ROUNDS))
 
         threads = [threading.Thread(target=run) for _ in range(THREADS)]
         for it in threads:
             it.start()
         for it in threads:
             it.join()
-        self.assertEqual(len(answers), THREADS * ROUNDS)
-        return answers
+        self.assertEqual(len(results), THREADS * ROUNDS)
+        return results
 
-    def test_each_thread_gets_its_own_answers(self):
+    def test_each_thread_gets_its_own_results(self):
         wanted = work()
-        for answers in self.together(work):
-            self.assertEqual(answers, wanted)
+        for results in self.together(work):
+            self.assertEqual(results, wanted)
 
     def test_one_value_read_by_all_for_the_first_time(self):
         for _ in range(10):

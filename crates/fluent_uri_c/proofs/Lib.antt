@@ -1,7 +1,9 @@
 mod Batches
 mod Bits
+mod LinesOf
 mod PartColumns
 mod Places
 mod Rejected
 mod Targets
 mod ValidBytes
+mod WrittenLines

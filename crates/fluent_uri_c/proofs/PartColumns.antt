@@ -1,9 +1,7 @@
 -- The parts of a column, text by text.
-use Rattle.std.proofs.Common.{◌≡◌, ℕ, ◌+◌, ◌<◌, List, length, set, subst, sym, ◌∙◌, ap, arith}
-use Rattle.std.proofs.Common.{drop, ⊎_elim}
+use Rattle.std.proofs.Common.{◌≡◌, ℕ, ◌+◌, ◌<◌, List, length, set, subst, sym, arith, ⊎_elim}
 use Rattle.std.specs.Prelude.{Option, Some}
 use Rattle.std.proofs.lemmas.Bool.{cases_eq}
-use Rattle.std.proofs.lemmas.List.{drop-drop, drop-set-lt}
 use Rattle.fluent_uri.specs.Grammar.{Kind}
 use Rattle.fluent_uri_c.specs.declared.parts.Parts.{Parts}
 use Rattle.fluent_uri_c.specs.Columns.{text_at}
@@ -27,10 +25,3 @@ module _ {O : Type 0} (value : O → ℕ) (kind : Option Kind) (texts : List ℕ
       (has_here all n text here e are inside))
       (λ apart. rw (slice_get-set_other all n i here apart) (before i (omega arith)))
       (cases_eq i n)
-
-pub others_step : (first all : List Parts) (n m : ℕ) (here : Parts) → m ≡ n + 1
-    → drop n all ≡ drop n first → drop m (set all n here) ≡ drop m first
-others_step first all n m here step others =
-    ap (λ k. drop k (set all n here)) step ∙ drop-set-lt (n + 1) all n here (omega arith)
-    ∙ sym (drop-drop 1 n all) ∙ ap (drop 1) others ∙ drop-drop 1 n first
-    ∙ ap (λ k. drop k first) (sym step)

@@ -1,4 +1,4 @@
--- The components of a text, and the parts of its authority, at the offsets that callers are told.
+-- The components of a text, and the parts of its authority, at their offsets.
 use Rattle.std.proofs.Common.{◌≡◌, ℕ, ◌+◌, ◌-◌, ◌<◌, ◌≤◌, List, [], ◌∷◌, ◌++◌, length, take}
 use Rattle.std.proofs.Common.{drop, refl, sym, ap, subst, ◌∙◌, arith, append_assoc}
 use Rattle.std.proofs.Common.{length-append, zero-add}
@@ -21,16 +21,16 @@ use Rattle.fluent_uri_c.specs.Spans.{IsSpan, absent, userinfo_of, host_of, port_
 
 pub span_at : (text : List ℕ) (start end : ℕ) (part : Option (List ℕ))
     → LiesAt text start end part → IsSpan text part (record { start = start; end = end })
-span_at text start end None lies = absurd (none-some _ (sym lies.holds))
-span_at text start end (Some part) lies =
-    (lies.ordered, lies.ends.0, same_Some _ _ lies.holds)
+span_at text start end None place = absurd (none-some _ (sym place.holds))
+span_at text start end (Some part) place =
+    (place.ordered, place.ends.0, same_Some _ _ place.holds)
 
 pub span_absent : (text : List ℕ) (part : Option (List ℕ)) → part ≡ None
     → IsSpan text part absent
 span_absent text None e = refl
 span_absent text (Some part) e = absurd (none-some _ (sym e))
 
--- what stands between two offsets of a part stands in the text at that distance from its start
+-- what is between two offsets of a part is in the text at that distance from its start
 within : (text part : List ℕ) (start end : ℕ) → slice_range text start end ≡ part
     → end ≡ start + length part → (i j : ℕ) → j ≤ length part
     → slice_range text (start + i) (start + j) ≡ slice_range part i j
@@ -77,18 +77,18 @@ host_range userinfo host rest authority whole =
     (sym (length-user_text userinfo))
     ∙ range-between (user_text userinfo) host rest
 
-port_range : (front digits authority : List ℕ) → front ++ port_text (Some digits) ≡ authority
-    → slice_range authority (length front + 1) (length front + 1 + length digits) ≡ digits
-port_range front digits authority whole =
-    let n : length (front ++ codes ":") ≡ length front + 1 =
-    omega (arith, length-append front (codes ":")) in
-    let e : authority ≡ (front ++ codes ":") ++ (digits ++ []) =
-    sym whole ∙ sym (append_assoc front (codes ":") (digits ++ [])) in
-    ap (λ a. slice_range a (length front + 1) (length front + 1 + length digits)) e
-    ∙ ap (λ k. slice_range ((front ++ codes ":") ++ (digits ++ [])) k (k + length digits)) (sym n)
-    ∙ range-between (front ++ codes ":") digits []
+port_range : (prefix digits authority : List ℕ) → prefix ++ port_text (Some digits) ≡ authority
+    → slice_range authority (length prefix + 1) (length prefix + 1 + length digits) ≡ digits
+port_range prefix digits authority whole =
+    let n : length (prefix ++ codes ":") ≡ length prefix + 1 =
+    omega (arith, length-append prefix (codes ":")) in
+    let e : authority ≡ (prefix ++ codes ":") ++ (digits ++ []) =
+    sym whole ∙ sym (append_assoc prefix (codes ":") (digits ++ [])) in
+    ap (λ a. slice_range a (length prefix + 1) (length prefix + 1 + length digits)) e
+    ∙ ap (λ k. slice_range ((prefix ++ codes ":") ++ (digits ++ [])) k (k + length digits)) (sym n)
+    ∙ range-between (prefix ++ codes ":") digits []
 
--- of an authority that lies at an offset, by its parts
+-- of an authority at an offset, by its parts
 module _ (text authority : List ℕ) (start end : ℕ) (at : slice_range text start end ≡ authority)
     (ends : end ≡ start + length authority) (inside : end ≤ length text) where
   part_span : (i j from to : ℕ) (part : List ℕ) → from ≡ start + i → to ≡ start + j → i ≤ j
@@ -139,32 +139,32 @@ module _ (text authority : List ℕ) (start end : ℕ) (at : slice_range text st
       part_span (marked_length 1 userinfo) (marked_length 1 userinfo + length host) from to host e f
       (omega arith) (omega arith) (host_range userinfo host rest authority whole)
 
-  port_span : (front : List ℕ) (port : Option (List ℕ)) (host_end : ℕ)
-      → front ++ port_text port ≡ authority → host_end ≡ start + length front → host_end < end
+  port_span : (prefix : List ℕ) (port : Option (List ℕ)) (host_end : ℕ)
+      → prefix ++ port_text port ≡ authority → host_end ≡ start + length prefix → host_end < end
       → IsSpan text port (record { start = host_end + 1; end = end })
-  port_span front None host_end whole e less =
-      absurd (omega (arith, ap length whole, length-append front []))
-  port_span front (Some digits) host_end whole e less =
-      let m : length authority ≡ length front + (1 + length digits) =
+  port_span prefix None host_end whole e less =
+      absurd (omega (arith, ap length whole, length-append prefix []))
+  port_span prefix (Some digits) host_end whole e less =
+      let m : length authority ≡ length prefix + (1 + length digits) =
       omega (
         arith,
         ap length whole,
-        length-append front (port_text (Some digits)),
+        length-append prefix (port_text (Some digits)),
         length-append digits [],
       ) in
-      part_span (length front + 1) (length front + 1 + length digits) (host_end + 1) end digits
+      part_span (length prefix + 1) (length prefix + 1 + length digits) (host_end + 1) end digits
       (omega arith) (omega arith) (omega arith) (omega arith)
-      (port_range front digits authority whole)
+      (port_range prefix digits authority whole)
 
-  no_port : (front : List ℕ) (port : Option (List ℕ)) (host_end : ℕ)
-      → front ++ port_text port ≡ authority → host_end ≡ start + length front → end ≤ host_end
+  no_port : (prefix : List ℕ) (port : Option (List ℕ)) (host_end : ℕ)
+      → prefix ++ port_text port ≡ authority → host_end ≡ start + length prefix → end ≤ host_end
       → IsSpan text port absent
-  no_port front None host_end whole e more = refl
-  no_port front (Some digits) host_end whole e more =
+  no_port prefix None host_end whole e more = refl
+  no_port prefix (Some digits) host_end whole e more =
       absurd (omega (
         arith,
         ap length whole,
-        length-append front (port_text (Some digits)),
+        length-append prefix (port_text (Some digits)),
         length-append digits [],
       ))
 
@@ -182,33 +182,33 @@ record Inside (text : List ℕ) (a : AuthorityPositions) : Type 0 where
 inside_of : (kind : Kind) (text : List ℕ) (a : AuthorityPositions) (part : Option (List ℕ)) (n : ℕ)
     → (components text).authority ≡ part → IsOfKind kind text
     → option_map (authority_at n) part ≡ Some a → LiesAt text a.start a.end part → Inside text a
-inside_of kind text a None n e h found lies = absurd (none-some _ found)
-inside_of kind text a (Some authority) n e h found lies =
+inside_of kind text a None n e h found place = absurd (none-some _ found)
+inside_of kind text a (Some authority) n e h found place =
     let same : authority_at n authority ≡ a = same_Some _ _ found in
     let valid = authority_valid kind kind.userinfo kind.reg_name text authority h refl refl e in
     record {
       authority = authority;
       is = e;
-      at = same_Some _ _ lies.holds;
+      at = same_Some _ _ place.holds;
       ends = subst (λ (b : AuthorityPositions). b.end ≡ b.start + length authority) same refl;
       host_start = subst (λ (b : AuthorityPositions). b.host_start
           ≡ b.start + host_start_of authority) same refl;
       host_end = subst (λ (b : AuthorityPositions). b.host_end
           ≡ b.start + host_end_of authority) same refl;
-      inside = lies.ends.0;
+      inside = place.ends.0;
       whole = (holds kind.userinfo kind.reg_name authority valid).whole;
     }
 
 module _ (kind : Kind) (text : List ℕ) (p : Positions) (a : AuthorityPositions)
     (at : AreAt text p) (of_kind : IsOfKind kind text) (here : p.authority ≡ Some a)
-    (lies : LiesAt text a.start a.end (components text).authority) where
+    (place : LiesAt text a.start a.end (components text).authority) where
   inside : Inside text a
   inside =
       inside_of kind text a (components text).authority
       (marked_length 1 (components text).scheme + 2) refl of_kind
-      (sym (ap (λ (q : Positions). q.authority) at) ∙ here) lies
+      (sym (ap (λ (q : Positions). q.authority) at) ∙ here) place
 
-  -- in front of the host
+  -- before the host
   pub userinfo_there : a.start < a.host_start
       → IsSpan text (userinfo_of (components text).authority)
       (record { start = a.start; end = a.host_start - 1 })
@@ -242,13 +242,13 @@ module _ (kind : Kind) (text : List ℕ) (p : Positions) (a : AuthorityPositions
       (host_span text i.authority a.start a.end i.at i.ends i.inside parts.userinfo parts.host
       (port_text parts.port) a.host_start a.host_end i.whole i.host_start i.host_end)
 
-  -- behind the host
-  abbrev front_of : AuthorityParts → List ℕ
-  front_of parts = user_text parts.userinfo ++ parts.host
+  -- after the host
+  abbrev before_port : AuthorityParts → List ℕ
+  before_port parts = user_text parts.userinfo ++ parts.host
 
-  length-front : (parts : AuthorityParts)
-      → length (front_of parts) ≡ marked_length 1 parts.userinfo + length parts.host
-  length-front parts = omega (
+  length-before_port : (parts : AuthorityParts)
+      → length (before_port parts) ≡ marked_length 1 parts.userinfo + length parts.host
+  length-before_port parts = omega (
     arith,
     length-append (user_text parts.userinfo) parts.host,
     length-user_text parts.userinfo,
@@ -261,18 +261,18 @@ module _ (kind : Kind) (text : List ℕ) (p : Positions) (a : AuthorityPositions
       let parts = authority_parts i.authority in
       subst (λ (o : Option (List ℕ)). IsSpan text (port_of o)
       (record { start = a.host_end + 1; end = a.end })) (sym i.is)
-      (port_span text i.authority a.start a.end i.at i.ends i.inside (front_of parts) parts.port
+      (port_span text i.authority a.start a.end i.at i.ends i.inside (before_port parts) parts.port
       a.host_end (append_assoc (user_text parts.userinfo) parts.host (port_text parts.port)
-      ∙ i.whole) (i.host_end ∙ ap (λ n. a.start + n) (sym (length-front parts))) less)
+      ∙ i.whole) (i.host_end ∙ ap (λ n. a.start + n) (sym (length-before_port parts))) less)
 
   pub port_absent : a.end ≤ a.host_end → IsSpan text (port_of (components text).authority) absent
   port_absent more =
       let i = inside in
       let parts = authority_parts i.authority in
       subst (λ (o : Option (List ℕ)). IsSpan text (port_of o) absent) (sym i.is)
-      (no_port text i.authority a.start a.end i.at i.ends i.inside (front_of parts) parts.port
+      (no_port text i.authority a.start a.end i.at i.ends i.inside (before_port parts) parts.port
       a.host_end (append_assoc (user_text parts.userinfo) parts.host (port_text parts.port)
-      ∙ i.whole) (i.host_end ∙ ap (λ n. a.start + n) (sym (length-front parts))) more)
+      ∙ i.whole) (i.host_end ∙ ap (λ n. a.start + n) (sym (length-before_port parts))) more)
 
 -- a span that is that of what is absent
 pub absent_is : (text : List ℕ) (part : Option (List ℕ)) (span : Span) → span ≡ absent

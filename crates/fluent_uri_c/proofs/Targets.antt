@@ -25,16 +25,16 @@ pub resolved_is : (base reference target : List ℕ)
 unfolding resolution returned_of
 resolved_is base reference target e = ap returned_of e
 
--- memory was refused, or the error is the one that is defined
-pub refused_is : (base reference : List ℕ) (error : ResolveError)
+-- an allocation failed, or the error is the one that is defined
+pub error_is : (base reference : List ℕ) (error : ResolveError)
     → IsRefusalFor (components base) (components reference) error
     → (resolve_rejection error ≡ rejected OutOfMemory)
     ⊎ (resolution base reference ≡ Err (resolve_rejection error))
 unfolding resolution returned_of
-refused_is base reference Of.BaseWithFragment h = inr (ap returned_of h)
-refused_is base reference Of.InvalidReferenceAgainstOpaqueBase h = inr (ap returned_of h)
-refused_is base reference Of.PathUnderflow h = absurd h
-refused_is base reference Of.OutOfMemory h = inl refl
+error_is base reference Of.BaseWithFragment h = inr (ap returned_of h)
+error_is base reference Of.InvalidReferenceAgainstOpaqueBase h = inr (ap returned_of h)
+error_is base reference Of.PathUnderflow h = absurd h
+error_is base reference Of.OutOfMemory h = inl refl
 
 normal_of : Kind → Returned → Returned
 normal_of kind r = result_map_both (normal_form_of kind) (λ why. why) r
@@ -48,23 +48,23 @@ normal_resolved_is kind of_reference base reference normal is =
     ap (normal_of kind) (resolved_is base reference found.0 found.1.0)
     ∙ ap Ok (sym found.1.1.text.text)
 
-pub normal_refused_is : (kind : Kind) (base reference : List ℕ) (error : ResolveError)
+pub normal_error_is : (kind : Kind) (base reference : List ℕ) (error : ResolveError)
     → IsRefusalFor (components base) (components reference) error
     → (resolve_rejection error ≡ rejected OutOfMemory)
     ⊎ (normal_resolution kind base reference ≡ Err (resolve_rejection error))
 unfolding normal_resolution normal_of
-normal_refused_is kind base reference error h = elim (refused_is base reference error h) [
+normal_error_is kind base reference error h = elim (error_is base reference error h) [
   | inl e ↦ inl e
   | inr e ↦ inr (ap (normal_of kind) e)
 ]
 
 -- the same of a rejection that is made of the error
-pub refused_as : (returned : Returned) (why : _) (error : ResolveError)
+pub error_as : (returned : Returned) (why : _) (error : ResolveError)
     → why ≡ resolve_rejection error
     → (resolve_rejection error ≡ rejected OutOfMemory)
     ⊎ (returned ≡ Err (resolve_rejection error))
     → (why ≡ rejected OutOfMemory) ⊎ (returned ≡ Err why)
-refused_as returned why error e h = elim h [
+error_as returned why error e h = elim h [
   | inl m ↦ inl (e ∙ m)
   | inr r ↦ inr (r ∙ ap Err (sym e))
 ]

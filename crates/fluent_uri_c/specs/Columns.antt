@@ -1,22 +1,22 @@
 -- Columns of texts as data and offsets, and what a batch leaves of one.
-use Rattle.std.specs.Prelude.{◌≡◌, ◌⊎◌, ℕ, zero, suc, ◌+◌, ◌*◌, ◌/◌, ◌%◌, ◌<◌, ◌≤◌, Bool, ◌&&◌, ⊤}
+use Rattle.std.specs.Prelude.{◌≡◌, ◌⊎◌, ℕ, zero, suc, ◌+◌, ◌-◌, ◌*◌, ◌/◌, ◌%◌, ◌<◌, ◌≤◌, Bool, ◌&&◌}
 use Rattle.std.specs.Prelude.{List, [], ◌++◌, length, drop, nat_le, Option, Some, None, IsSomeAnd}
 use Rattle.std.specs.Prelude.{slice_get, slice_index, slice_range, option_and_then, is_some}
-use Rattle.std.specs.Prelude.{unwrap_or, string_bytes, if◌then◌else◌}
+use Rattle.std.specs.Prelude.{IsFalse, IsSome, IsTrue, unwrap_or, string_bytes, if◌then◌else◌}
 use Rattle.std.specs.Int.{bit_at}
 use Rattle.fluent_uri_c.specs.declared.batch.Made.{Made}
 use Rattle.fluent_uri_c.specs.declared.batch.Made.TheVariants.{Part, Text}
-use Rattle.fluent_uri_c.specs.declared.errors.Error.{Error}
-use Rattle.fluent_uri_c.specs.declared.errors.Error.TheVariants as Of
 use Rattle.fluent_uri_c.specs.declared.outcome.Outcome.{Outcome}
+use Rattle.fluent_uri_c.specs.Endings.{EndsAt}
+use Rattle.fluent_uri_c.specs.SingleCalls.{SingleCall}
 
--- the text between two offsets, if they rise and lie in the data
+-- the text between two offsets, if they do not fall and are within the data
 abbrev pub text_between : List ℕ → ℕ → ℕ → Option (List ℕ)
 text_between texts start end =
     if nat_le start end && nat_le end (length texts) then Some (slice_range texts start end)
     else None
 
--- the text at an index, from its offset to the next; an offset stands for a number
+-- the text at an index, from its offset to the next; the offset is a number
 abbrev pub text_at : {O : Type 0} → (O → ℕ) → List ℕ → List O → ℕ → Option (List ℕ)
 text_at value texts offsets i =
     option_and_then (λ start. option_and_then (λ end. text_between texts (value start) (value end))
@@ -44,7 +44,7 @@ abbrev pub number_of_bool : Bool → ℕ
 number_of_bool b = if b then 1 else 0
 
 -- what a batch leaves that has done so many texts: their results one after the other, where each
--- ends, and whether it is there; and behind these what was there
+-- ends, and whether it is present; after these, everything is as it was
 pub record IsColumn {O : Type 0} (value : O → ℕ) (at : ℕ → Option (List ℕ)) (done : ℕ)
     (old new : List ℕ) (old_ends new_ends : List O) (old_valid new_valid : List ℕ) : Type 0 where
   pub bytes : new ≡ joined at done ++ drop (length (joined at done)) old
@@ -64,28 +64,42 @@ abbrev pub IsFull : ℕ → (ℕ → Option (List ℕ)) → ℕ → List ℕ →
 IsFull limit at done buffer =
     (length buffer < length (joined at (suc done))) ⊎ (limit ≤ length (joined at (suc done)))
 
--- What a batch over so many texts leaves and returns: how many are done, which is all where it
--- returns 0, and how long their results are. Without room for the ends and bits of all it does none.
-pub record LeavesColumn {O : Type 0} (value : O → ℕ) (limit : ℕ) (at : ℕ → Option (List ℕ))
-    (count : ℕ) (old new : List ℕ) (old_ends new_ends : List O) (old_valid new_valid : List ℕ)
-    (outcome : Outcome) (number : ℕ) : Type 0 where
-  pub told : outcome.error ≡ number
-  pub done : outcome.index ≤ count
-  pub all : number ≡ 0 → outcome.index ≡ count
-  pub length : outcome.length ≡ length (joined at outcome.index)
-  pub column : HasRoom count old_ends old_valid
-      → IsColumn value at outcome.index old new old_ends new_ends old_valid new_valid
-  pub full : HasRoom count old_ends old_valid → number ≡ 10 → IsFull limit at outcome.index old
-  pub none : ¬ (HasRoom count old_ends old_valid) → (number ≡ 10) × (outcome.index ≡ 0)
-      × (new ≡ old) × (new_ends ≡ old_ends) × (new_valid ≡ old_valid)
+-- What a batch leaves whose numbers are valid and which has room for the ends and bits of all: the
+-- results of the texts that are done, each of which is within the data.
+pub record HasDone {O : Type 0} (value : O → ℕ) (limit : ℕ) (call : SingleCall) (texts : List ℕ)
+    (offsets : List O) (old new : List ℕ) (old_ends new_ends : List O)
+    (old_valid new_valid : List ℕ) (outcome : Outcome) (number : ℕ) : Type 0 where
+  pub column : IsColumn value (result_at value call.result texts offsets) outcome.index old new
+      old_ends new_ends old_valid new_valid
+  pub total : outcome.length
+      ≡ length (joined (result_at value call.result texts offsets) outcome.index)
+  pub within : (i : ℕ) → i < outcome.index → IsSome (text_at value texts offsets i)
+  pub end : EndsAt (length offsets - 1) (text_at value texts offsets) call.takes_memory
+      (λ done. IsFull limit (result_at value call.result texts offsets) done old)
+      outcome.index number
+
+-- nothing is done: the number is the one that is given, and no output has changed
+abbrev pub DoesNone : {O : Type 0} → ℕ → List ℕ → List ℕ → List O → List O → List ℕ → List ℕ
+    → Outcome → ℕ → Type 0
+DoesNone wanted old new old_ends new_ends old_valid new_valid outcome number =
+    (number ≡ wanted) × (outcome.index ≡ 0) × (outcome.length ≡ 0)
+    × (new ≡ old) × (new_ends ≡ old_ends) × (new_valid ≡ old_valid)
+
+-- What a batch leaves and returns.
+pub record LeavesColumn {O : Type 0} (value : O → ℕ) (limit : ℕ) (call : SingleCall)
+    (texts : List ℕ) (offsets : List O) (old new : List ℕ) (old_ends new_ends : List O)
+    (old_valid new_valid : List ℕ) (outcome : Outcome) (number : ℕ) : Type 0 where
+  pub error : outcome.error ≡ number
+  pub which : outcome.which ≡ 0
+  pub invalid : IsFalse call.is_valid
+      → DoesNone 9 old new old_ends new_ends old_valid new_valid outcome number
+  pub no_room : IsTrue call.is_valid → ¬ (HasRoom (length offsets - 1) old_ends old_valid)
+      → DoesNone 10 old new old_ends new_ends old_valid new_valid outcome number
+  pub done : IsTrue call.is_valid → HasRoom (length offsets - 1) old_ends old_valid
+      → HasDone value limit call texts offsets old new old_ends new_ends old_valid new_valid
+      outcome number
 
 -- the bytes of what a call makes
 abbrev pub made_bytes : Made → List ℕ
 made_bytes (Part bytes) = bytes.now
 made_bytes (Text text) = string_bytes text
-
--- a batch ends at a text for which memory was refused, or an argument of the call names nothing
-abbrev pub EndsBatch : Error → Type 0
-EndsBatch Of.OutOfMemory = ⊤
-EndsBatch Of.InvalidArgument = ⊤
-EndsBatch _ = ⊥

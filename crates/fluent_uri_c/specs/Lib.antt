@@ -1,8 +1,12 @@
 pub mod Columns
+pub mod Components
+pub mod Endings
 pub mod Errors
 pub mod Kinds
+pub mod Lines
 pub mod Outcomes
 pub mod PartColumns
 pub mod Results
 pub mod Sets
+pub mod SingleCalls
 pub mod Spans

@@ -12,7 +12,7 @@ abbrev pub written : List ℕ → List ℕ → List ℕ
 written text buffer =
     if nat_lt (length buffer) (length text) then buffer else text ++ drop (length text) buffer
 
--- what is told of an error
+-- what is reported of an error
 abbrev pub outcome_of : Rejection → Outcome
 outcome_of why = record {
   error = number_of why.error;
@@ -21,18 +21,27 @@ outcome_of why = record {
   length = 0;
 }
 
--- the outcome tells the error, or that memory was refused
+-- what is reported of a text: its length
+abbrev pub outcome_of_text : List ℕ → Outcome
+outcome_of_text text = record {
+  error = 0;
+  which = 0;
+  index = 0;
+  length = length text;
+}
+
+-- the outcome reports the error, or that an allocation failed
 abbrev pub IsRejected : Returned → Outcome → Type 0
 IsRejected returned outcome =
     (outcome ≡ outcome_of (rejected OutOfMemory))
     ⊎ ((why : Rejection) × ((returned ≡ Err why) × (outcome ≡ outcome_of why)))
 
 -- The call returns a number and leaves a buffer and an outcome. Where there is a text, its length is
--- told, and the buffer has it if it is long enough; else the buffer is as it was.
+-- reported, and the buffer begins with it if it is long enough; else the buffer is as it was.
 pub record Leaves (returned : Returned) (old new : List ℕ) (outcome : Outcome)
     (number : ℕ) : Type 0 where
-  pub told : outcome.error ≡ number
+  pub error : outcome.error ≡ number
   pub text : number ≡ 0 → IsOkAnd returned (λ text.
-      (outcome.length ≡ length text) × (new ≡ written text old))
+      (outcome ≡ outcome_of_text text) × (new ≡ written text old))
   pub rejected : number ≢ 0 → IsRejected returned outcome
   pub kept : number ≢ 0 → new ≡ old

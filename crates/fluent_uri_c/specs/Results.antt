@@ -38,7 +38,7 @@ abbrev pub with : {A : Type 0} → Option A → (A → Returned) → Returned
 with None result = Err (rejected Of.InvalidArgument)
 with (Some it) result = result it
 
--- why bytes are not UTF-8: behind the longest prefix that is, more bytes follow
+-- why bytes are not UTF-8: after the longest prefix that is UTF-8, more bytes follow
 abbrev pub utf8_error : List ℕ → Option Rejection
 utf8_error bytes =
     if nat_lt (utf8_valid_len bytes) (length bytes)
@@ -117,7 +117,7 @@ decode_result n text = with (decoding_set n) λ set. decoded_result set text
 abbrev pub encode_result : ℕ → List ℕ → Returned
 encode_result n bytes = with (encoding_set n) λ set. Ok (print (encode_bytes set bytes))
 
--- a call returns its result, or memory was refused
+-- a call returns its result, or an allocation failed
 abbrev pub IsReturnedAs : {T : Type 0} → (T → List ℕ) → Returned → Result T Rejection → Type 0
 IsReturnedAs bytes returned (Ok made) = returned ≡ Ok (bytes made)
 IsReturnedAs bytes returned (Err why) =

@@ -1,4 +1,4 @@
--- Where the components of a text lie, as the caller is told: RFC 3986, section 3.
+-- Where the components of a text are, as the caller learns it: RFC 3986, section 3.
 use Rattle.std.specs.Prelude.{◌≡◌, ◌≢◌, ◌↔◌, ℕ, ◌≤◌, ◌-◌, ◌^◌, List, Option, Some, None, slice_range}
 use Rattle.std.specs.Prelude.{option_and_then, option_map, IsSomeAnd, length}
 use Rattle.fluent_uri.specs.Authority.{authority_parts}
@@ -16,7 +16,7 @@ use Rattle.fluent_uri_c.specs.Results.{text_error}
 abbrev pub absent : Span
 absent = record { start = 2 ^ 64 - 1; end = 2 ^ 64 - 1 }
 
--- the component is what stands between the two offsets, or it is absent and so are they
+-- the component is what is between the two offsets, or it is absent and so are they
 abbrev pub IsSpan : List ℕ → Option (List ℕ) → Span → Type 0
 IsSpan text None span = span ≡ absent
 IsSpan text (Some part) span =
@@ -44,8 +44,9 @@ host_of authority = option_map (λ a. (authority_parts a).host) authority
 abbrev pub port_of : Option (List ℕ) → Option (List ℕ)
 port_of authority = option_and_then (λ a. (authority_parts a).port) authority
 
--- each of the components is where it is told to be
+-- each span is that of its component, and no error has an index
 pub record AreSpansOf (text : List ℕ) (parts : Parts) : Type 0 where
+  pub index : parts.index ≡ 0
   pub scheme : IsSpan text (components text).scheme parts.scheme
   pub authority : IsSpan text (components text).authority parts.authority
   pub userinfo : IsSpan text (userinfo_of (components text).authority) parts.userinfo

@@ -1,13 +1,12 @@
 //! What a batch does with the texts of a column.
 ghost use Rattle.std.specs.Prelude.{◌≡◌, ◌⊎◌, ◌+◌, ◌-◌, ◌<◌, ◌≤◌, ◌++◌, ◌↔◌, length, drop, take};
 ghost use Rattle.std.specs.Prelude.{IfNone, IfSome, IsTrue, OnSome, option_map, slice_set};
-ghost use Rattle.fluent_uri_c.specs.Columns.{HasRoom, IsColumn, IsFull, LeavesColumn, bytes_of, joined};
-ghost use Rattle.fluent_uri_c.specs.Columns.{made_bytes, result_at};
+ghost use Rattle.fluent_uri_c.specs.Columns.{HasDone, HasRoom, LeavesColumn, bytes_of};
+ghost use Rattle.fluent_uri_c.specs.Columns.{made_bytes};
 
 use crate::columns::{Offset, mark, text_at};
-use crate::errors::Error;
 use crate::outcome::Outcome;
-use std::alloc::Global;
+use std::alloc::{AllocError, Global};
 
 /// The result of a call on a text: a part of that text, or a text of its own.
 #[derive(Drop)]
@@ -18,16 +17,21 @@ pub enum Made<'a> {
 
 /// A call on one text, which a batch makes for each text of a column.
 pub trait Call {
-    ghost use Rattle.std.specs.Prelude.{◌≡◌, ℕ, IfOk, IfErr, List, Option, option_map};
-    ghost use Rattle.fluent_uri_c.specs.Columns.{EndsBatch, made_bytes};
+    ghost use Rattle.std.specs.Prelude.{◌≡◌, IfErr, IfOk, IsTrue, option_map};
+    ghost use Rattle.fluent_uri_c.specs.Columns.{made_bytes};
+    ghost use Rattle.fluent_uri_c.specs.SingleCalls.{SingleCall};
 
-    ghost result_of: { Self → List ℕ → Option (List ℕ) };
+    ghost definition: { Self → SingleCall };
 
-    /// Returns the result of a text, if it has one, or the error that ends a batch.
-    fn call<'a>(&self, alloc: Global, text: &'a [u8]) -> Result<Option<Made<'a>>, Error>
+    /// Returns whether the numbers that it was given name something.
+    fn is_valid(&self) -> bool
+        ensures { result ≡ (definition self.now).is_valid };
+
+    /// Returns the result of a text, if that has one.
+    fn call<'a>(&self, alloc: Global, text: &'a [u8]) -> Result<Option<Made<'a>>, AllocError>
         ensures made { IfOk result (λ made.
-            option_map made_bytes made ≡ result_of self.now text.now) }
-        ensures error { IfErr result EndsBatch };
+            option_map made_bytes made ≡ (definition self.now).result text.now) }
+        ensures memory { IfErr result (λ _. IsTrue (definition self.now).takes_memory) };
 }
 
 /// Returns the bytes of a result: none where there is none.
@@ -72,7 +76,7 @@ fn append<O: Offset>(
     Some(end)
 }
 
-/// Tells how many texts are done, and how long their results are.
+/// Reports how many texts are done, and how long their results are, and returns the error.
 pub fn ended(error: u32, done: usize, length: usize, outcome: &mut Outcome) -> u32
     ensures number { result ≡ error }
     ensures outcome { outcome.new
@@ -105,18 +109,10 @@ fn fill<O: Offset, C: Call>(
     outcome: &mut Outcome,
 ) -> u32
     requires { HasRoom (length offsets.now - 1) ends.old valid.old }
-    ensures told { outcome.new.error ≡ result }
-    ensures count { outcome.new.index ≤ length offsets.now - 1 }
-    ensures all { result ≡ 0 → outcome.new.index ≡ length offsets.now - 1 }
-    ensures length { outcome.new.length
-        ≡ length (joined (result_at O.value (C.result_of call.now) texts.now offsets.now)
-        outcome.new.index) }
-    ensures column { IsColumn O.value
-        (result_at O.value (C.result_of call.now) texts.now offsets.now)
-        outcome.new.index out.old out.new ends.old ends.new valid.old valid.new }
-    ensures full { result ≡ 10 → IsFull O.limit
-        (result_at O.value (C.result_of call.now) texts.now offsets.now)
-        outcome.new.index out.old }
+    ensures error { outcome.new.error ≡ result }
+    ensures which { outcome.new.which ≡ 0 }
+    ensures done { HasDone O.value O.limit (C.definition call.now) texts.now offsets.now
+        out.old out.new ends.old ends.new valid.old valid.new outcome.new result }
 {
     let count = offsets.len().saturating_sub(1);
     let mut at = 0;
@@ -127,7 +123,7 @@ fn fill<O: Offset, C: Call>(
         };
         let made = match call.call(alloc, text) {
             Ok(made) => made,
-            Err(error) => return ended(error.number(), index, at, outcome),
+            Err(_) => return ended(8, index, at, outcome),
         };
         let Some(end) = append(bytes_of(&made), index, at, out, ends) else {
             return ended(10, index, at, outcome);
@@ -149,11 +145,12 @@ pub fn column<O: Offset, C: Call>(
     valid: &mut [u8],
     outcome: &mut Outcome,
 ) -> u32
-    ensures { LeavesColumn O.value O.limit
-        (result_at O.value (C.result_of call.now) texts.now offsets.now)
-        (length offsets.now - 1) out.old out.new ends.old ends.new valid.old valid.new
-        outcome.new result }
+    ensures { LeavesColumn O.value O.limit (C.definition call.now) texts.now offsets.now
+        out.old out.new ends.old ends.new valid.old valid.new outcome.new result }
 {
+    if !call.is_valid() {
+        return ended(9, 0, 0, outcome);
+    }
     let count = offsets.len().saturating_sub(1);
     if has_room(count, ends, valid) {
         fill(alloc, call, texts, offsets, out, ends, valid, outcome)

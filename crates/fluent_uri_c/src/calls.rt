@@ -1,29 +1,27 @@
 //! The batches: a call for each text of a column.
-ghost use Rattle.std.specs.Prelude.{◌≡◌, ◌-◌, IfErr, IfOk, length, option_map};
+ghost use Rattle.std.specs.Prelude.{◌≡◌, IfErr, IfOk, option_map};
 ghost use Rattle.std.specs.Result.{result_ok};
-ghost use Rattle.fluent_uri_c.specs.Columns.{EndsBatch, LeavesColumn, made_bytes, result_at};
-ghost use Rattle.fluent_uri_c.specs.Results.{IsReturned, Returned, normalize_result};
-ghost use Rattle.fluent_uri_c.specs.Results.{resolve_normalized_result, resolve_result};
-ghost use Rattle.fluent_uri_c.specs.Results.{to_uri_result};
+ghost use Rattle.fluent_uri_c.specs.Columns.{LeavesColumn, made_bytes};
+ghost use Rattle.fluent_uri_c.specs.Results.{IsReturned, Returned};
+ghost use Rattle.fluent_uri_c.specs.SingleCalls.{converting, normalizing, resolving};
+ghost use Rattle.fluent_uri_c.specs.SingleCalls.{resolving_normalized};
 
 use crate::batch::{Call, Made, column};
 use crate::columns::Offset;
 use crate::errors::{Error, Rejection};
 use crate::numbered;
 use crate::outcome::Outcome;
-use std::alloc::Global;
+use std::alloc::{AllocError, Global};
 
 /// Returns what a batch takes of what a call returns.
-fn made<'a>(returned: Result<String, Rejection>) -> Result<Option<Made<'a>>, Error>
-    ensures made { (defined : Returned) → IsReturned defined returned → IfOk result (λ made.
+fn made<'a>(returned: Result<String, Rejection>) -> Result<Option<Made<'a>>, AllocError>
+    ensures { (defined : Returned) → IsReturned defined returned → IfOk result (λ made.
         option_map made_bytes made ≡ result_ok defined) }
-    ensures error { IfErr result EndsBatch }
 {
     match returned {
         Ok(text) => Ok(Some(Made::Text(text))),
         Err(why) => match why.error {
-            Error::OutOfMemory => Err(Error::OutOfMemory),
-            Error::InvalidArgument => Err(Error::InvalidArgument),
+            Error::OutOfMemory => Err(AllocError),
             _ => Ok(None),
         },
     }
@@ -36,9 +34,13 @@ struct Normalize {
 }
 
 impl Call for Normalize {
-    ghost result_of = { λ call text. result_ok (normalize_result call.kind text) };
+    ghost definition = { λ call. normalizing call.kind };
 
-    fn call<'a>(&self, alloc: Global, text: &'a [u8]) -> Result<Option<Made<'a>>, Error> {
+    fn is_valid(&self) -> bool {
+        self.kind <= 3
+    }
+
+    fn call<'a>(&self, alloc: Global, text: &'a [u8]) -> Result<Option<Made<'a>>, AllocError> {
         made(numbered::normal_form(alloc, self.kind, text))
     }
 }
@@ -50,9 +52,13 @@ struct ToUri {
 }
 
 impl Call for ToUri {
-    ghost result_of = { λ call text. result_ok (to_uri_result call.kind text) };
+    ghost definition = { λ call. converting call.kind };
 
-    fn call<'a>(&self, alloc: Global, text: &'a [u8]) -> Result<Option<Made<'a>>, Error> {
+    fn is_valid(&self) -> bool {
+        self.kind == 2 || self.kind == 3
+    }
+
+    fn call<'a>(&self, alloc: Global, text: &'a [u8]) -> Result<Option<Made<'a>>, AllocError> {
         made(numbered::uri_text(alloc, self.kind, text))
     }
 }
@@ -65,9 +71,13 @@ struct Resolve<'a> {
 }
 
 impl<'b> Call for Resolve<'b> {
-    ghost result_of = { λ call text. result_ok (resolve_result call.kind call.base.now text) };
+    ghost definition = { λ call. resolving call.kind call.base.now };
 
-    fn call<'a>(&self, alloc: Global, text: &'a [u8]) -> Result<Option<Made<'a>>, Error> {
+    fn is_valid(&self) -> bool {
+        self.kind == 0 || self.kind == 2
+    }
+
+    fn call<'a>(&self, alloc: Global, text: &'a [u8]) -> Result<Option<Made<'a>>, AllocError> {
         made(numbered::target(alloc, self.kind, self.base, text))
     }
 }
@@ -80,9 +90,13 @@ struct ResolveNormalized<'a> {
 }
 
 impl<'b> Call for ResolveNormalized<'b> {
-    ghost result_of = { λ call text. result_ok (resolve_normalized_result call.kind call.base.now text) };
+    ghost definition = { λ call. resolving_normalized call.kind call.base.now };
 
-    fn call<'a>(&self, alloc: Global, text: &'a [u8]) -> Result<Option<Made<'a>>, Error> {
+    fn is_valid(&self) -> bool {
+        self.kind == 0 || self.kind == 2
+    }
+
+    fn call<'a>(&self, alloc: Global, text: &'a [u8]) -> Result<Option<Made<'a>>, AllocError> {
         made(numbered::normal_target(alloc, self.kind, self.base, text))
     }
 }
@@ -99,10 +113,8 @@ pub extern "C" fn fluent_uri_normalize_batch(
     valid: &mut [u8],
     outcome: &mut Outcome,
 ) -> u32
-    ensures { LeavesColumn ⟦<u32 as Offset>⟧.value ⟦<u32 as Offset>⟧.limit
-        (result_at ⟦<u32 as Offset>⟧.value
-        (λ text. result_ok (normalize_result kind text)) texts.now offsets.now)
-        (length offsets.now - 1) out.old out.new ends.old ends.new valid.old valid.new
+    ensures { LeavesColumn ⟦<u32 as Offset>⟧.value ⟦<u32 as Offset>⟧.limit (normalizing kind)
+        texts.now offsets.now out.old out.new ends.old ends.new valid.old valid.new
         outcome.new result }
 {
     let call = Normalize { kind };
@@ -121,10 +133,8 @@ pub extern "C" fn fluent_uri_to_uri_batch(
     valid: &mut [u8],
     outcome: &mut Outcome,
 ) -> u32
-    ensures { LeavesColumn ⟦<u32 as Offset>⟧.value ⟦<u32 as Offset>⟧.limit
-        (result_at ⟦<u32 as Offset>⟧.value
-        (λ text. result_ok (to_uri_result kind text)) texts.now offsets.now)
-        (length offsets.now - 1) out.old out.new ends.old ends.new valid.old valid.new
+    ensures { LeavesColumn ⟦<u32 as Offset>⟧.value ⟦<u32 as Offset>⟧.limit (converting kind)
+        texts.now offsets.now out.old out.new ends.old ends.new valid.old valid.new
         outcome.new result }
 {
     let call = ToUri { kind };
@@ -144,10 +154,8 @@ pub extern "C" fn fluent_uri_resolve_batch(
     valid: &mut [u8],
     outcome: &mut Outcome,
 ) -> u32
-    ensures { LeavesColumn ⟦<u32 as Offset>⟧.value ⟦<u32 as Offset>⟧.limit
-        (result_at ⟦<u32 as Offset>⟧.value
-        (λ text. result_ok (resolve_result kind base.now text)) texts.now offsets.now)
-        (length offsets.now - 1) out.old out.new ends.old ends.new valid.old valid.new
+    ensures { LeavesColumn ⟦<u32 as Offset>⟧.value ⟦<u32 as Offset>⟧.limit (resolving kind base.now)
+        texts.now offsets.now out.old out.new ends.old ends.new valid.old valid.new
         outcome.new result }
 {
     let call = Resolve { kind, base };
@@ -167,10 +175,8 @@ pub extern "C" fn fluent_uri_resolve_normalized_batch(
     valid: &mut [u8],
     outcome: &mut Outcome,
 ) -> u32
-    ensures { LeavesColumn ⟦<u32 as Offset>⟧.value ⟦<u32 as Offset>⟧.limit
-        (result_at ⟦<u32 as Offset>⟧.value
-        (λ text. result_ok (resolve_normalized_result kind base.now text)) texts.now offsets.now)
-        (length offsets.now - 1) out.old out.new ends.old ends.new valid.old valid.new
+    ensures { LeavesColumn ⟦<u32 as Offset>⟧.value ⟦<u32 as Offset>⟧.limit (resolving_normalized kind base.now)
+        texts.now offsets.now out.old out.new ends.old ends.new valid.old valid.new
         outcome.new result }
 {
     let call = ResolveNormalized { kind, base };
@@ -189,10 +195,8 @@ pub extern "C" fn fluent_uri_normalize_batch64(
     valid: &mut [u8],
     outcome: &mut Outcome,
 ) -> u32
-    ensures { LeavesColumn ⟦<u64 as Offset>⟧.value ⟦<u64 as Offset>⟧.limit
-        (result_at ⟦<u64 as Offset>⟧.value
-        (λ text. result_ok (normalize_result kind text)) texts.now offsets.now)
-        (length offsets.now - 1) out.old out.new ends.old ends.new valid.old valid.new
+    ensures { LeavesColumn ⟦<u64 as Offset>⟧.value ⟦<u64 as Offset>⟧.limit (normalizing kind)
+        texts.now offsets.now out.old out.new ends.old ends.new valid.old valid.new
         outcome.new result }
 {
     let call = Normalize { kind };
@@ -211,10 +215,8 @@ pub extern "C" fn fluent_uri_to_uri_batch64(
     valid: &mut [u8],
     outcome: &mut Outcome,
 ) -> u32
-    ensures { LeavesColumn ⟦<u64 as Offset>⟧.value ⟦<u64 as Offset>⟧.limit
-        (result_at ⟦<u64 as Offset>⟧.value
-        (λ text. result_ok (to_uri_result kind text)) texts.now offsets.now)
-        (length offsets.now - 1) out.old out.new ends.old ends.new valid.old valid.new
+    ensures { LeavesColumn ⟦<u64 as Offset>⟧.value ⟦<u64 as Offset>⟧.limit (converting kind)
+        texts.now offsets.now out.old out.new ends.old ends.new valid.old valid.new
         outcome.new result }
 {
     let call = ToUri { kind };
@@ -234,10 +236,8 @@ pub extern "C" fn fluent_uri_resolve_batch64(
     valid: &mut [u8],
     outcome: &mut Outcome,
 ) -> u32
-    ensures { LeavesColumn ⟦<u64 as Offset>⟧.value ⟦<u64 as Offset>⟧.limit
-        (result_at ⟦<u64 as Offset>⟧.value
-        (λ text. result_ok (resolve_result kind base.now text)) texts.now offsets.now)
-        (length offsets.now - 1) out.old out.new ends.old ends.new valid.old valid.new
+    ensures { LeavesColumn ⟦<u64 as Offset>⟧.value ⟦<u64 as Offset>⟧.limit (resolving kind base.now)
+        texts.now offsets.now out.old out.new ends.old ends.new valid.old valid.new
         outcome.new result }
 {
     let call = Resolve { kind, base };
@@ -257,10 +257,8 @@ pub extern "C" fn fluent_uri_resolve_normalized_batch64(
     valid: &mut [u8],
     outcome: &mut Outcome,
 ) -> u32
-    ensures { LeavesColumn ⟦<u64 as Offset>⟧.value ⟦<u64 as Offset>⟧.limit
-        (result_at ⟦<u64 as Offset>⟧.value
-        (λ text. result_ok (resolve_normalized_result kind base.now text)) texts.now offsets.now)
-        (length offsets.now - 1) out.old out.new ends.old ends.new valid.old valid.new
+    ensures { LeavesColumn ⟦<u64 as Offset>⟧.value ⟦<u64 as Offset>⟧.limit (resolving_normalized kind base.now)
+        texts.now offsets.now out.old out.new ends.old ends.new valid.old valid.new
         outcome.new result }
 {
     let call = ResolveNormalized { kind, base };

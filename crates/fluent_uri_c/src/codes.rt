@@ -15,7 +15,7 @@ use fluent_uri::pct_enc::encoder::{
 use fluent_uri::pct_enc::{CowSlice, EStr, EString};
 use std::alloc::Global;
 
-/// Returns the bytes that a component stands for which the encoder's set spells.
+/// Returns the bytes that a component of the encoder's set stands for.
 fn decoded_as<'a, E: Encoder>(alloc: Global, bytes: &'a [u8]) -> Result<CowSlice<'a, u8>, Rejection>
     requires { IsTrue (E.set).pct_encoded }
     ensures { IsReturnedAs cow_items (decoded_result E.set bytes.now) result }

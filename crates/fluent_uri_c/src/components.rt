@@ -1,21 +1,21 @@
 //! The batch that writes a component of each text.
-ghost use Rattle.std.specs.Prelude.{◌≡◌, ◌-◌, Some, length, option_copied};
+ghost use Rattle.std.specs.Prelude.{◌≡◌, Some, option_copied};
 ghost use Rattle.fluent_uri.specs.AuthorityTexts.{authority_text};
 ghost use Rattle.fluent_uri.specs.References.{reference_text};
-ghost use Rattle.fluent_uri_c.specs.Columns.{LeavesColumn, result_at};
+ghost use Rattle.fluent_uri_c.specs.Columns.{LeavesColumn};
+ghost use Rattle.fluent_uri_c.specs.Components.{authority_part, component_numbered};
+ghost use Rattle.fluent_uri_c.specs.Components.{component_result};
 ghost use Rattle.fluent_uri_c.specs.Kinds.{kind_numbered};
-ghost use Rattle.fluent_uri_c.specs.PartColumns.{authority_part, component_numbered};
-ghost use Rattle.fluent_uri_c.specs.PartColumns.{component_result};
+ghost use Rattle.fluent_uri_c.specs.SingleCalls.{taking_component};
 
 use crate::batch::{Call, Made, column};
 use crate::columns::Offset;
-use crate::errors::Error;
 use crate::outcome::Outcome;
 use crate::texts::parsed;
 use fluent_uri::Reference;
 use fluent_uri::component::Authority;
 use fluent_uri::pct_enc::Encoder;
-use std::alloc::Global;
+use std::alloc::{AllocError, Global};
 use uri_parts::kind::{IriKind, IriRefKind, Kind, UriKind, UriRefKind};
 
 /// Returns a part of an authority, or the whole of it.
@@ -101,13 +101,13 @@ struct Component {
 }
 
 impl Call for Component {
-    ghost result_of = { λ call text.
-        component_result (kind_numbered call.kind) call.component text };
+    ghost definition = { λ call. taking_component call.kind call.component };
 
-    fn call<'a>(&self, _alloc: Global, text: &'a [u8]) -> Result<Option<Made<'a>>, Error> {
-        if self.kind > 3 || self.component > 7 {
-            return Err(Error::InvalidArgument);
-        }
+    fn is_valid(&self) -> bool {
+        self.kind <= 3 && self.component < 8
+    }
+
+    fn call<'a>(&self, _alloc: Global, text: &'a [u8]) -> Result<Option<Made<'a>>, AllocError> {
         match component_of(self.kind, self.component, text) {
             Some(part) => Ok(Some(Made::Part(part))),
             None => Ok(None),
@@ -129,10 +129,8 @@ pub extern "C" fn fluent_uri_component_batch(
     outcome: &mut Outcome,
 ) -> u32
     ensures { LeavesColumn ⟦<u32 as Offset>⟧.value ⟦<u32 as Offset>⟧.limit
-        (result_at ⟦<u32 as Offset>⟧.value
-        (component_result (kind_numbered kind) component) texts.now offsets.now)
-        (length offsets.now - 1) out.old out.new ends.old ends.new valid.old valid.new
-        outcome.new result }
+        (taking_component kind component) texts.now offsets.now out.old out.new
+        ends.old ends.new valid.old valid.new outcome.new result }
 {
     let call = Component { kind, component };
     column(alloc, &call, texts, offsets, out, ends, valid, outcome)

@@ -1,5 +1,5 @@
 //! Why a call rejects its arguments.
-ghost use Rattle.std.specs.Prelude.{◌≡◌, ◌≢◌};
+ghost use Rattle.std.specs.Prelude.{◌≡◌, ◌≢◌, ◌≤◌};
 ghost use Rattle.fluent_uri_c.specs.Errors.{number_of, in_reference, rejected};
 
 use fluent_uri::resolve::ResolveError;
@@ -22,10 +22,11 @@ pub enum Error {
 }
 
 impl Error {
-    /// Returns its number in the header, which is not 0.
+    /// Returns its number in the header, from 1 to 10.
     pub fn number(self) -> u32
         ensures number { result ≡ number_of self }
         ensures error { result ≢ 0 }
+        ensures small { result ≤ 10 }
     {
         match self {
             Error::InvalidPctEncodedOctet => 1,

@@ -1,63 +1,92 @@
 //! The batch over lines.
-ghost use Rattle.std.specs.Prelude.{◌<◌, ◌≤◌, length, IfSome};
+ghost use Rattle.std.specs.Prelude.{◌≡◌, ◌+◌, ◌<◌, ◌≤◌, ◌++◌, [], ◌∷◌, length, drop, take};
+ghost use Rattle.std.specs.Prelude.{IfNone, IfOk, IfSome, OnSome, string_bytes};
+ghost use Rattle.std.specs.List.{position, position_or_len};
+ghost use Rattle.std.specs.Result.{result_ok};
+ghost use Rattle.fluent_uri_c.specs.Columns.{bytes_of};
+ghost use Rattle.fluent_uri_c.specs.Lines.{LeavesLines, is_newline, newline, number_returned};
+ghost use Rattle.fluent_uri_c.specs.Results.{normalize_result};
 
 use crate::batch::ended;
 use crate::errors::Error;
 use crate::numbered;
 use crate::outcome::Outcome;
-use std::alloc::Global;
+use std::alloc::{AllocError, Global};
+
+/// Returns where the first newline is, if there is one.
+fn newline_in(bytes: &[u8]) -> Option<usize>
+    ensures { result ≡ position is_newline bytes.now }
+{
+    bytes.iter().position(|byte| *byte == b'\n')
+}
 
 /// Returns where the line ends that begins at a position.
 fn line_end(lines: &[u8], start: usize) -> usize
     requires { start ≤ length lines.now }
+    ensures end { result ≡ start + position_or_len is_newline (drop start lines.now) }
     ensures starts { start ≤ result }
     ensures inside { result ≤ length lines.now }
 {
-    for end in start..lines.len() {
-        if lines[end] == b'\n' {
-            return end;
-        }
+    match newline_in(&lines[start..]) {
+        Some(length) => start + length,
+        None => lines.len(),
     }
-    lines.len()
+}
+
+/// Writes bytes at a position.
+fn write_at(bytes: &[u8], at: usize, out: &mut [u8])
+    requires { at + length bytes.now ≤ length out.old }
+    ensures { out.new ≡ take at out.old ++ (bytes.now ++ drop (at + length bytes.now) out.old) }
+{
+    out[at..at + bytes.len()].copy_from_slice(bytes);
 }
 
 /// Writes bytes and a newline at a position, if they fit there, and returns where they end.
 fn push_line(bytes: &[u8], at: usize, out: &mut [u8]) -> Option<usize>
-    ensures { IfSome result (λ end. end ≤ length out.new) }
+    requires { at ≤ length out.old }
+    ensures end { IfSome result (λ end. end ≡ at + length (bytes.now ++ newline ∷ [])) }
+    ensures inside { IfSome result (λ end. end ≤ length out.new) }
+    ensures written { OnSome result (out.new ≡ take at out.old ++ ((bytes.now ++ newline ∷ [])
+        ++ drop (at + length (bytes.now ++ newline ∷ [])) out.old)) }
+    ensures full { IfNone result (length out.old < at + length (bytes.now ++ newline ∷ [])) }
+    ensures kept { IfNone result (out.new ≡ out.old) }
 {
     let newline = at.checked_add(bytes.len())?;
     if newline >= out.len() {
         return None;
     }
-    out[at..newline].copy_from_slice(bytes);
-    out[newline] = b'\n';
+    write_at(bytes, at, out);
+    write_at(b"\n", newline, out);
     Some(newline + 1)
 }
 
-/// Writes the normal form of a line, or an empty one where the text is rejected, and returns where
-/// it ends and the number of the error; or the number of an error that ends the batch.
-fn normalize_line(
-    alloc: Global,
-    kind: u32,
-    line: &[u8],
-    at: usize,
-    out: &mut [u8],
-) -> Result<(usize, u32), Error> {
-    let (end, number) = match numbered::normal_form(alloc, kind, line) {
-        Ok(normal) => (push_line(normal.as_bytes(), at, out), 0),
+/// A line in normal form, which is empty where the text is rejected, and the number of its error.
+#[derive(Drop)]
+struct Line {
+    text: String,
+    number: u8,
+}
+
+/// Normalises a line.
+fn normal_line(alloc: Global, kind: u32, text: &[u8]) -> Result<Line, AllocError>
+    ensures text { IfOk result (λ line. string_bytes line.text
+        ≡ bytes_of (result_ok (normalize_result kind text.now))) }
+    ensures number { IfOk result (λ line. line.number
+        ≡ number_returned (normalize_result kind text.now)) }
+{
+    match numbered::normal_form(alloc, kind, text) {
+        Ok(text) => Ok(Line { text, number: 0 }),
         Err(why) => match why.error {
-            Error::OutOfMemory => return Err(Error::OutOfMemory),
-            Error::InvalidArgument => return Err(Error::InvalidArgument),
-            error => (push_line(b"", at, out), error.number()),
+            Error::OutOfMemory => Err(AllocError),
+            error => Ok(Line {
+                text: String::new(alloc),
+                number: error.number() as u8,
+            }),
         },
-    };
-    match end {
-        Some(end) => Ok((end, number)),
-        None => Err(Error::Full),
     }
 }
 
-/// Writes the normal form of each line, with a newline behind each. The line of a text that is
+/// Writes the normal form of each line, with a newline after each. The line of a text that is
 /// rejected is empty, and `errors` has the number of its error.
 #[unsafe(no_mangle)]
 pub extern "C" fn fluent_uri_normalize_lines(
@@ -67,18 +96,25 @@ pub extern "C" fn fluent_uri_normalize_lines(
     out: &mut [u8],
     errors: &mut [u8],
     outcome: &mut Outcome,
-) -> u32 {
+) -> u32
+    ensures { LeavesLines kind lines.now out.old out.new errors.old errors.new
+        outcome.new result }
+{
+    if kind > 3 {
+        return ended(9, 0, 0, outcome);
+    }
     let mut at = 0usize;
     let mut start = 0usize;
     for index in 0..errors.len() {
         let end = line_end(lines, start);
-        match normalize_line(alloc, kind, &lines[start..end], at, out) {
-            Ok((next, number)) => {
-                at = next;
-                errors[index] = (number & 0xff) as u8;
-            }
-            Err(error) => return ended(error.number(), index, at, outcome),
-        }
+        let Ok(line) = normal_line(alloc, kind, &lines[start..end]) else {
+            return ended(8, index, at, outcome);
+        };
+        let Some(next) = push_line(line.text.as_bytes(), at, out) else {
+            return ended(10, index, at, outcome);
+        };
+        errors[index] = line.number;
+        at = next;
         if end == lines.len() {
             return ended(0, index + 1, at, outcome);
         }

@@ -1,12 +1,12 @@
 //! What a call leaves in its caller's memory.
-ghost use Rattle.std.specs.Prelude.{◌≡◌, length};
-ghost use Rattle.fluent_uri_c.specs.Outcomes.{Leaves, outcome_of, written};
+ghost use Rattle.std.specs.Prelude.{◌≡◌};
+ghost use Rattle.fluent_uri_c.specs.Outcomes.{Leaves, outcome_of, outcome_of_text, written};
 ghost use Rattle.fluent_uri_c.specs.Errors.{number_of};
 ghost use Rattle.fluent_uri_c.specs.Results.{IsReturned, Returned};
 
 use crate::errors::Rejection;
 
-/// What a call tells: an error, or 0; which of two texts is rejected; where in it; and the length
+/// What a call reports: an error, or 0; which of two texts is rejected; where in it; and the length
 /// of the text that it returns.
 #[repr(C)]
 pub struct Outcome {
@@ -16,8 +16,8 @@ pub struct Outcome {
     pub length: usize,
 }
 
-/// Tells an error, and returns its number.
-pub fn tell(why: Rejection, outcome: &mut Outcome) -> u32
+/// Reports an error, and returns its number.
+pub fn report(why: Rejection, outcome: &mut Outcome) -> u32
     ensures number { result ≡ number_of why.error }
     ensures outcome { outcome.new ≡ outcome_of why }
 {
@@ -28,10 +28,9 @@ pub fn tell(why: Rejection, outcome: &mut Outcome) -> u32
     outcome.error
 }
 
-/// Tells the length of a text, and writes it to the buffer if that is long enough.
+/// Reports the length of a text, and writes it to the buffer if that is long enough.
 pub fn put(text: &[u8], out: &mut [u8], outcome: &mut Outcome)
-    ensures outcome { outcome.new
-        ≡ record { error = 0; which = 0; index = 0; length = length text.now } }
+    ensures outcome { outcome.new ≡ outcome_of_text text.now }
     ensures written { out.new ≡ written text.now out.old }
 {
     outcome.error = 0;
@@ -43,7 +42,7 @@ pub fn put(text: &[u8], out: &mut [u8], outcome: &mut Outcome)
     }
 }
 
-/// Writes the text, or tells why there is none.
+/// Writes the text, or reports why there is none.
 pub fn leave(made: Result<String, Rejection>, out: &mut [u8], outcome: &mut Outcome) -> u32
     ensures { (returned : Returned) → IsReturned returned made
         → Leaves returned out.old out.new outcome.new result }
@@ -53,6 +52,6 @@ pub fn leave(made: Result<String, Rejection>, out: &mut [u8], outcome: &mut Outc
             put(text.as_bytes(), out, outcome);
             0
         }
-        Err(why) => tell(why, outcome),
+        Err(why) => report(why, outcome),
     }
 }

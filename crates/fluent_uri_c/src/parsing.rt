@@ -1,5 +1,4 @@
-//! The batches that take no memory: the parts of each text of a column, or one of its components.
-ghost use Rattle.std.specs.Prelude.{◌-◌, length};
+//! The batch that parses each text of a column.
 ghost use Rattle.fluent_uri_c.specs.Kinds.{kind_numbered};
 ghost use Rattle.fluent_uri_c.specs.PartColumns.{LeavesParts};
 
@@ -20,6 +19,9 @@ pub extern "C" fn fluent_uri_parse_batch(
     ensures { LeavesParts ⟦<u32 as Offset>⟧.value (kind_numbered kind) texts.now offsets.now
         parts.old parts.new outcome.new result }
 {
+    if kind > 3 {
+        return ended(9, 0, 0, outcome);
+    }
     let count = offsets.len().saturating_sub(1);
     if parts.len() < count {
         return ended(10, 0, 0, outcome);

@@ -1,4 +1,4 @@
-//! Where the components of a text lie.
+//! Where the components of a text are.
 ghost use Rattle.std.specs.Prelude.{◌≡◌, Some};
 ghost use Rattle.fluent_uri.specs.Components.{components};
 ghost use Rattle.fluent_uri.specs.Grammar.{IsOfKind};
@@ -16,7 +16,7 @@ use fluent_uri::{Reference, RiMaybeRef};
 use uri_parts::kind::{IriKind, IriRefKind, Kind, UriKind, UriRefKind};
 use uri_parts::positions::Positions;
 
-/// Where a component lies in its text, in bytes. One that is absent has `usize::MAX` for both.
+/// Where a component is in its text, in bytes. One that is absent has `usize::MAX` for both.
 #[repr(C)]
 #[derive(Clone, Copy)]
 pub struct Span {
@@ -24,7 +24,7 @@ pub struct Span {
     pub end: usize,
 }
 
-/// Where the components of a text lie, or why it is rejected and where.
+/// Where the components of a text are, or why it is rejected and where.
 #[repr(C)]
 #[derive(Clone, Copy)]
 pub struct Parts {

@@ -7,15 +7,15 @@ ghost use Rattle.fluent_uri_c.specs.Results.{resolve_normalized_result, resolve_
 ghost use Rattle.fluent_uri_c.specs.Results.{to_uri_result};
 ghost use Rattle.fluent_uri_c.specs.Spans.{ArePartsOf};
 
-use crate::outcome::{Outcome, leave, put, tell};
+use crate::outcome::{Outcome, leave, put, report};
 use crate::parts::{Parts, parts_of_bytes};
 use crate::{codes, numbered};
 use std::alloc::Global;
 
-/// Parses a text as the kind, and tells where its components lie. Takes no memory.
+/// Parses a text as the kind, and reports where its components are. Takes no memory.
 #[unsafe(no_mangle)]
 pub extern "C" fn fluent_uri_parse(kind: u32, text: &[u8], parts: &mut Parts) -> u32
-    ensures told { parts.new.error ≡ result }
+    ensures error { parts.new.error ≡ result }
     ensures parts { ArePartsOf (kind_numbered kind) text.now parts.new }
 {
     *parts = parts_of_bytes(kind, text);
@@ -102,7 +102,7 @@ pub extern "C" fn fluent_uri_decode(
             put(bytes.as_slice(), out, outcome);
             0
         }
-        Err(why) => tell(why, outcome),
+        Err(why) => report(why, outcome),
     }
 }
 

@@ -195,7 +195,7 @@ def decode(text: str, component: Component = Component.PATH) -> bytes:
     Raises `ParseError` if the component may not hold the text.
     """
     data = utf8_of(text)
-    return _native.answer(_native.decode, int(component), data, len(data))
+    return _native.result(_native.decode, int(component), data, len(data))
 
 
 def encode(data: Union[str, bytes], component: Component = Component.DATA) -> str:
@@ -208,4 +208,4 @@ def encode(data: Union[str, bytes], component: Component = Component.DATA) -> st
     'a%20b/%C3%A9'
     """
     data = data.encode() if isinstance(data, str) else bytes(data)
-    return _native.answer(_native.encode, int(component), data, len(data)).decode()
+    return _native.result(_native.encode, int(component), data, len(data)).decode()

@@ -1,7 +1,7 @@
 /* A text of a kind, compiled: the base of the four kinds, and calls for many texts, over the shared
  * library that `open` is given. One file serves each Python from 3.8 on. `_reference.py` does the
  * same by ctypes. */
-#include "_answers.h"
+#include "_results.h"
 #include <dlfcn.h>
 #include <stddef.h>
 
@@ -52,7 +52,7 @@ static PyObject *parsed(PyObject *cls, int kind, PyObject *given, int lax) {
     if (utf8_of(text, &utf8) == 0) {
         uint32_t error = parse_text((uint32_t)kind, utf8.at, (size_t)utf8.size, &parts);
         if (error) {
-            made = refused(lax, error, parts.index, &utf8);
+            made = rejected(lax, error, parts.index, &utf8);
         } else {
             Py_INCREF(text);
             made = value_of(cls, text, (size_t)utf8.size);
@@ -117,15 +117,15 @@ static PyObject *host_kind(PyObject *object, void *unused) {
     return PyLong_FromUnsignedLong(self->parts.host_kind);
 }
 
-/* A value of the class whose text is what the call answers. */
-static PyObject *value_answered(PyObject *cls, const Call *it, PyObject *self,
-                                PyObject *reference) {
+/* A value of the class whose text is the call's result. */
+static PyObject *value_result_of(PyObject *cls, const Call *it, PyObject *self,
+                                 PyObject *reference) {
     Utf8 first, second = {0};
     size_t size;
     PyObject *text = ((Reference *)self)->text;
     PyObject *same = cls == (PyObject *)Py_TYPE(self) && it->one ? text : NULL;
     if (utf8_of(text, &first) < 0 || (reference && utf8_of(reference, &second) < 0)) return NULL;
-    PyObject *made = answered(it, &first, reference ? &second : NULL, same, 0, &size);
+    PyObject *made = result_of(it, &first, reference ? &second : NULL, same, 0, &size);
     Py_XDECREF(second.held);
     if (made && made == same) {
         Py_DECREF(made);
@@ -140,13 +140,13 @@ static PyObject *reference_normalize(PyObject *self, PyObject *unused) {
     int kind = kind_of(cls);
     (void)unused;
     if (kind < 0) return NULL;
-    return value_answered(cls, &(Call){(uint32_t)kind, normalize_text, NULL}, self, NULL);
+    return value_result_of(cls, &(Call){(uint32_t)kind, normalize_text, NULL}, self, NULL);
 }
 
 static PyObject *reference_to_uri(PyObject *self, PyObject *made_of) {
     int kind = kind_of((PyObject *)Py_TYPE(self));
     if (kind < 0 || kind_of(made_of) < 0) return NULL;
-    return value_answered(made_of, &(Call){(uint32_t)kind, to_uri_text, NULL}, self, NULL);
+    return value_result_of(made_of, &(Call){(uint32_t)kind, to_uri_text, NULL}, self, NULL);
 }
 
 static PyObject *reference_resolve(PyObject *self, PyObject *words) {
@@ -154,7 +154,7 @@ static PyObject *reference_resolve(PyObject *self, PyObject *words) {
     int kind = kind_of(cls), normalizes;
     if (kind < 0 || !PyArg_ParseTuple(words, "Up", &reference, &normalizes)) return NULL;
     pair_call *two = normalizes ? resolve_normalized_text : resolve_text;
-    return value_answered(cls, &(Call){(uint32_t)kind, NULL, two}, self, reference);
+    return value_result_of(cls, &(Call){(uint32_t)kind, NULL, two}, self, reference);
 }
 
 static PyObject *reference_str(PyObject *self) {
@@ -264,7 +264,8 @@ static PyObject *normal_or_none(PyObject *cls, int kind, PyObject *given) {
     (void)cls;
     if (!text) return NULL;
     if (utf8_of(text, &utf8) == 0)
-        made = answered(&(Call){(uint32_t)kind, normalize_text, NULL}, &utf8, NULL, text, 1, &size);
+        made =
+            result_of(&(Call){(uint32_t)kind, normalize_text, NULL}, &utf8, NULL, text, 1, &size);
     Py_XDECREF(utf8.held);
     Py_DECREF(text);
     return made;

@@ -72,19 +72,19 @@ NUMBER, SIZE = ctypes.c_uint32, ctypes.c_size_t
 BYTES, OUT = ctypes.c_char_p, ctypes.c_void_p
 _TEXT = (BYTES, SIZE)
 _BUFFER = (OUT, SIZE)
-_ANSWER = (*_BUFFER, OUT)
+_RESULT = (*_BUFFER, OUT)
 # Data and offsets in; data, offsets, validity and outcome out.
 _COLUMN = (*_BUFFER, *_BUFFER, *_BUFFER, *_BUFFER, *_BUFFER, OUT)
 
 FUNCTIONS: Dict[str, Tuple[Any, ...]] = {
     "parse": (NUMBER, *_TEXT, OUT),
-    "normalize": (NUMBER, *_TEXT, *_ANSWER),
-    "resolve": (NUMBER, *_TEXT, *_TEXT, *_ANSWER),
-    "resolve_normalized": (NUMBER, *_TEXT, *_TEXT, *_ANSWER),
-    "to_uri": (NUMBER, *_TEXT, *_ANSWER),
-    "decode": (NUMBER, *_TEXT, *_ANSWER),
-    "encode": (NUMBER, *_TEXT, *_ANSWER),
-    "parse_batch": (NUMBER, *_BUFFER, *_BUFFER, *_BUFFER, OUT),
+    "normalize": (NUMBER, *_TEXT, *_RESULT),
+    "resolve": (NUMBER, *_TEXT, *_TEXT, *_RESULT),
+    "resolve_normalized": (NUMBER, *_TEXT, *_TEXT, *_RESULT),
+    "to_uri": (NUMBER, *_TEXT, *_RESULT),
+    "decode": (NUMBER, *_TEXT, *_RESULT),
+    "encode": (NUMBER, *_TEXT, *_RESULT),
+    "component_batch": (NUMBER, NUMBER, *_COLUMN),
     "normalize_batch": (NUMBER, *_COLUMN),
     "normalize_batch64": (NUMBER, *_COLUMN),
     "to_uri_batch": (NUMBER, *_COLUMN),

@@ -1,4 +1,4 @@
-"""The shared library: where it is, its functions by ctypes, and how an answer is fetched."""
+"""The shared library: where it is, its functions by ctypes, and how a result is fetched."""
 
 from __future__ import annotations
 
@@ -50,7 +50,7 @@ encode = function("encode")
 
 
 class _Room:
-    """Memory for an answer and its outcome."""
+    """Memory for a result and its outcome."""
 
     __slots__ = ("size", "memory", "address", "view", "outcome", "outcome_address")
 
@@ -69,8 +69,8 @@ _rooms: List[_Room] = []
 _LARGEST_KEPT = 65536
 
 
-def answer(call: Callable[..., Any], *words: Any) -> bytes:
-    """The bytes that a call answers. `words` are what comes before the buffer, of which the last
+def result(call: Callable[..., Any], *words: Any) -> bytes:
+    """The bytes of a call's result. `words` are what comes before the buffer, of which the last
     two are the text that an error is about, and its length."""
     try:
         room = _rooms.pop()

@@ -137,17 +137,17 @@ class Reference:
     def normalize(self: Self) -> Self:
         """Returns the normal form (RFC 3986, section 6.2.2)."""
         data = self._utf8()
-        made = _native.answer(_native.normalize, self._kind, data, len(data))
+        made = _native.result(_native.normalize, self._kind, data, len(data))
         return self if made == data else self._of(made)
 
     def _resolve(self: Self, reference: str, normalize: bool) -> Self:
         call = _native.resolve_normalized if normalize else _native.resolve
         base, data = self._utf8(), utf8_of(reference)
-        return self._of(_native.answer(call, self._kind, base, len(base), data, len(data)))
+        return self._of(_native.result(call, self._kind, base, len(base), data, len(data)))
 
     def _to_uri(self, made_of: Type[Self]) -> Self:
         data = self._utf8()
-        return made_of._of(_native.answer(_native.to_uri, self._kind, data, len(data)))
+        return made_of._of(_native.result(_native.to_uri, self._kind, data, len(data)))
 
     def __str__(self) -> str:
         return self._text
@@ -188,7 +188,7 @@ class Reference:
 
 
 def register(kind: int, cls: Type[Any]) -> None:
-    """Does nothing: here a class tells its kind itself."""
+    """Does nothing: here a class has its kind itself."""
 
 
 def _exact(text: Any) -> str:

@@ -37,12 +37,13 @@ from typing import (
 
 from fluent_uri import Iri, IriRef, Uri, UriRef, _calls, _native
 from fluent_uri._buffers import Buffer
-from fluent_uri._declarations import ERRORS, Outcome
+from fluent_uri._declarations import COMPONENTS, ERRORS, Outcome
 from fluent_uri._errors import error_of, utf8_of
 
 __all__ = [
     "Column",
     "column",
+    "component",
     "component_column",
     "normalize",
     "normalize_column",
@@ -58,10 +59,8 @@ _FULL, _INVALID = ERRORS["FULL"], ERRORS["INVALID_ARGUMENT"]
 # By the size of an offset in bytes: its code for `array`, and the end of a function's name.
 _CODES, _SUFFIXES = {4: "I", 8: "Q"}, {4: "_batch", 8: "_batch64"}
 _LARGEST_OFFSET = 2**31 - 1
-# What the parser writes of a text is so many numbers of 64 bits, with a component's start here.
-_NUMBERS, _ABSENT = 18, 2**64 - 1
-_NAMES = ["scheme", "authority", "userinfo", "host", "port", "path", "query", "fragment"]
-_STARTS = {name: 2 + 2 * at for at, name in enumerate(_NAMES)}
+# The components that a text has, by their names; `DATA` is for encoding alone.
+_COMPONENTS = {name.lower(): it for name, it in COMPONENTS.items() if name != "DATA"}
 
 
 class Column(NamedTuple):
@@ -103,6 +102,18 @@ def resolve(
 ) -> List[Optional[str]]:
     """Returns the target of each reference against a base, or None where there is none."""
     return resolve_column(base, *column(references), normalize=normalize).texts()
+
+
+def component(
+    texts: Iterable[str], component: str, kind: _AnyKind = Uri
+) -> List[Optional[str]]:
+    """Returns a component of each text, by its name, or None where the text has no such component
+    or is not of the kind.
+
+    >>> component(["http://a/b?c", "x:", "no"], "path")
+    ['/b', '', None]
+    """
+    return component_column(*column(texts), component, kind).texts()
 
 
 def column(texts: Iterable[str]) -> Tuple[bytes, Any]:
@@ -157,22 +168,11 @@ def component_column(
 ) -> Column:
     """Returns a component of each text of a column, by its name, as `normalize_column` does, with
     no text where the component is absent. Its offsets are of 32 bits."""
+    number = _COMPONENTS[component]
     texts = _Texts(data, offsets, validity, False)
     if texts.width != 4:
         raise ValueError("component_column takes offsets of 32 bits")
-    place = _STARTS[component]
-    numbers = texts.parts(kind._kind)
-    starts, ends = numbers[place::_NUMBERS], numbers[place + 1 :: _NUMBERS]
-    view, firsts = memoryview(data).cast("B"), memoryview(offsets).cast("B").cast("I")
-    valid, found = bytearray((texts.count + 7) // 8), []
-    for at, (first, start, end) in enumerate(zip(firsts, starts, ends)):
-        if start == _ABSENT:
-            found.append(b"")
-        else:
-            found.append(view[first + start : first + end])
-            valid[at >> 3] |= 1 << (at & 7)
-    made = array("I", accumulate(map(len, found), initial=0))
-    return texts.column(memoryview(b"".join(found)), made, valid)
+    return texts.done("component", (kind._kind, number), lambda size, _: size)
 
 
 class _Texts:
@@ -189,7 +189,7 @@ class _Texts:
     def done(
         self, name: str, words: Tuple[Any, ...], room: Callable[[int, int], int]
     ) -> Column:
-        """What a call makes of the texts. It gets the room that its answers are expected to need,
+        """What a call makes of the texts. It gets the room that its results are expected to need,
         and is made again with twice as much while that is too little."""
         call = _native.function(name + _SUFFIXES[self.width], lets_others_run=True)
         size = room(memoryview(self.data).nbytes, self.count)
@@ -204,7 +204,7 @@ class _Texts:
     def _tried(
         self, call: Callable[..., Any], words: Tuple[Any, ...], room: int
     ) -> Optional[Column]:
-        """What the call makes of the texts, or None if its answers need more room."""
+        """What the call makes of the texts, or None if its results need more room."""
         out = bytearray(room)
         ends = array(_CODES[self.width], bytes(self.width * (self.count + 1)))
         valid = bytearray((self.count + 7) // 8)
@@ -228,25 +228,6 @@ class _Texts:
             return None
         _raise(error, outcome.index)
         return self.column(memoryview(out)[: outcome.length], ends, valid)
-
-    def parts(self, kind: int) -> Any:
-        """What the parser writes of each text: _NUMBERS numbers, of which the first two are errors
-        and kinds of hosts, and the others the spans."""
-        call = _native.function("parse_batch", lets_others_run=True)
-        parts, outcome = array("Q", bytes(8 * _NUMBERS * self.count)), Outcome()
-        with ExitStack() as held:
-            data = held.enter_context(Buffer(self.data))
-            offsets = held.enter_context(Buffer(self.offsets, align=4))
-            written = held.enter_context(Buffer(parts, written=True))
-            error = call(
-                kind,
-                *(data.address, data.size),
-                *(offsets.address, self.count + 1 if offsets.size else 0),
-                *(written.address, self.count),
-                addressof(outcome),
-            )
-        _raise(error, outcome.index)
-        return parts
 
     def column(self, data: memoryview, ends: Any, valid: bytearray) -> Column:
         """The column of a result, of which what `validity` leaves out is left out."""

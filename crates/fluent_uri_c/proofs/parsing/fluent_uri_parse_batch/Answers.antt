@@ -1,6 +1,7 @@
 use Rattle.std.proofs.Common.{ℕ, ◌+◌, ◌<◌, length, refl, rules}
 use Rattle.fluent_uri_c.specs.Kinds.{kind_numbered}
-use Rattle.fluent_uri_c.proofs.PartColumns.{others_step, parts_step}
+use Rattle.fluent_uri_c.proofs.Batches.{others_step}
+use Rattle.fluent_uri_c.proofs.PartColumns.{parts_step}
 use Rattle.fluent_uri_c.proofs.parsing.fluent_uri_parse_batch.Goals as goal
 
 pub loop-index-preserved : goal.loop-index-preserved

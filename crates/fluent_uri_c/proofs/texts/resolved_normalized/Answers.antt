@@ -5,7 +5,7 @@ use Rattle.uri_ops.specs.Resolving.{IsRefusalFor}
 use Rattle.uri_parts.specs.Components.{components}
 use Rattle.uri_parts.specs.SchemePorts.{default_port}
 use Rattle.fluent_uri.specs.References.{reference_text}
-use Rattle.fluent_uri_c.proofs.Targets.{normal_resolved_is, normal_refused_is, refused_as}
+use Rattle.fluent_uri_c.proofs.Targets.{normal_resolved_is, normal_error_is, error_as}
 use Rattle.fluent_uri_c.proofs.texts.resolved_normalized.Goals as goal
 
 pub returns-in-Ok : goal.returns-in-Ok
@@ -20,7 +20,7 @@ returns-in-Ok g c =
 pub returns-in-Err : goal.returns-in-Err
 returns-in-Err g c =
     let same = ap reference_text c.with_base-resolver.ensures.base in
-    refused_as _ _ c.in-Err.error c.from.ensures (normal_refused_is _ _ _ _
+    error_as _ _ c.in-Err.error c.from.ensures (normal_error_is _ _ _ _
     (subst (λ (b : List ℕ). IsRefusalFor (components b)
     (components (reference_text c.args.reference.now)) c.in-Err.error) same
     c.in-Err.ensures.refusal.refusal))

@@ -1,6 +1,6 @@
-/* The functions of the shared library, and how a text is handed to them and an answer fetched. */
-#ifndef FLUENT_URI_ANSWERS_H
-#define FLUENT_URI_ANSWERS_H
+/* The functions of the shared library, and how a text is passed to them and a result fetched. */
+#ifndef FLUENT_URI_RESULTS_H
+#define FLUENT_URI_RESULTS_H
 
 /* The stable interface of Python 3.8. */
 #define Py_LIMITED_API 0x03080000
@@ -12,7 +12,7 @@
 /* Python has it from 3.3 on, and declares it of the stable interface only from 3.10 on. */
 PyAPI_FUNC(const char *) PyUnicode_AsUTF8AndSize(PyObject *, Py_ssize_t *);
 
-/* Bytes of an answer that need no memory of their own. */
+/* Bytes of a result that need no memory of their own. */
 #define ROOM 2048
 
 typedef uint32_t parse_call(uint32_t, const uint8_t *, size_t, fluent_uri_parts *);
@@ -61,14 +61,14 @@ static PyObject *exact(PyObject *text) {
 }
 
 /* Where what was asked for is of a text that is not of the kind: None if `lax`, else the error. */
-static PyObject *refused(int lax, uint32_t number, size_t index, const Utf8 *utf8) {
+static PyObject *rejected(int lax, uint32_t number, size_t index, const Utf8 *utf8) {
     if (!lax || number == FLUENT_URI_OUT_OF_MEMORY)
         return raised(number, index, utf8->at, utf8->size);
     Py_INCREF(Py_None);
     return Py_None;
 }
 
-/* What a call answers of a text, and of a second one where it takes two. */
+/* A call on a text, and on a second one where it takes two. */
 typedef struct {
     uint32_t kind;
     text_call *one;
@@ -83,9 +83,9 @@ static uint32_t call(const Call *it, const Utf8 *first, const Utf8 *second, uint
                    outcome);
 }
 
-/* The answer as a str, with its size in UTF-8: `same` itself where it is equal to that. */
-static PyObject *answered(const Call *it, const Utf8 *first, const Utf8 *second, PyObject *same,
-                          int lax, size_t *size) {
+/* The result as a str, with its size in UTF-8: `same` itself where it is equal to that. */
+static PyObject *result_of(const Call *it, const Utf8 *first, const Utf8 *second, PyObject *same,
+                           int lax, size_t *size) {
     uint8_t room[ROOM], *out = room;
     fluent_uri_outcome outcome;
     PyObject *made = NULL;
@@ -98,7 +98,7 @@ static PyObject *answered(const Call *it, const Utf8 *first, const Utf8 *second,
     }
     *size = outcome.length;
     if (error) {
-        made = refused(lax, error, outcome.index, second ? second : first);
+        made = rejected(lax, error, outcome.index, second ? second : first);
     } else if (same && outcome.length == (size_t)first->size &&
                memcmp(out, first->at, outcome.length) == 0) {
         Py_INCREF(same);

@@ -1,0 +1,50 @@
+-- The call on one text that a batch makes for each text of a column.
+use Rattle.std.specs.Prelude.{ℕ, List, Option, Bool, true, false, ◌&&◌, nat_lt, is_some}
+use Rattle.std.specs.Result.{result_ok}
+use Rattle.fluent_uri_c.specs.Kinds.{kind_numbered, base_numbered, iri_numbered}
+use Rattle.fluent_uri_c.specs.Components.{component_result}
+use Rattle.fluent_uri_c.specs.Results.{normalize_result, to_uri_result, resolve_result}
+use Rattle.fluent_uri_c.specs.Results.{resolve_normalized_result}
+
+-- whether the numbers that it is given name something, whether it takes memory, and the result of a
+-- text, if that has one
+pub record SingleCall : Type 0 where
+  pub is_valid : Bool
+  pub takes_memory : Bool
+  pub result : List ℕ → Option (List ℕ)
+
+abbrev pub normalizing : ℕ → SingleCall
+normalizing kind = record {
+  is_valid = is_some (kind_numbered kind);
+  takes_memory = true;
+  result = λ text. result_ok (normalize_result kind text);
+}
+
+abbrev pub converting : ℕ → SingleCall
+converting kind = record {
+  is_valid = is_some (iri_numbered kind);
+  takes_memory = true;
+  result = λ text. result_ok (to_uri_result kind text);
+}
+
+abbrev pub resolving : ℕ → List ℕ → SingleCall
+resolving kind base = record {
+  is_valid = is_some (base_numbered kind);
+  takes_memory = true;
+  result = λ text. result_ok (resolve_result kind base text);
+}
+
+abbrev pub resolving_normalized : ℕ → List ℕ → SingleCall
+resolving_normalized kind base = record {
+  is_valid = is_some (base_numbered kind);
+  takes_memory = true;
+  result = λ text. result_ok (resolve_normalized_result kind base text);
+}
+
+-- the components of the numbers 0 to 7
+abbrev pub taking_component : ℕ → ℕ → SingleCall
+taking_component kind component = record {
+  is_valid = is_some (kind_numbered kind) && nat_lt component 8;
+  takes_memory = false;
+  result = component_result (kind_numbered kind) component;
+}
