@@ -1,56 +1,53 @@
-/* Does the rows of a file, as main.c does, against the clock: prints of each row the nanoseconds a
- * text of its fastest pass over the texts, one call each. */
-#include <inttypes.h>
-#include <stdint.h>
-#include <stdio.h>
-#include <stdlib.h>
+/* Does the rows of a file against the clock, and takes turns with other such programs: each number
+ * on the standard input, from 0, asks for a round of that row.
+ *
+ * A round passes over the row's texts again and again for a millisecond, with one call a text. What
+ * is printed of it: the nanoseconds of processor time of a pass, without what `bench` takes for no
+ * work at all. */
+#include "rows.h"
 #include <time.h>
 
-uint64_t bench(uint32_t work, const uint8_t *text, size_t text_length, const uint8_t *base,
-               size_t base_length, uint64_t rounds);
-
-struct pair {
-    size_t text_length, base_length;
-    uint8_t *text, *base;
-};
-
-static uint8_t *bytes(FILE *rows, size_t length) {
-    uint8_t *read = malloc(length + 1);
-    if (!read || fread(read, 1, length, rows) != length) exit(2);
-    return read;
-}
+static const uint32_t NO_WORK = UINT32_MAX;
+static const double ROUND = 1e6;
 
 static double now(void) {
     struct timespec time;
-    clock_gettime(CLOCK_MONOTONIC, &time);
+    clock_gettime(CLOCK_PROCESS_CPUTIME_ID, &time);
     return (double)time.tv_sec * 1e9 + (double)time.tv_nsec;
 }
 
+/* The nanoseconds of so many passes. */
+static double took(const struct row *row, uint64_t passes) {
+    uint64_t rounds = row->count == 1 ? passes : 1;
+    double began = now();
+    for (uint64_t pass = 0; pass < passes; pass += rounds)
+        for (size_t at = 0; at < row->count; at++) work_on(row, at, rounds);
+    return now() - began;
+}
+
 int main(int count, char **words) {
-    FILE *rows = count == 3 ? fopen(words[1], "rb") : NULL;
-    int passes = count == 3 ? atoi(words[2]) : 0;
-    uint32_t work;
-    size_t texts;
-    if (!rows) return 2;
-    while (fscanf(rows, "%" SCNu32 " %*u %*u %zu", &work, &texts) == 2) {
-        struct pair *read = malloc(texts * sizeof *read);
-        for (size_t at = 0; at < texts; at++) {
-            struct pair *it = &read[at];
-            if (fscanf(rows, "%zu %zu", &it->text_length, &it->base_length) != 2) return 2;
-            fgetc(rows);
-            it->text = bytes(rows, it->text_length);
-            it->base = bytes(rows, it->base_length);
-        }
-        double least = 1e18;
-        for (int pass = 0; pass < passes; pass++) {
-            double began = now();
-            for (size_t at = 0; at < texts; at++)
-                bench(work, read[at].text, read[at].text_length, read[at].base,
-                      read[at].base_length, 1);
-            double took = now() - began;
-            if (took < least) least = took;
-        }
-        printf("%.1f\n", least / (double)texts);
+    FILE *file = count == 2 ? fopen(words[1], "rb") : NULL;
+    if (!file) fail("name a file of rows");
+    struct {
+        struct row row, idle;
+        uint64_t passes;
+    } *rows = NULL, *it;
+    size_t held = 0, asked;
+    struct row row;
+    while (read_row(file, &row)) {
+        rows = realloc(rows, (held + 1) * sizeof *rows);
+        if (!rows) fail("no memory");
+        it = &rows[held++];
+        it->row = it->idle = row;
+        it->idle.work = NO_WORK;
+        it->passes = 1;
+        while (took(&row, it->passes) < ROUND) it->passes *= 2;
+    }
+    while (scanf("%zu", &asked) == 1 && asked < held) {
+        it = &rows[asked];
+        double both = took(&it->row, it->passes);
+        printf("%.3f\n", (both - took(&it->idle, it->passes)) / (double)it->passes);
+        fflush(stdout);
     }
     return 0;
 }

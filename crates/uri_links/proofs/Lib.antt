@@ -1,4 +1,7 @@
 pub mod Places
+mod Searches
+mod GrownTrees
+pub mod FoundTexts
 pub mod Texts
 pub mod Noted
 pub mod Several

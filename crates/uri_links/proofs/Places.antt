@@ -1,9 +1,8 @@
 -- The first index at which a test passes.
-use Rattle.std.proofs.Common.{◌≡◌, ◌+◌, ◌≤◌, Bool, true, false, List, [], ◌∷◌, ◌++◌, length, Some}
-use Rattle.std.proofs.Common.{None, cond, not, ◌||◌, ltb, suc, refl, ap, arith, length-append}
+use Rattle.std.proofs.Common.{◌≡◌, ◌+◌, ◌≤◌, Bool, true, false, List, [], ◌∷◌, length, Some, None}
+use Rattle.std.proofs.Common.{cond, not, ◌||◌, ltb, suc, refl, ap, arith}
 use Rattle.std.specs.List.{AllByRecursion, list_any, position, position_or_len}
 use Rattle.std.proofs.lemmas.Bool.Decides.{nat_tests}
-use Rattle.std.proofs.lemmas.List.Folds.{position_or_len_push}
 
 bounded : {X : Type 0} (p : X → Bool) (xs : List X) → position_or_len p xs ≤ length xs
 bounded p [] = omega arith
@@ -20,18 +19,6 @@ first_alike p q (x ∷ xs) h = λ i. cond (not (h.0 i)) (1 + first_alike p q xs 
 pub alike : {X : Type 0} (p q : X → Bool) (xs : List X) → AllByRecursion (λ x. p x ≡ q x) xs
     → position p xs ≡ position q xs
 alike p q xs h = ap (λ n. cond (ltb n (length xs)) (Some n) None) (first_alike p q xs h)
-
--- if only the last element passes, its index is the length before it
-pub pushed : {X : Type 0} (p : X → Bool) (xs : List X) (y : X) → position p xs ≡ None → p y ≡ true
-    → position p (xs ++ y ∷ []) ≡ Some (length xs)
-pushed p xs y none passes =
-    grind (arith, nat_tests, bounded p xs, position_or_len_push p xs y, length-append xs (y ∷ []))
-
--- a last element that fails changes nothing
-pub pushed_past : {X : Type 0} (p : X → Bool) (xs : List X) (y : X) → p y ≡ false
-    → position p (xs ++ y ∷ []) ≡ position p xs
-pushed_past p xs y fails =
-    grind (arith, nat_tests, bounded p xs, position_or_len_push p xs y, length-append xs (y ∷ []))
 
 none_passes : {X : Type 0} (p : X → Bool) (xs : List X) → position_or_len p xs ≡ length xs
     → list_any p xs ≡ false

@@ -8,3 +8,6 @@ pub use Rattle.uri_links.proofs.InWords.{in_words}
 pub use Rattle.uri_links.proofs.Several.{next, front}
 -- An id is that of a registered text, also after more references were noted.
 pub use Rattle.uri_links.proofs.Ids.{ids}
+-- The search tree finds each text at its index in the list and no other text, also once one more
+-- is registered.
+pub use Rattle.uri_links.proofs.FoundTexts.{found_at, tree_after}

@@ -3,3 +3,4 @@
 #![tactic(auto)]
 
 pub mod links;
+mod search_tree;

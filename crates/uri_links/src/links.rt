@@ -3,10 +3,9 @@
 ghost use Rattle.std.specs.Prelude.{◌≡◌, ◌≢◌, ◌↔◌, ◌≤◌, ◌∷◌, ◌++◌, ℕ, [], None, true, is_ok};
 ghost use Rattle.std.specs.Prelude.{length, map, option_map, slice_get, take, IfOk, IfErr, OnErr};
 ghost use Rattle.std.specs.Prelude.{OnOk, IsNone, List, All, bytes_eq, position};
-ghost use Rattle.std.specs.BTreeMap.{get_by_text};
 ghost use Rattle.std.specs.List.{IsDistinct-prop};
 ghost use Rattle.fluent_uri.specs.Components.{components};
-ghost use Rattle.fluent_uri.specs.Grammar.{uri, uri_ref};
+ghost use Rattle.fluent_uri.specs.Grammar.{IsTextOf, uri, uri_ref};
 ghost use Rattle.fluent_uri.specs.Meaning.{meaning_of};
 ghost use Rattle.fluent_uri.specs.Normal.{normal_text};
 ghost use Rattle.fluent_uri.specs.NormalTargets.{IsNormalTarget};
@@ -18,12 +17,14 @@ ghost use Rattle.fluent_uri.specs.Uris.{uri_text};
 ghost use Rattle.uri_links.specs.Outcomes.{outcome_of, outcomes_of, placed};
 ghost use Rattle.uri_links.specs.OutcomesInWords.{HasText, IsOutcome};
 ghost use Rattle.uri_links.specs.Registered.{AreDistinct, AreNormal, AreUris};
+ghost use Rattle.uri_links.specs.SearchTrees.{IsSearchTree, found_id, hash_of, search};
+ghost use Rattle.uri_links.specs.declared.search_tree.SearchEnd.TheVariants.{Missing};
 
+use crate::search_tree::{Node, SearchEnd, grow, hash_of, search};
 use fluent_uri::normalize::{DefaultPort, Normalizer};
 use fluent_uri::resolve::{ResolveError, Resolver};
 use fluent_uri::{Uri, UriRef, laws};
 use std::alloc::{AllocError, Global};
-use std::collections::BTreeMap;
 
 /// What `Register::note` returns for a reference. An id is an index into the register, from 0.
 ///
@@ -64,7 +65,7 @@ pub struct Register<P: DefaultPort> {
     alloc: Global,
     normalizer: Normalizer<P>,
     targets: Vec<Uri<String>>,
-    places: BTreeMap<String, usize>,
+    nodes: Vec<Node>,
     // Each text is a URI.
     pub ghost uris: { AreUris (map uri_text targets.items) },
     // Each is its own normal text.
@@ -72,9 +73,8 @@ pub struct Register<P: DefaultPort> {
     // No two are equal.
     pub ghost distinct: { AreDistinct
         (map uri_text targets.items) } by { IsDistinct-prop bytes_eq (map uri_text targets.items) },
-    // The map has the index of each text, and nothing else.
-    ghost placed: { (text : List ℕ) →
-        get_by_text places text ≡ position (bytes_eq text) (map uri_text targets.items) },
+    // Each is found by its node.
+    ghost tree: { IsSearchTree nodes.items (map uri_text targets.items) },
 }
 
 /// Returns the outcome of an error, or `AllocError` if it is that allocation failed.
@@ -108,7 +108,7 @@ impl<P: DefaultPort> Register<P> {
             alloc,
             normalizer,
             targets: Vec::new(alloc),
-            places: BTreeMap::new(alloc),
+            nodes: Vec::new(alloc),
         }
     }
 
@@ -152,15 +152,27 @@ impl<P: DefaultPort> Register<P> {
         resolver.resolve_normalized(self.alloc, reference, &self.normalizer)
     }
 
-    /// Returns the id of the registered target with this text.
-    fn id_of(&self, text: &str) -> Option<usize>
-        ensures { result ≡ position (bytes_eq text.now) (texts_of self.now) }
+    /// Searches for the registered target with this text.
+    fn search(&self, text: &str, hash: u64) -> SearchEnd
+        requires { hash ≡ hash_of text.now }
+        ensures search { result ≡ search self.now.nodes.items (texts_of self.now) text.now }
+        ensures id { found_id result ≡ position (bytes_eq text.now) (texts_of self.now) }
     {
-        self.places.get(text).copied()
+        search(self.nodes.as_slice(), self.targets.as_slice(), text, hash)
     }
 
-    /// Registers a target, and returns its id.
-    fn add(&mut self, target: Uri<String>) -> Result<usize, AllocError>
+    /// Registers a target where the search for its text ended, and returns its id.
+    fn add(
+        &mut self,
+        target: Uri<String>,
+        hash: u64,
+        parent: usize,
+        right: bool,
+    ) -> Result<usize, AllocError>
+        requires uri { IsTextOf uri (uri_text target) }
+        requires hash { hash ≡ hash_of (uri_text target) }
+        requires missing { search self.old.nodes.items (texts_of self.old) (uri_text target)
+            ≡ Missing parent right }
         requires new { position (bytes_eq (uri_text target)) (texts_of self.old) ≡ None }
         requires normal { normal_text (meaning_of uri (port_function_of self.old) (uri_text target))
             ≡ uri_text target }
@@ -171,13 +183,12 @@ impl<P: DefaultPort> Register<P> {
         ensures ports { port_function_of self.new ≡ port_function_of self.old }
     {
         let id = self.len();
-        let text = String::from_str(self.alloc, target.as_str())?;
         self.targets.push(target)?;
-        match self.places.insert(text, id) {
-            Ok(_) => Ok(id),
-            Err(_) => {
+        match grow(&mut self.nodes, hash, parent, right) {
+            Ok(()) => Ok(id),
+            Err(error) => {
                 let _taken_back = self.targets.pop();
-                Err(AllocError)
+                Err(error)
             }
         }
     }
@@ -192,9 +203,12 @@ impl<P: DefaultPort> Register<P> {
         ensures kept { OnErr result (texts_of self.new ≡ texts_of self.old) }
         ensures ports { port_function_of self.new ≡ port_function_of self.old }
     {
-        match self.id_of(target.as_str()) {
-            Some(id) => Ok(Outcome::Known(id)),
-            None => Ok(Outcome::New(self.add(target)?)),
+        let hash = hash_of(target.as_str());
+        match self.search(target.as_str(), hash) {
+            SearchEnd::Found(id) => Ok(Outcome::Known(id)),
+            SearchEnd::Missing(parent, right) => {
+                Ok(Outcome::New(self.add(target, hash, parent, right)?))
+            }
         }
     }
 
