@@ -2,8 +2,8 @@ use Rattle.std.proofs.Common.{◌≡◌, ◌≤◌, true, false, length, arith, 
 use Rattle.uri_parts.specs.Components.{starts}
 use Rattle.uri_parts.proofs.HostForms.Ipv6Literals.{follows, place_behind, unparsed, unclosed}
 use Rattle.uri_parts.proofs.Refusals.Literals.{lettered, closed_read, not_read}
-use Rattle.uri_parts.proofs.literal.literal_end.Goals.{in-Some+else-sees, in_default}
-use Rattle.uri_parts.proofs.literal.literal_end.Goals as goal
+use Rattle.uri_parts.proofs.ip_literal.literal_end.Goals.{in-Some+else-sees, in_default}
+use Rattle.uri_parts.proofs.ip_literal.literal_end.Goals as goal
 
 pub overflow_sub-end : goal.overflow_sub-end
 overflow_sub-end c =
@@ -11,10 +11,10 @@ overflow_sub-end c =
     c.in-Some.ensures in
     omega (arith, (follows _ _ e).0, length-drop c.args.start c.args.text.now)
 
-pub returns-then-is_lettered-clause-exact : goal.returns-then-is_lettered-clause-exact
-returns-then-is_lettered-clause-exact c =
+pub returns-then-starts_ipvfuture-clause-exact : goal.returns-then-starts_ipvfuture-clause-exact
+returns-then-starts_ipvfuture-clause-exact c =
     c.future_end.ensures.exact ∙ sym (lettered c.args.text.now c.args.start
-    (sym c.is_lettered.ensures.value ∙ c.if-is_lettered.true))
+    (sym c.starts_ipvfuture.ensures.value ∙ c.if-starts_ipvfuture.true))
 
 pub returns-then-sees-clause-exact : goal.returns-then-sees-clause-exact
 returns-then-sees-clause-exact c =
@@ -27,7 +27,7 @@ returns-then-sees-clause-exact c =
 
 pub refusal-requires-clause-refused : goal.refusal-requires-clause-refused
 refusal-requires-clause-refused c =
-    let plain = sym c.is_lettered.ensures.value ∙ c.if-is_lettered.false in
+    let plain = sym c.starts_ipvfuture.ensures.value ∙ c.if-starts_ipvfuture.false in
     let within : c.args.start ≤ length c.args.text.now = c.requires.0 in
     elim c.match-after_ipv6.branch [
       | in-Some+else-sees w ↦
