@@ -1,12 +1,11 @@
 use Rattle.std.proofs.Common.{refl, codes}
+use Rattle.fluent_uri.proofs.OnLiterals.{errors_on_literals}
 use Rattle.fluent_uri.specs.Errors.{unexpected}
 use Rattle.fluent_uri.specs.Grammar.{uri}
-use Rattle.fluent_uri.specs.Prefixes.{valid_prefix_from, allows_first}
-use Rattle.fluent_uri.specs.Refusals.{refusal}
 use Rattle.calling.proofs.KnownErrors.{error_is}
 use Rattle.calling.proofs.errors.scheme_is_missing.Goals as goal
 
 pub returns : goal.returns
-unfolding refusal valid_prefix_from allows_first
+unfolding errors_on_literals
 returns c = error_is uri (codes "example.com/a") (unexpected 11) c.parse.result
     c.parse.ensures.refused refl
