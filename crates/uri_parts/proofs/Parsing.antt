@@ -1,4 +1,5 @@
 -- What the parser accepts is what the grammar says.
+pub mod Acceptance
 pub mod NextBytes
 pub mod ScanStops
 pub mod Accepts

@@ -1,8 +1,10 @@
 -- The errors of a text that is refused.
+pub mod Accepted
 pub mod Colons
 pub mod Complete
 pub mod Digits
 pub mod GroupTurns
+pub mod LiteralEnds
 pub mod Literals
 pub mod Names
 pub mod OnLiterals

@@ -7,7 +7,8 @@ use Rattle.uri_parts.specs.declared.positions.Positions.{Positions}
 use Rattle.uri_parts.specs.Components.{components}
 use Rattle.uri_parts.specs.Grammar.{Kind, first_segment_set, is_of_kind, one_of_four}
 use Rattle.uri_parts.specs.Positions.{AreAt, positions_of}
-use Rattle.uri_parts.specs.Models.Parsing.{parsed_positions, parses}
+use Rattle.uri_parts.specs.Models.Parsing.{parsed_positions}
+use Rattle.uri_parts.proofs.Parsing.Acceptance.{parses}
 use Rattle.uri_parts.proofs.TextKinds.KindSets.{known_separates}
 use Rattle.uri_parts.proofs.Parsing.ParsedPositions.{positions_parsed}
 use Rattle.uri_parts.proofs.TextKinds.Separations.{Separates}

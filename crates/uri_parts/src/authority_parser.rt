@@ -3,17 +3,14 @@
 //! What passes as a name and a port is a prefix of userinfo, so nothing is scanned again to tell
 //! the two apart, nor to tell where and why an authority is refused.
 ghost use Rattle.std.specs.Prelude.{◌≡◌, ◌≤◌, ◌+◌, drop, length, true, IfErr, IfOk, IfSome, OnOk};
-ghost use Rattle.std.specs.Prelude.{is_ok, is_some, Some, Ok, IfNone, ◌<◌, false};
+ghost use Rattle.std.specs.Prelude.{is_some, Some, Ok, IfNone, ◌<◌, false};
 ghost use Rattle.std.specs.Str.{IsCharBoundary};
-ghost use Rattle.uri_pct.specs.Delimiters.{at_sign, left_bracket};
+ghost use Rattle.uri_pct.specs.Delimiters.{left_bracket};
 ghost use Rattle.uri_pct.specs.Prefixes.{valid_prefix};
 ghost use Rattle.uri_pct.specs.Tables.{set_of};
 ghost use Rattle.uri_parts.specs.Models.AuthorityParsing.{port_length, name_length, finds_name};
-ghost use Rattle.uri_parts.specs.Models.AuthorityParsing.{host_end, host_length, finds_host};
-ghost use Rattle.uri_parts.specs.Models.AuthorityParsing.{more_user, user_length, passes_user};
-ghost use Rattle.uri_parts.specs.Models.AuthorityParsing.{finds_other};
-ghost use Rattle.uri_parts.specs.Models.AuthorityParsing.{other_authority, finds_authority};
-ghost use Rattle.uri_parts.specs.Models.AuthorityParsing.{found_length};
+ghost use Rattle.uri_parts.specs.Models.AuthorityParsing.{host_end, host_length, more_user};
+ghost use Rattle.uri_parts.specs.Models.AuthorityParsing.{other_authority, found_length};
 ghost use Rattle.uri_parts.specs.Models.AuthorityParsing.{found_authority};
 ghost use Rattle.std.specs.Option.{option_or};
 ghost use Rattle.std.specs.Result.{result_err};
@@ -24,7 +21,7 @@ ghost use Rattle.uri_parts.specs.Models.ParseErrors.{left_over_error, name_error
 ghost use Rattle.uri_parts.specs.Models.ParseErrors.{userinfo_error, other_error, authority_error};
 ghost use Rattle.uri_parts.specs.Errors.{IsErrorIn};
 ghost use Rattle.uri_parts.specs.KindTables.{kind_of};
-ghost use Rattle.uri_parts.specs.Models.Literals.{parses_literal, literal_length};
+ghost use Rattle.uri_parts.specs.Models.Literals.{literal_length};
 ghost use Rattle.uri_parts.specs.Models.Cursors.{rest_of, cursor_text, place_of};
 
 use crate::cursor::Cursor;
@@ -134,11 +131,10 @@ fn name_fault(start: Cursor<'_>, end: Cursor<'_>, tables: &KindTables) -> ParseE
 }
 
 /// Passes an address in brackets, of which the `[` is next.
-#[tactic(auto, using(crate::proofs::HostForms::LiteralFaults::literal_error))]
+#[tactic(auto, using(crate::proofs::Refusals::LiteralEnds::literal_ends))]
 #[inline(always)]
 fn pass_literal(cursor: &mut Cursor<'_>) -> Result<(), ParseError>
     requires { starts left_bracket (rest_of cursor.old) ≡ true }
-    ensures accepts { is_ok result ≡ parses_literal (drop 1 (rest_of cursor.old)) }
     ensures text { cursor_text cursor.new ≡ cursor_text cursor.old }
     ensures place { OnOk result (place_of cursor.new
         ≡ place_of cursor.old + (1 + literal_length (drop 1 (rest_of cursor.old)))) }
@@ -161,7 +157,6 @@ fn pass_literal(cursor: &mut Cursor<'_>) -> Result<(), ParseError>
 #[tactic(auto, using(crate::proofs::Steps::cuts), unfolding(crate::proofs::Steps::host))]
 #[inline(always)]
 fn find_host(cursor: &mut Cursor<'_>, tables: &KindTables) -> Result<usize, ParseError>
-    ensures accepts { is_ok result ≡ finds_host (kind_of tables.now) (rest_of cursor.old) }
     ensures end { IfOk result (λ n.
         n ≡ place_of cursor.old + host_end (kind_of tables.now) (rest_of cursor.old)) }
     ensures text { cursor_text cursor.new ≡ cursor_text cursor.old }
@@ -191,8 +186,6 @@ fn find_host(cursor: &mut Cursor<'_>, tables: &KindTables) -> Result<usize, Pars
 #[inline(always)]
 fn pass_userinfo(cursor: &mut Cursor<'_>, tables: &KindTables) -> Result<(), ParseError>
     requires { 0 < place_of cursor.old }
-    ensures accepts { let rest = rest_of cursor.old in
-        is_ok result ≡ starts at_sign (drop (more_user (kind_of tables.now) rest) rest) }
     ensures text { cursor_text cursor.new ≡ cursor_text cursor.old }
     ensures place { OnOk result (place_of cursor.new
         ≡ place_of cursor.old + (more_user (kind_of tables.now) (rest_of cursor.old) + 1)) }
@@ -228,7 +221,6 @@ fn find_other_authority(
     requires some { 0 < place_of start }
     requires place { place_of behind_name
         ≡ place_of start + name_length (kind_of tables.now) (rest_of start) }
-    ensures accepts { is_ok result ≡ finds_other (kind_of tables.now) (rest_of start.entry) }
     ensures found { IfOk result (λ a.
         a ≡ other_authority (kind_of tables.now) (place_of start.entry) (rest_of start.entry)) }
     ensures boundary { IfOk result (λ a. IsCharBoundary (cursor_text start.entry) a.end) }
@@ -266,7 +258,6 @@ fn find_other_of_kind<K: Kind>(
     requires behind_name { IsCharBoundary text.now behind_name }
     requires some { 0 < start }
     requires place { behind_name ≡ start + name_length K.kind (drop start text.now) }
-    ensures accepts { is_ok result ≡ finds_other K.kind (drop start text.now) }
     ensures found { IfOk result (λ a. a ≡ other_authority K.kind start (drop start text.now)) }
     ensures boundary { IfOk result (λ a. IsCharBoundary text.now a.end) }
     ensures returned { IfErr result (λ e. other_error K.kind text.now start ≡ Some e) }
@@ -287,7 +278,6 @@ pub(crate) fn find_authority<K: Kind>(
 ) -> Result<AuthorityPositions, ParseError>
     requires kind { kind_of tables.now ≡ K.kind }
     requires some { 0 < place_of cursor.old }
-    ensures accepts { is_ok result ≡ finds_authority (kind_of tables.now) (rest_of cursor.old) }
     ensures found { IfOk result (λ a.
         a ≡ found_authority (kind_of tables.now) (place_of cursor.old) (rest_of cursor.old)) }
     ensures text { cursor_text cursor.new ≡ cursor_text cursor.old }

@@ -1,6 +1,6 @@
 //! A place in a text.
-ghost use Rattle.std.specs.Prelude.{◌≡◌, ◌<◌, ◌+◌, ◌==◌, not, drop, codes, OnOk};
-ghost use Rattle.std.specs.Prelude.{IfErr, is_ok, if◌then◌else◌};
+ghost use Rattle.std.specs.Prelude.{◌≡◌, ◌<◌, ◌+◌, ◌==◌, drop, codes, OnOk};
+ghost use Rattle.std.specs.Prelude.{IfErr, if◌then◌else◌};
 ghost use Rattle.std.specs.Result.{result_err};
 ghost use Rattle.std.specs.Str.{IsCharBoundary};
 
@@ -36,7 +36,6 @@ impl<'a> Cursor<'a> {
     ghost use Rattle.uri_parts.specs.Models.AuthorityParsing.{begins_any};
     ghost use Rattle.uri_parts.specs.Components.{starts, has_authority, is_end};
     ghost use Rattle.uri_parts.specs.Errors.{unexpected};
-    ghost use Rattle.uri_parts.specs.Models.Parsing.{is_stray};
     ghost use Rattle.uri_parts.specs.Scanning.{scan};
     ghost use Rattle.uri_parts.specs.Errors.{IsErrorIn};
     ghost use Rattle.uri_parts.specs.Models.Cursors.{rest_of, cursor_text, place_of};
@@ -112,8 +111,6 @@ impl<'a> Cursor<'a> {
             (place_of self.new ≡ place_of self.old + valid_prefix (set_of table.now) (rest_of self.old)) }
         ensures rest { OnOk result
             (rest_of self.new ≡ after (set_of table.now) (rest_of self.old)) }
-        ensures stray { is_ok result
-            ≡ not (is_stray (set_of table.now) (after (set_of table.now) (rest_of self.old))) }
         ensures refused { result_err result
             ≡ result_err (scan (cursor_text self.old) (set_of table.now) (place_of self.old)) }
         ensures err { IfErr result (IsErrorIn (cursor_text self.old)) }

@@ -1,5 +1,6 @@
 //! Addresses in brackets (RFC 3986, section 3.2.2).
 ghost use Rattle.std.specs.Prelude.{◌≡◌, ◌≤◌, ◌<◌, ◌+◌, length, IsTrue, IfSome, IfOk, IfErr, is_ok};
+ghost use Rattle.uri_parts.specs.Errors.{index_of};
 ghost use Rattle.std.specs.Prelude.{drop, ◌||◌, ◌&&◌, not, nat_lt, Ok, Err, true, false};
 ghost use Rattle.uri_parts.specs.Components.{is_end, starts};
 ghost use Rattle.uri_parts.specs.LiteralErrors.{digits_end as digits_end_at};
@@ -10,9 +11,6 @@ ghost use Rattle.uri_parts.specs.LiteralErrors.{is_no_ipv6 as is_no_ipv6_at};
 ghost use Rattle.uri_parts.specs.Scanning.{scan_to_mark};
 ghost use Rattle.std.specs.Str.{IsCharBoundary};
 ghost use Rattle.uri_pct.specs.Tables.{set_of};
-ghost use Rattle.uri_parts.specs.Models.Literals.{IsLiteralRefusal, parses_literal, literal_length};
-ghost use Rattle.uri_parts.specs.Models.Literals.{IsMissing, parses_marked, length_to_mark};
-ghost use Rattle.uri_parts.specs.Models.Literals.{parses_future, future_length};
 ghost use Rattle.uri_pct.specs.Delimiters.{full_stop, right_bracket};
 ghost use Rattle.uri_pct.specs.Sets.{hexdig_set, ipv_future_set};
 ghost use Rattle.uri_parts.specs.Models.LiteralGroups.{groups_of, IsAtBoundary};
@@ -227,10 +225,10 @@ fn is_no_ipv6(text: &str, start: usize) -> bool
 /// Why what stands at `start`, and begins with no `v`, is no address with a `]` behind it.
 fn refusal(text: &str, start: usize) -> ParseError
     requires boundary { IsCharBoundary text.now start }
-    requires refused { parses_literal (drop start text.now) ≡ false }
+    requires refused { is_ok (literal text.now start) ≡ false }
     requires unlettered { (starts 118 (drop start text.now) || starts 86 (drop start text.now))
         ≡ false }
-    ensures error { IsLiteralRefusal text.now start result }
+    ensures boundary { IsCharBoundary text.now (index_of result) }
     ensures exact { literal text.now start ≡ Err result }
 {
     if is_no_ipv6(text, start) {
@@ -244,15 +242,11 @@ fn refusal(text: &str, start: usize) -> ParseError
 
 /// Where one or more characters of the table end that stand at `start`, with the `mark` behind
 /// them; or where one of these is missing.
-#[tactic(auto, unfolding(crate::proofs::Steps::future))]
 fn marked_end(text: &str, start: usize, table: &Table, mark: u8) -> Result<usize, ParseError>
     requires boundary { IsCharBoundary text.now start }
     requires ascii { mark < 128 }
-    ensures accepts { is_ok result ≡ parses_marked (set_of table.now) mark (drop start text.now) }
-    ensures end { IfOk result (λ end.
-        end ≡ start + length_to_mark (set_of table.now) (drop start text.now)) }
     ensures boundary { IfOk result (λ end. IsCharBoundary text.now end) }
-    ensures err { IfErr result (IsMissing text.now) }
+    ensures index { IfErr result (λ e. IsCharBoundary text.now (index_of e)) }
     ensures exact { result ≡ scan_to_mark text.now (set_of table.now) mark (λ end. Ok end) start }
 {
     let end = table.scan(text, start);
@@ -267,13 +261,11 @@ fn marked_end(text: &str, start: usize, table: &Table, mark: u8) -> Result<usize
 /// behind it; or where something of these is missing.
 ///
 /// No hexadecimal digit is a `.`, and none of its characters a `]`: so each is found by a scan.
-#[tactic(auto, using(crate::proofs::Steps::futures), unfolding(crate::proofs::Steps::future))]
+#[tactic(auto, using(uri_pct::proofs::TableSets::Constants::constant_tables))]
 fn future_end(text: &str, start: usize) -> Result<usize, ParseError>
     requires { IsCharBoundary text.now start }
-    ensures accepts { is_ok result ≡ parses_future (drop start text.now) }
-    ensures end { IfOk result (λ end. end ≡ start + future_length (drop start text.now)) }
     ensures boundary { IfOk result (λ end. IsCharBoundary text.now end) }
-    ensures err { IfErr result (IsMissing text.now) }
+    ensures index { IfErr result (λ e. IsCharBoundary text.now (index_of e)) }
     ensures exact { result ≡ scan_to_mark text.now hexdig_set full_stop
         (scan_to_mark text.now ipv_future_set right_bracket (λ end. Ok end)) start }
 {
@@ -285,10 +277,8 @@ fn future_end(text: &str, start: usize) -> Result<usize, ParseError>
 /// is none.
 pub(crate) fn literal_end(text: &str, start: usize) -> Result<usize, ParseError>
     requires { IsCharBoundary text.now start }
-    ensures accepts { is_ok result ≡ parses_literal (drop start text.now) }
-    ensures end { IfOk result (λ end. end ≡ start + literal_length (drop start text.now)) }
     ensures boundary { IfOk result (λ end. IsCharBoundary text.now end) }
-    ensures err { IfErr result (IsLiteralRefusal text.now start) }
+    ensures index { IfErr result (λ e. IsCharBoundary text.now (index_of e)) }
     ensures exact { result ≡ literal text.now start }
 {
     if is_lettered(text, start) {

@@ -1,10 +1,8 @@
 //! The parser of the four kinds.
-ghost use Rattle.std.specs.Prelude.{◌≡◌, ◌↔◌, ◌&&◌, ◌<◌, IfErr, IfOk, IsOk, is_ok, Some, None};
+ghost use Rattle.std.specs.Prelude.{◌≡◌, ◌↔◌, ◌<◌, IfErr, IfOk, IsOk, Some, None};
 ghost use Rattle.std.specs.Option.{option_or};
 ghost use Rattle.std.specs.Result.{result_err};
-ghost use Rattle.uri_parts.specs.Models.Parsing.{parses_fragment, parses_end, parses_path};
-ghost use Rattle.uri_parts.specs.Models.Parsing.{parses_authority, parses_relative, parses_hier};
-ghost use Rattle.uri_parts.specs.Models.Parsing.{parses_schemeless, parses, query_end_at};
+ghost use Rattle.uri_parts.specs.Models.Parsing.{query_end_at};
 ghost use Rattle.uri_parts.specs.Models.Parsing.{authority_positions, relative_positions};
 ghost use Rattle.uri_parts.specs.Models.Parsing.{hier_positions, schemeless_positions};
 ghost use Rattle.uri_parts.specs.Models.Parsing.{parsed_positions};
@@ -27,10 +25,9 @@ use crate::positions::{AuthorityPositions, Positions};
 use uri_pct::table::SCHEME;
 
 /// A fragment if there is one, and then the end.
-#[tactic(auto, unfolding(crate::proofs::Steps::fragment))]
+#[tactic(auto, unfolding(crate::proofs::Steps::tail))]
 #[inline(always)]
 fn parse_fragment(cursor: &mut Cursor<'_>, tables: &KindTables) -> Result<(), ParseError>
-    ensures accepts { is_ok result ≡ parses_fragment (kind_of tables.now) (rest_of cursor.old) }
     ensures refused { result_err result
         ≡ from_fragment (kind_of tables.now) (cursor_text cursor.old) (place_of cursor.old) }
     ensures err { IfErr result (IsErrorIn (cursor_text cursor.old)) }
@@ -45,10 +42,9 @@ fn parse_fragment(cursor: &mut Cursor<'_>, tables: &KindTables) -> Result<(), Pa
 }
 
 /// A query if there is one, and what follows it. Answers where the query ends.
-#[tactic(auto, unfolding(crate::proofs::Steps::query))]
+#[tactic(auto, unfolding(crate::proofs::Steps::tail))]
 #[inline(always)]
 fn parse_end(cursor: &mut Cursor<'_>, tables: &KindTables) -> Result<Option<usize>, ParseError>
-    ensures accepts { is_ok result ≡ parses_end (kind_of tables.now) (rest_of cursor.old) }
     ensures place { IfOk result (λ end.
         end ≡ query_end_at (kind_of tables.now) (place_of cursor.old) (rest_of cursor.old)) }
     ensures refused { result_err result
@@ -73,14 +69,13 @@ struct BeforePath {
 }
 
 /// The rest of a path, and what follows it.
-#[tactic(auto, unfolding(crate::proofs::Steps::path))]
+#[tactic(auto, unfolding(crate::proofs::Steps::tail))]
 #[inline(always)]
 fn parse_path(
     cursor: &mut Cursor<'_>,
     tables: &KindTables,
     before: BeforePath,
 ) -> Result<Positions, ParseError>
-    ensures accepts { is_ok result ≡ parses_path (kind_of tables.now) (rest_of cursor.old) }
     ensures places { IfOk result (λ p. p ≡ positions_from (kind_of tables.now) before cursor.old) }
     ensures refused { result_err result
         ≡ from_path (kind_of tables.now) (cursor_text cursor.old) (place_of cursor.old) }
@@ -99,7 +94,7 @@ fn parse_path(
 }
 
 /// An authority, of what stands before a path.
-#[tactic(auto, unfolding(crate::proofs::Steps::before))]
+#[tactic(auto, unfolding(crate::proofs::Steps::before_path))]
 #[inline(always)]
 fn pass_authority<K: Kind>(
     cursor: &mut Cursor<'_>,
@@ -108,8 +103,6 @@ fn pass_authority<K: Kind>(
 ) -> Result<BeforePath, ParseError>
     requires kind { kind_of tables.now ≡ K.kind }
     requires some { 0 < place_of cursor.old }
-    ensures accepts { parses_authority (kind_of tables.now) (rest_of cursor.old)
-        ≡ (is_ok result && parses_path (kind_of tables.now) (rest_of cursor.new)) }
     ensures places { let kind = kind_of tables.now in IfOk result (λ b.
         authority_positions kind scheme_end (place_of cursor.old) (rest_of cursor.old)
         ≡ positions_from kind b cursor.new) }
@@ -128,7 +121,7 @@ fn pass_authority<K: Kind>(
 }
 
 /// What follows a scheme, before a path.
-#[tactic(auto, unfolding(crate::proofs::Steps::hier))]
+#[tactic(auto, unfolding(crate::proofs::Steps::before_path))]
 #[inline(always)]
 fn pass_hier<K: Kind>(
     cursor: &mut Cursor<'_>,
@@ -136,8 +129,6 @@ fn pass_hier<K: Kind>(
     scheme_end: usize,
 ) -> Result<BeforePath, ParseError>
     requires { kind_of tables.now ≡ K.kind }
-    ensures accepts { parses_hier (kind_of tables.now) (rest_of cursor.old)
-        ≡ (is_ok result && parses_path (kind_of tables.now) (rest_of cursor.new)) }
     ensures places { let kind = kind_of tables.now in IfOk result (λ b.
         hier_positions kind (Some scheme_end) (place_of cursor.old) (rest_of cursor.old)
         ≡ positions_from kind b cursor.new) }
@@ -159,12 +150,9 @@ fn pass_hier<K: Kind>(
 }
 
 /// A path that begins the text, so far as its first segment is scanned with no colon.
-#[tactic(auto, unfolding(crate::proofs::Steps::relative))]
+#[tactic(auto, unfolding(crate::proofs::Steps::before_path))]
 #[inline(always)]
 fn pass_relative(cursor: &mut Cursor<'_>, tables: &KindTables) -> Result<BeforePath, ParseError>
-    ensures accepts { let segment = segment_nz_nc_of tables.now in
-        parses_relative segment (kind_of tables.now) (rest_of cursor.old)
-        ≡ (is_ok result && parses_path (kind_of tables.now) (rest_of cursor.new)) }
     ensures places { let segment = segment_nz_nc_of tables.now in IfOk result (λ b.
         relative_positions segment (kind_of tables.now) (place_of cursor.old) (rest_of cursor.old)
         ≡ positions_from (kind_of tables.now) b cursor.new) }
@@ -187,16 +175,13 @@ fn pass_relative(cursor: &mut Cursor<'_>, tables: &KindTables) -> Result<BeforeP
 
 /// What stands before a path in a text that has no scheme, behind the characters that might have
 /// been one.
-#[tactic(auto, unfolding(crate::proofs::Steps::schemeless))]
+#[tactic(auto, unfolding(crate::proofs::Steps::whole))]
 #[inline(always)]
 fn pass_schemeless<K: Kind>(
     cursor: &mut Cursor<'_>,
     tables: &KindTables,
 ) -> Result<BeforePath, ParseError>
     requires { kind_of tables.now ≡ K.kind }
-    ensures accepts { let segment = segment_nz_nc_of tables.now in
-        parses_schemeless segment (kind_of tables.now) (place_of cursor.old) (rest_of cursor.old)
-        ≡ (is_ok result && parses_path (kind_of tables.now) (rest_of cursor.new)) }
     ensures places { let segment = segment_nz_nc_of tables.now in
         let kind = kind_of tables.now in IfOk result (λ b.
         schemeless_positions segment kind (place_of cursor.old) (rest_of cursor.old)
@@ -223,9 +208,6 @@ fn pass_front<K: Kind>(
 ) -> Result<BeforePath, ParseError>
     requires kind { kind_of tables.now ≡ K.kind }
     requires start { place_of cursor.old ≡ 0 }
-    ensures accepts { let kind = kind_of tables.now in
-        parses (segment_nz_nc_of tables.now) kind (cursor_text cursor.old)
-        ≡ (is_ok result && parses_path kind (rest_of cursor.new)) }
     ensures places { let kind = kind_of tables.now in IfOk result (λ b.
         parsed_positions (segment_nz_nc_of tables.now) kind (cursor_text cursor.old)
         ≡ positions_from kind b cursor.new) }
@@ -255,8 +237,6 @@ fn pass_front<K: Kind>(
 #[inline(always)]
 fn parse_text<K: Kind>(tables: &KindTables, text: &str) -> Result<Positions, ParseError>
     requires { kind_of tables.now ≡ K.kind }
-    ensures accepts { is_ok result
-        ≡ parses (segment_nz_nc_of tables.now) (kind_of tables.now) text.now }
     ensures places { IfOk result (λ p.
         p ≡ parsed_positions (segment_nz_nc_of tables.now) (kind_of tables.now) text.now) }
     ensures refused { result_err result

@@ -16,9 +16,11 @@ use Rattle.uri_pct.proofs.ValidTexts.Prefixes.{valid_prefix-char, valid_prefix-w
 use Rattle.uri_parts.specs.Components.{before_any, from_any, starts, Lacks}
 use Rattle.uri_parts.specs.Positions.{authority_at}
 use Rattle.uri_parts.specs.Models.AuthorityParsing.{port_length, name_length, finds_name, host_end}
-use Rattle.uri_parts.specs.Models.AuthorityParsing.{host_length, finds_host, more_user, user_length}
-use Rattle.uri_parts.specs.Models.AuthorityParsing.{passes_user, host_place, from_host, finds_other}
-use Rattle.uri_parts.specs.Models.AuthorityParsing.{finds_authority, other_length, found_length}
+use Rattle.uri_parts.specs.Models.AuthorityParsing.{host_length, more_user, user_length}
+use Rattle.uri_parts.specs.Models.AuthorityParsing.{host_place, from_host}
+use Rattle.uri_parts.specs.Models.AuthorityParsing.{other_length, found_length}
+use Rattle.uri_parts.proofs.Parsing.Acceptance.{finds_host, passes_user, finds_other}
+use Rattle.uri_parts.proofs.Parsing.Acceptance.{finds_authority}
 use Rattle.uri_parts.specs.Models.AuthorityParsing.{other_authority, found_authority}
 use Rattle.uri_parts.specs.Grammar.{Kind}
 use Rattle.uri_parts.proofs.Authorities.Authority.{cut-none, lacks_fewer}

@@ -15,11 +15,11 @@ use Rattle.uri_pct.specs.Prefixes.{valid_prefix, after}
 use Rattle.uri_pct.proofs.ValidTexts.Cuts.{to_mark, excludes, ascii_marks, cut, prefix_zero_mark}
 use Rattle.uri_parts.specs.Components.{before_any, from_any, starts, Lacks}
 use Rattle.uri_parts.specs.Hosts.{ipv6_value, is_ipv_future, bracketed}
-use Rattle.uri_parts.specs.Models.Literals.{is_literal, parses_literal, literal_length}
+use Rattle.uri_parts.specs.Models.Literals.{literal_length}
 use Rattle.uri_parts.specs.Authority.{host_before}
 use Rattle.uri_parts.specs.Models.AuthorityParsing.{begins_any, port_length}
 use Rattle.uri_parts.specs.Models.AuthorityParsing.{name_length, finds_name, host_end, host_length}
-use Rattle.uri_parts.specs.Models.AuthorityParsing.{passes_host, finds_host}
+use Rattle.uri_parts.proofs.Parsing.Acceptance.{is_literal, parses_literal, passes_host, finds_host}
 use Rattle.uri_parts.specs.Grammar.{Kind}
 use Rattle.uri_parts.proofs.HostForms.Addresses.{ipv6_value-sound}
 use Rattle.uri_parts.proofs.Authorities.Authority.{host_cut, lacks_nil, lacks_at_bracketed}

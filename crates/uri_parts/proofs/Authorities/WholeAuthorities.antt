@@ -13,7 +13,7 @@ use Rattle.uri_pct.specs.Tokens.{is_valid_for}
 use Rattle.uri_parts.specs.Components.{marked, starts, before_any, from_any, when, Lacks}
 use Rattle.uri_parts.specs.Hosts.{is_host, bracketed, ipv4_value, ipv6_value, is_ipv_future}
 use Rattle.uri_parts.specs.Authority.{host_before, behind_host, is_authority_for}
-use Rattle.uri_parts.specs.Models.Literals.{is_literal}
+use Rattle.uri_parts.proofs.Parsing.Acceptance.{is_literal}
 use Rattle.uri_parts.proofs.Splitting.Cuts.{Begins, IsCut-any, before_past_other, from_past_other}
 use Rattle.uri_parts.proofs.HostForms.Hosts.{literal_at}
 

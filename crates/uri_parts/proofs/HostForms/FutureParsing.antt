@@ -2,7 +2,7 @@
 use Rattle.std.proofs.Common.{◌≡◌, ℕ, ◌+◌, ◌<◌, true, false, List, [], ◌∷◌, ◌++◌, length, drop}
 use Rattle.std.proofs.Common.{refl, sym, ap, subst, ◌∙◌, arith, ◌||◌, eqb, ⊎_elim, append_assoc}
 use Rattle.std.proofs.Common.{length-append, lit<}
-use Rattle.std.specs.Prelude.{codes, is_some, Result, Ok, Err, IfOk, is_ok}
+use Rattle.std.specs.Prelude.{codes, is_some}
 use Rattle.std.specs.Str.{IsUtf8}
 use Rattle.std.proofs.Math.Seq.{drop-append_seam}
 use Rattle.std.proofs.lemmas.Bool.{and_from, and_parts, or_right, lt-ltb, ltb-true, eq-eqb}
@@ -14,10 +14,10 @@ use Rattle.uri_pct.specs.Prefixes.{valid_prefix}
 use Rattle.uri_pct.proofs.ValidTexts.Cuts.{to_mark, excludes, cut}
 use Rattle.uri_parts.specs.Components.{starts, before_any, from_any, Lacks}
 use Rattle.uri_parts.specs.Hosts.{IsIpvFuture, ipv6_value, is_ipv_future}
-use Rattle.uri_parts.specs.Models.Literals.{is_literal, parses_literal, literal_length}
-use Rattle.uri_parts.specs.Models.Literals.{parses_marked}
-use Rattle.uri_parts.specs.Models.Literals.{length_to_mark, behind_version, parses_future}
-use Rattle.uri_parts.specs.Models.Literals.{future_length}
+use Rattle.uri_parts.specs.Models.Literals.{literal_length}
+use Rattle.uri_parts.proofs.Parsing.Acceptance.{is_literal, parses_literal, parses_marked}
+use Rattle.uri_parts.proofs.Parsing.Acceptance.{length_to_mark, behind_version, parses_future}
+use Rattle.uri_parts.proofs.Parsing.Acceptance.{future_length}
 use Rattle.uri_parts.proofs.Authorities.AuthorityCuts.{length-before, behind}
 use Rattle.uri_parts.proofs.HostForms.Addresses.{is_address_char, address_text-ipv6}
 use Rattle.uri_parts.proofs.HostForms.Addresses.{address_text-first, ipv6_value-sound}
@@ -226,14 +226,7 @@ module _ (text : List ℕ) (start : ℕ) (u : IsUtf8 (drop start text))
   pub parses_at : parses_literal (drop start text) ≡ parses_future (drop (start + 1) text)
   parses_at = (lettered (drop start text) u v).0 ∙ ap parses_future past_letter
 
-  length_at : parses_future (drop (start + 1) text) ≡ true
+  pub length_at : parses_future (drop (start + 1) text) ≡ true
       → literal_length (drop start text) ≡ 1 + future_length (drop (start + 1) text)
   length_at e = (lettered (drop start text) u v).1 (ap parses_future past_letter ∙ e)
       ∙ ap (λ t. 1 + future_length t) past_letter
-
-  pub end_at : {E : Type 0} (result : Result ℕ E)
-      → is_ok result ≡ parses_future (drop (start + 1) text)
-      → IfOk result (λ end. end ≡ start + 1 + future_length (drop (start + 1) text))
-      → IfOk result (λ end. end ≡ start + literal_length (drop start text))
-  end_at (Ok end) parses is = omega (arith, is, length_at (sym parses))
-  end_at (Err e) parses is = tt

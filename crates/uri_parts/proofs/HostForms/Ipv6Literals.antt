@@ -11,7 +11,8 @@ use Rattle.std.proofs.NetLemmas.Options.{map_some}
 use Rattle.std.proofs.NetLemmas.Ipv6.{EndsGroups, read_ipv6_complete, read_ipv6_sound}
 use Rattle.uri_parts.specs.Components.{starts, before_any, from_any}
 use Rattle.uri_parts.specs.Hosts.{ipv6_value, is_ipv_future}
-use Rattle.uri_parts.specs.Models.Literals.{is_literal, parses_literal, literal_length}
+use Rattle.uri_parts.specs.Models.Literals.{literal_length}
+use Rattle.uri_parts.proofs.Parsing.Acceptance.{is_literal, parses_literal}
 use Rattle.uri_parts.proofs.Splitting.Cuts.{Begins, IsCut-any, cut-append}
 use Rattle.uri_parts.proofs.HostForms.Addresses.{ipv6_value-complete, ipv6_value-sound}
 use Rattle.uri_parts.proofs.HostForms.Futures.{ipv6_lacks}
@@ -73,7 +74,7 @@ value_of None b e f = absurd (false≢true (sym f ∙ e))
 value_of (Some x) b e f = (x, refl)
 
 -- an address with `]` behind it is parsed
-closed_parsed : (rest : List ℕ) → (starts 118 rest || starts 86 rest) ≡ false
+pub closed_parsed : (rest : List ℕ) → (starts 118 rest || starts 86 rest) ≡ false
     → parses_literal rest ≡ true
     → (left rest ≡ Some (from_any (codes "]") rest))
     × (starts 93 (from_any (codes "]") rest) ≡ true)

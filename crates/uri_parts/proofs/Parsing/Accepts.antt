@@ -9,7 +9,8 @@ use Rattle.uri_pct.specs.Sets.{TableSet, is_one_of}
 use Rattle.uri_pct.specs.Tokens.{is_valid_for}
 use Rattle.uri_pct.proofs.ValidTexts.Cuts.{ascii_marks, from_mark, other_len}
 use Rattle.uri_parts.specs.Components.{before_any, from_any, starts, when, after_query, is_end}
-use Rattle.uri_parts.specs.Models.Parsing.{parses_after, parses_fragment, parses_end, parses_path}
+use Rattle.uri_parts.proofs.Parsing.Acceptance.{parses_after, parses_fragment, parses_end}
+use Rattle.uri_parts.proofs.Parsing.Acceptance.{parses_path}
 use Rattle.uri_parts.specs.Grammar.{Kind, if_some}
 use Rattle.uri_parts.proofs.Parsing.ScanStops.{piece, utf8_from, utf8_tail}
 use Rattle.uri_parts.proofs.TextKinds.Separations.{Separates}

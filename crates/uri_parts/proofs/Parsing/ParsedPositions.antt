@@ -16,10 +16,12 @@ use Rattle.uri_parts.specs.Components.{before_any, from_any, starts, has_authori
 use Rattle.uri_parts.specs.Components.{after_authority, components, when}
 use Rattle.uri_parts.specs.Positions.{positions_of, marked_length, authority_at}
 use Rattle.uri_parts.specs.Grammar.{Kind}
-use Rattle.uri_parts.specs.Models.AuthorityParsing.{finds_authority, found_length}
-use Rattle.uri_parts.specs.Models.Parsing.{is_stray, parses_fragment, parses_end, parses_path}
-use Rattle.uri_parts.specs.Models.Parsing.{parses_authority, parses_relative, parses_hier}
-use Rattle.uri_parts.specs.Models.Parsing.{parses_schemeless, parses, query_end_at, path_positions}
+use Rattle.uri_parts.specs.Models.AuthorityParsing.{found_length}
+use Rattle.uri_parts.specs.Models.Parsing.{query_end_at, path_positions}
+use Rattle.uri_parts.proofs.Parsing.Acceptance.{finds_authority, is_stray, parses_fragment}
+use Rattle.uri_parts.proofs.Parsing.Acceptance.{parses_end, parses_path, parses_authority}
+use Rattle.uri_parts.proofs.Parsing.Acceptance.{parses_relative, parses_hier, parses_schemeless}
+use Rattle.uri_parts.proofs.Parsing.Acceptance.{parses}
 use Rattle.uri_parts.specs.Models.Parsing.{authority_positions, hier_positions, relative_positions}
 use Rattle.uri_parts.specs.Models.Parsing.{schemeless_positions, parsed_positions}
 use Rattle.uri_parts.proofs.Parsing.ScanStops.{stop_cases, utf8_from, utf8_past, utf8_slashes}

@@ -14,7 +14,7 @@ use Rattle.uri_pct.proofs.ValidTexts.Cuts.{AreAscii, to_mark, excludes, mark_per
 use Rattle.uri_pct.proofs.ValidTexts.Cuts.{from_mark, cut, prefix_le_mark}
 use Rattle.uri_pct.proofs.ValidTexts.Prefixes.{valid_prefix-after}
 use Rattle.uri_parts.specs.Components.{before_any, from_any, starts, has_authority}
-use Rattle.uri_parts.specs.Models.Parsing.{is_stray, parses_after}
+use Rattle.uri_parts.proofs.Parsing.Acceptance.{is_stray, parses_after}
 
 pub utf8_from : (marks bs : List ℕ) → AreAscii marks → IsUtf8 bs → IsUtf8 (from_any marks bs)
 utf8_from marks bs ascii u = IsUtf8-drop bs _ u (mark_boundary marks ascii bs)

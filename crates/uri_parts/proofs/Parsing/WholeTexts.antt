@@ -16,9 +16,8 @@ use Rattle.uri_parts.specs.Components.{before_any, from_any, starts, has_authori
 use Rattle.uri_parts.specs.Components.{after_scheme, after_authority, components, when}
 use Rattle.uri_parts.specs.Grammar.{Kind, if_some, is_scheme, is_authority, has_colon_first}
 use Rattle.uri_parts.specs.Grammar.{is_of_kind}
-use Rattle.uri_parts.specs.Models.Parsing.{parses_path, parses_authority, parses_relative}
-use Rattle.uri_parts.specs.Models.Parsing.{parses_hier}
-use Rattle.uri_parts.specs.Models.Parsing.{parses_schemeless, parses}
+use Rattle.uri_parts.proofs.Parsing.Acceptance.{parses_path, parses_authority, parses_relative}
+use Rattle.uri_parts.proofs.Parsing.Acceptance.{parses_hier, parses_schemeless, parses}
 use Rattle.uri_parts.proofs.Parsing.ScanStops.{utf8_from, utf8_past, utf8_slashes}
 use Rattle.uri_parts.proofs.TextKinds.Separations.{Separates}
 use Rattle.uri_parts.proofs.Parsing.Accepts.{fragment_ok, end_ok, path_lemma}

@@ -1,8 +1,9 @@
 -- The errors of an address in brackets.
 use Rattle.std.proofs.Common.{◌≡◌, ℕ, ◌+◌, ◌-◌, ◌<◌, true, false, eqb, List, [], ◌∷◌, ◌++◌, length}
+use Rattle.std.proofs.Common.{Option}
 use Rattle.std.proofs.Common.{drop, get_or, Some, None, refl, sym, ap, ◌∙◌, arith, ◌||◌, ⊎_elim}
 use Rattle.std.proofs.Common.{get_or-drop, add-zero, length-append, length-drop}
-use Rattle.std.specs.Prelude.{Ok, Err, option_map, codes}
+use Rattle.std.specs.Prelude.{Ok, Err, is_ok, option_map, codes}
 use Rattle.std.specs.Char.{is_digit}
 use Rattle.std.specs.Net.Grammar.{IsColonHex}
 use Rattle.std.specs.Net.Reader.{read_ipv6, digit_count}
@@ -15,7 +16,7 @@ use Rattle.uri_parts.specs.Components.{starts}
 use Rattle.uri_parts.specs.Errors.{unexpected, malformed_ipv6}
 use Rattle.uri_parts.specs.LiteralErrors.{closed, literal, ipv6_end, is_no_ipv6, digits_end}
 use Rattle.uri_parts.specs.Scanning.{scan_to_mark}
-use Rattle.uri_parts.specs.Models.Literals.{parses_literal, is_literal}
+use Rattle.uri_parts.proofs.Parsing.Acceptance.{parses_literal, is_literal}
 use Rattle.uri_parts.proofs.HostForms.Addresses.{ipv6_value-complete}
 use Rattle.uri_parts.proofs.HostForms.Futures.{ipv6_lacks}
 use Rattle.uri_parts.proofs.HostForms.Ipv6Literals.{begins, place_behind}
@@ -43,7 +44,7 @@ letter_none : (text : List ℕ) → (starts 118 text || starts 86 text) ≡ fals
 letter_none [] e = refl
 letter_none (b ∷ text) e = grind (arith, nat_tests)
 
-nonempty : (xs : List ℕ) → starts 93 xs ≡ true → 0 < length xs
+pub nonempty : (xs : List ℕ) → starts 93 xs ≡ true → 0 < length xs
 nonempty [] e = absurd (false≢true e)
 nonempty (x ∷ xs) e = omega arith
 
@@ -93,10 +94,27 @@ module _ (text : List ℕ) (i : ℕ) where
       address_parsed (drop i text) w.address (drop end text) w.segments w.split w.is c
 
   pub error_some : (end : ℕ) → is_no_ipv6 text i ≡ false → ipv6_end text i ≡ Some end
-      → parses_literal (drop i text) ≡ false → literal text i ≡ Err (unexpected end)
-  error_some end some e none = closed_as some ∙ ap (closed text i) e ∙ cond-false _ _ _
-      (⊎_elim (λ c. absurd (both_ways _ none (read_parsed end e c))) (λ c. c)
+      → is_ok (literal text i) ≡ false → literal text i ≡ Err (unexpected end)
+  error_some end some e none =
+      let s = closed_as some ∙ ap (closed text i) e in
+      s ∙ cond-false _ _ _
+      (⊎_elim (λ c. absurd (both_ways _ none (ap is_ok (s ∙ cond-true _ _ _ c)))) (λ c. c)
       (cases_Bool (starts 93 (drop end text))))
+
+  none_closed : (end : Option ℕ) → ipv6_end text i ≡ end → parses_literal (drop i text) ≡ false
+      → is_ok (closed text i end) ≡ false
+  none_closed None e none = refl
+  none_closed (Some end) e none = ⊎_elim
+      (λ c. absurd (both_ways _ none (read_parsed end e c)))
+      (λ c. ap is_ok (cond-false (starts 93 (drop end text)) _ _ c))
+      (cases_Bool (starts 93 (drop end text)))
+
+  pub not_read : (starts 118 (drop i text) || starts 86 (drop i text)) ≡ false
+      → parses_literal (drop i text) ≡ false → is_ok (literal text i) ≡ false
+  not_read plain none = ⊎_elim
+      (λ n. ap is_ok (error_open plain n))
+      (λ n. ap is_ok (closed_as n) ∙ none_closed (ipv6_end text i) refl none)
+      (cases_Bool (is_no_ipv6 text i))
 
 -- an address that is parsed with a `]` behind it is read so
 pub closed_read : (text behind : List ℕ) (i : ℕ)

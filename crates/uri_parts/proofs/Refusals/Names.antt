@@ -84,7 +84,7 @@ unfolding begins_any
 mark_next mark marks [] m e = absurd (false≢true e)
 mark_next mark marks (b ∷ bs) m e = ap (is_one_of marks) (eqb-true b mark e) ∙ m
 
-starts_one : (mark other : ℕ) (bs : List ℕ) → eqb mark other ≡ false → starts mark bs ≡ true
+pub starts_one : (mark other : ℕ) (bs : List ℕ) → eqb mark other ≡ false → starts mark bs ≡ true
     → starts other bs ≡ false
 starts_one mark other [] n e = absurd (false≢true e)
 starts_one mark other (b ∷ bs) n e = ap (λ c. eqb c other) (eqb-true b mark e) ∙ n

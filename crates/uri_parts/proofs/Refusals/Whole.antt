@@ -1,7 +1,9 @@
 -- What the parser tells of a whole text is its refusal.
 use Rattle.std.proofs.Common.{◌≡◌, ℕ, ◌+◌, Bool, true, false, cond, eqb, List, get_or, drop, refl}
 use Rattle.std.proofs.Common.{sym, ap, subst, ◌∙◌, arith, ◌&&◌, ◌||◌, ⊎_elim, zero-add, Some}
-use Rattle.std.specs.Prelude.{if◌then◌else◌, Ok, Err}
+use Rattle.std.specs.Prelude.{if◌then◌else◌, Ok, Err, Result, is_ok, is_none}
+use Rattle.std.specs.Result.{result_err}
+use Rattle.std.specs.Str.{IsUtf8}
 use Rattle.std.specs.Char.{is_ascii_alphabetic}
 use Rattle.std.proofs.lemmas.Bool.{cases_Bool, cond-true, cond-false, cases_lt, lt-ltb, le-ltb}
 use Rattle.uri_pct.specs.Sets.{TableSet, scheme_set, reg_name_set, userinfo_set}
@@ -17,6 +19,9 @@ use Rattle.uri_parts.specs.Grammar.{Kind, first_segment_set, one_of_four}
 use Rattle.uri_parts.specs.Models.ParseErrors.{hier_error, schemeless_error, parsed_error}
 use Rattle.uri_parts.proofs.Parsing.WholeTexts.{slashes_prefix, slashes_scanned}
 use Rattle.uri_parts.proofs.Splitting.Relative.{scheme_lacks}
+use Rattle.uri_parts.specs.declared.error.ParseError.{ParseError}
+use Rattle.uri_parts.proofs.Parsing.Acceptance.{parses}
+use Rattle.uri_parts.proofs.Refusals.Accepted.{ok_is, parsed_accepted}
 use Rattle.uri_parts.proofs.Refusals.Names.{authority_is}
 use Rattle.uri_parts.proofs.Refusals.Rooted.{Adjoins}
 use Rattle.uri_parts.proofs.TextKinds.Separations.{Separates}
@@ -106,3 +111,14 @@ whole_refusal kind tables segment known k s text =
     (subst Adjoins (sym k) (known_adjoins kind known)) text
     (s ∙ ap first_segment_set (sym k))
     ∙ ap (λ v. refusal v text) k
+
+-- there is a result exactly where the text is parsed
+pub whole_accepted : {A : Type 0} (kind tables : Kind) (segment : TableSet)
+    → kind ≡ one_of_four kind.path.ucschar kind.needs_scheme → tables ≡ kind
+    → segment ≡ first_segment_set kind
+    → (text : List ℕ) → IsUtf8 text → (result : Result A ParseError)
+    → result_err result ≡ parsed_error segment tables text
+    → is_ok result ≡ parses segment tables text
+whole_accepted kind tables segment known k s text u result e =
+    ok_is result ∙ ap is_none e
+    ∙ parsed_accepted tables text segment (tables_of kind tables segment known k s) u

@@ -7,8 +7,9 @@ use Rattle.std.proofs.lemmas.Bool.{cases_Bool, cond-true, and_left}
 use Rattle.uri_pct.specs.Sets.{TableSet}
 use Rattle.uri_parts.specs.Components.{before_any, from_any, has_authority, after_authority, when}
 use Rattle.uri_parts.specs.Grammar.{Kind, if_some, is_authority}
-use Rattle.uri_parts.specs.Models.AuthorityParsing.{found_length, finds_authority}
-use Rattle.uri_parts.specs.Models.Parsing.{parses_path, parses_authority, parses_hier}
+use Rattle.uri_parts.specs.Models.AuthorityParsing.{found_length}
+use Rattle.uri_parts.proofs.Parsing.Acceptance.{finds_authority, parses_path, parses_authority}
+use Rattle.uri_parts.proofs.Parsing.Acceptance.{parses_hier}
 use Rattle.uri_parts.proofs.Authorities.AuthorityCuts.{length-before}
 use Rattle.uri_parts.proofs.Authorities.FoundAuthorities.{accepts, is_found}
 use Rattle.uri_parts.proofs.TextKinds.Separations.{Separates}

@@ -15,7 +15,7 @@ use Rattle.uri_pct.proofs.ValidTexts.Cuts.{to_mark, excludes, prefix_zero_mark, 
 use Rattle.uri_pct.proofs.ValidTexts.Prefixes.{valid_prefix-after, valid_prefix-within, none_scanned}
 use Rattle.uri_parts.specs.Components.{before_any, from_any, starts, has_scheme}
 use Rattle.uri_parts.specs.Grammar.{Kind, has_colon_first}
-use Rattle.uri_parts.specs.Models.Parsing.{is_stray, parses_end, parses_path, parses_relative}
+use Rattle.uri_parts.proofs.Parsing.Acceptance.{is_stray, parses_end, parses_path, parses_relative}
 use Rattle.uri_parts.proofs.Parsing.ScanStops.{stop_cases}
 use Rattle.uri_parts.proofs.TextKinds.Separations.{Separates}
 use Rattle.uri_parts.proofs.Parsing.Accepts.{end_stuck, none_of_four}

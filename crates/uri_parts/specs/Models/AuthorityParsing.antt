@@ -1,12 +1,12 @@
 -- What the parser takes of an authority, as functions of the text that is left: RFC 3986, section
 -- 3.2.
-use Rattle.std.specs.Prelude.{ℕ, ◌+◌, Bool, true, ◌&&◌, ◌||◌, List, [], ◌∷◌, drop, codes}
+use Rattle.std.specs.Prelude.{ℕ, ◌+◌, Bool, true, List, [], ◌∷◌, drop, codes}
 use Rattle.std.specs.Prelude.{if◌then◌else◌}
 use Rattle.uri_pct.specs.Sets.{digit_set, is_one_of}
 use Rattle.uri_pct.specs.Prefixes.{valid_prefix, after}
 use Rattle.uri_parts.specs.Components.{starts}
 use Rattle.uri_parts.specs.Grammar.{Kind}
-use Rattle.uri_parts.specs.Models.Literals.{parses_literal, literal_length}
+use Rattle.uri_parts.specs.Models.Literals.{literal_length}
 use Rattle.uri_parts.specs.declared.positions.AuthorityPositions.{AuthorityPositions}
 use Rattle.uri_pct.specs.Delimiters.{at_sign, colon, left_bracket}
 
@@ -37,13 +37,6 @@ host_end kind rest =
 unfoldable pub host_length : Kind → List ℕ → ℕ
 host_length kind rest = host_end kind rest + port_length (drop (host_end kind rest) rest)
 
-unfoldable pub passes_host : List ℕ → Bool
-passes_host rest = if starts left_bracket rest then parses_literal (drop 1 rest) else true
-
-unfoldable pub finds_host : Kind → List ℕ → Bool
-finds_host kind rest =
-    passes_host rest && begins_any (codes "/?#") (drop (host_length kind rest) rest)
-
 -- what was passed as a name and a port is a prefix of userinfo, which goes on from there
 unfoldable pub more_user : Kind → List ℕ → ℕ
 more_user kind rest = if starts at_sign rest then 0 else valid_prefix kind.userinfo rest
@@ -52,23 +45,12 @@ unfoldable pub user_length : Kind → List ℕ → ℕ
 user_length kind rest =
     name_length kind rest + more_user kind (drop (name_length kind rest) rest)
 
-unfoldable pub passes_user : Kind → List ℕ → Bool
-passes_user kind rest = starts at_sign (drop (user_length kind rest) rest)
-
 -- where the host begins: at once if it stands in brackets, and else behind userinfo and its mark
 unfoldable pub host_place : Kind → List ℕ → ℕ
 host_place kind rest = if starts left_bracket rest then 0 else user_length kind rest + 1
 
 abbrev pub from_host : Kind → List ℕ → List ℕ
 from_host kind rest = drop (host_place kind rest) rest
-
--- an authority of any other form than a name
-unfoldable pub finds_other : Kind → List ℕ → Bool
-finds_other kind rest =
-    (starts left_bracket rest || passes_user kind rest) && finds_host kind (from_host kind rest)
-
-unfoldable pub finds_authority : Kind → List ℕ → Bool
-finds_authority kind rest = finds_name kind rest || finds_other kind rest
 
 unfoldable pub other_length : Kind → List ℕ → ℕ
 other_length kind rest = host_place kind rest + host_length kind (from_host kind rest)

@@ -1,67 +1,14 @@
--- What the parser takes, as functions of the text that is left: RFC 3986, sections 3 and 4.1.
-use Rattle.std.specs.Prelude.{ℕ, ◌+◌, Bool, not, ◌&&◌, ◌==◌, List}
-use Rattle.std.specs.Prelude.{drop, slice_index, Option, Some, None, if◌then◌else◌}
-use Rattle.std.specs.Char.{is_ascii_alphabetic}
+-- Where the parser finds the components, as functions of the text that is left: RFC 3986, sections 3
+-- and 4.1.
+use Rattle.std.specs.Prelude.{ℕ, ◌+◌, ◌&&◌, ◌==◌, List, drop, Option, Some, None, if◌then◌else◌}
 use Rattle.uri_pct.specs.Sets.{TableSet, scheme_set}
 use Rattle.uri_pct.specs.Prefixes.{valid_prefix, after}
-use Rattle.uri_parts.specs.Models.AuthorityParsing.{finds_authority, found_length, found_authority}
-use Rattle.uri_parts.specs.Components.{starts, has_authority, is_end}
+use Rattle.uri_parts.specs.Models.AuthorityParsing.{found_length, found_authority}
+use Rattle.uri_parts.specs.Components.{starts, has_authority}
 use Rattle.uri_parts.specs.Grammar.{Kind}
 use Rattle.uri_parts.specs.declared.positions.Positions.{Positions}
 use Rattle.uri_parts.specs.declared.positions.AuthorityPositions.{AuthorityPositions}
-use Rattle.uri_pct.specs.Delimiters.{colon, number_sign, percent_sign, question_mark}
-
--- a scan for a set with octets stopped at a `%` that begins none
-abbrev pub is_stray : TableSet → List ℕ → Bool
-is_stray set rest = set.pct_encoded && starts percent_sign rest
-
--- what follows the longest prefix that the set allows is taken by a test
-abbrev pub parses_after : TableSet → (List ℕ → Bool) → List ℕ → Bool
-parses_after set test rest = not (is_stray set (after set rest)) && test (after set rest)
-
--- a fragment if there is one, and then the end
-unfoldable pub parses_fragment : Kind → List ℕ → Bool
-parses_fragment kind rest =
-    if starts number_sign rest then parses_after kind.fragment is_end (drop 1 rest) else is_end rest
-
--- a query if there is one, and what follows it
-unfoldable pub parses_end : Kind → List ℕ → Bool
-parses_end kind rest =
-    if starts question_mark rest then parses_after kind.query (parses_fragment kind) (drop 1 rest)
-    else parses_fragment kind rest
-
--- a path, and what follows it
-unfoldable pub parses_path : Kind → List ℕ → Bool
-parses_path kind rest = parses_after kind.path (parses_end kind) rest
-
--- an authority, and what follows it
-unfoldable pub parses_authority : Kind → List ℕ → Bool
-parses_authority kind rest =
-    finds_authority kind rest && parses_path kind (drop (found_length kind rest) rest)
-
--- a path that has no colon behind the characters of a first segment, and what follows it
-unfoldable pub parses_relative : TableSet → Kind → List ℕ → Bool
-parses_relative segment kind rest =
-    parses_after segment (λ r. not (starts colon r) && parses_path kind r) rest
-
--- what follows a scheme
-unfoldable pub parses_hier : Kind → List ℕ → Bool
-parses_hier kind rest =
-    if has_authority rest then parses_authority kind (drop 2 rest) else parses_path kind rest
-
--- a text that has no scheme, of which so many characters are passed that may stand in one
-unfoldable pub parses_schemeless : TableSet → Kind → ℕ → List ℕ → Bool
-parses_schemeless segment kind passed rest =
-    if passed == 0 && has_authority rest then parses_authority kind (drop 2 rest)
-    else parses_relative segment kind rest
-
-unfoldable pub parses : TableSet → Kind → List ℕ → Bool
-parses segment kind text =
-    if starts colon (after scheme_set text)
-    then is_ascii_alphabetic (slice_index text 0)
-    && parses_hier kind (drop 1 (after scheme_set text))
-    else not kind.needs_scheme
-    && parses_schemeless segment kind (valid_prefix scheme_set text) (after scheme_set text)
+use Rattle.uri_pct.specs.Delimiters.{colon, question_mark}
 
 -- where the query ends that begins at a place
 unfoldable pub query_end_at : Kind → ℕ → List ℕ → Option ℕ

@@ -1,73 +1,15 @@
 use Rattle.std.proofs.Common.{◌≡◌, ◌≤◌, true, false, length, arith, sym, ap, ◌∙◌, length-drop}
-use Rattle.std.proofs.lemmas.Str.{IsUtf8-drop}
 use Rattle.uri_parts.specs.Components.{starts}
-use Rattle.uri_parts.proofs.HostForms.FutureParsing.{parses_at, end_at}
-use Rattle.uri_parts.proofs.HostForms.Ipv6Literals.{follows, place_behind, accepted, unparsed}
-use Rattle.uri_parts.proofs.HostForms.Ipv6Literals.{unclosed}
-use Rattle.uri_parts.proofs.Refusals.Literals.{lettered, closed_read}
+use Rattle.uri_parts.proofs.HostForms.Ipv6Literals.{follows, place_behind, unparsed, unclosed}
+use Rattle.uri_parts.proofs.Refusals.Literals.{lettered, closed_read, not_read}
 use Rattle.uri_parts.proofs.literal.literal_end.Goals.{in-Some+else-sees, in_default}
 use Rattle.uri_parts.proofs.literal.literal_end.Goals as goal
-
-pub returns-then-is_lettered-clause-accepts : goal.returns-then-is_lettered-clause-accepts
-returns-then-is_lettered-clause-accepts c =
-    let u = IsUtf8-drop c.args.text.now c.args.start c.utf8.text c.requires in
-    let v = sym c.is_lettered.ensures.value ∙ c.if-is_lettered.true in
-    c.future_end.ensures.accepts ∙ sym (parses_at c.args.text.now c.args.start u v)
-
-pub returns-then-is_lettered-clause-end : goal.returns-then-is_lettered-clause-end
-returns-then-is_lettered-clause-end c =
-    let u = IsUtf8-drop c.args.text.now c.args.start c.utf8.text c.requires in
-    let v = sym c.is_lettered.ensures.value ∙ c.if-is_lettered.true in
-    end_at c.args.text.now c.args.start u v c.future_end.result c.future_end.ensures.accepts
-    c.future_end.ensures.end
 
 pub overflow_sub-end : goal.overflow_sub-end
 overflow_sub-end c =
     let e = rw (c.as_bytes.ensures.value, c.range_from-address.ensures.value) at
     c.in-Some.ensures in
     omega (arith, (follows _ _ e).0, length-drop c.args.start c.args.text.now)
-
-pub returns-then-sees-clause-accepts : goal.returns-then-sees-clause-accepts
-returns-then-sees-clause-accepts c =
-    let e = rw (c.as_bytes.ensures.value, c.range_from-address.ensures.value) at
-    c.in-Some.ensures in
-    let within : c.args.start ≤ length c.args.text.now = c.requires.0 in
-    let here : starts 93 c.in-Some.rest.now ≡ true = ap (starts 93) (place_behind _ _ _ within e)
-    ∙ sym c.sees.ensures.value ∙ c.if-sees.true in
-    sym (accepted _ _ e here).0
-
-pub returns-then-sees-clause-end : goal.returns-then-sees-clause-end
-returns-then-sees-clause-end c =
-    let e = rw (c.as_bytes.ensures.value, c.range_from-address.ensures.value) at
-    c.in-Some.ensures in
-    let within : c.args.start ≤ length c.args.text.now = c.requires.0 in
-    let here : starts 93 c.in-Some.rest.now ≡ true = ap (starts 93) (place_behind _ _ _ within e)
-    ∙ sym c.sees.ensures.value ∙ c.if-sees.true in
-    omega (
-      arith,
-      (accepted _ _ e here).1,
-      (follows _ _ e).0,
-      length-drop c.args.start
-          c.args.text.now,
-    )
-
-pub returns-clause-accepts : goal.returns-clause-accepts
-returns-clause-accepts c =
-    let plain = sym c.is_lettered.ensures.value ∙ c.if-is_lettered.false in
-    let within : c.args.start ≤ length c.args.text.now = c.requires.0 in
-    elim c.match-after_ipv6.branch [
-      | in-Some+else-sees w ↦
-          let e = rw (c.as_bytes.ensures.value, c.range_from-address.ensures.value) at
-          w.in-Some.ensures in
-          let other : starts 93 w.in-Some.rest.now ≡ false =
-          ap (starts 93) (place_behind _ _ _ within e)
-          ∙ sym w.sees.ensures.value ∙ w.if-sees.false in
-          sym (unclosed _ _ plain e other)
-      | in_default w ↦
-          let e = rw (c.as_bytes.ensures.value, c.range_from-address.ensures.value) at
-          w.in_default.ensures in
-          sym (unparsed _ plain e)
-    ]
 
 pub returns-then-is_lettered-clause-exact : goal.returns-then-is_lettered-clause-exact
 returns-then-is_lettered-clause-exact c =
@@ -94,9 +36,9 @@ refusal-requires-clause-refused c =
           let other : starts 93 w.in-Some.rest.now ≡ false =
           ap (starts 93) (place_behind _ _ _ within e)
           ∙ sym w.sees.ensures.value ∙ w.if-sees.false in
-          unclosed _ _ plain e other
+          not_read _ _ plain (unclosed _ _ plain e other)
       | in_default w ↦
           let e = rw (c.as_bytes.ensures.value, c.range_from-address.ensures.value) at
           w.in_default.ensures in
-          unparsed _ plain e
+          not_read _ _ plain (unparsed _ plain e)
     ]
