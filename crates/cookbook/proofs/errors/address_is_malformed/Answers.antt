@@ -2,16 +2,8 @@ use Rattle.std.proofs.Common.{refl, codes}
 use Rattle.fluent_uri.proofs.OnLiterals.{errors_on_literals}
 use Rattle.fluent_uri.specs.Errors.{malformed_ipv6}
 use Rattle.fluent_uri.specs.Grammar.{uri_ref}
-<<<<<<< HEAD:crates/cookbook/proofs/errors/address_is_malformed/Answers.antt
-use Rattle.fluent_uri.specs.LiteralErrors.{groups_from, ipv6_end, is_no_ipv6, literal}
-use Rattle.fluent_uri.specs.Prefixes.{valid_prefix_from, allows_first}
-use Rattle.fluent_uri.specs.Refusals.{refusal, from_authority, from_host}
 use Rattle.cookbook.proofs.KnownErrors.{error_is}
 use Rattle.cookbook.proofs.errors.address_is_malformed.Goals as goal
-=======
-use Rattle.cookbook.proofs.KnownErrors.{error_is}
-use Rattle.cookbook.proofs.errors.address_is_malformed.Goals as goal
->>>>>>> origin/ready/oneway-whole:crates/cookbook/proofs/errors/address_is_malformed/Answers.antt
 
 pub returns : goal.returns
 unfolding errors_on_literals
