@@ -27,8 +27,8 @@ fn relativized<K: RelativeKind, B: AsStr, T: AsStr>(
         IsRelativeTo (components (reference_text base.now))
         (settled (reference_text target.now)) (components (reference_text reference))) }
 {
-    let text = relative(alloc, base.core(), target.core(), prefers_relative_path)?;
-    Ok(Reference::of_core(Core::of_text(text)))
+    let made = relative(alloc, base.core(), target.core(), prefers_relative_path)?;
+    Ok(Reference::of_core(Core::new(made.text, made.positions)))
 }
 
 /// Makes references that lead from a base to targets, by its setting: whether a relative path is
