@@ -11,6 +11,8 @@ mod kinds;
 #[cfg(test)]
 mod links;
 #[cfg(test)]
+mod relatives;
+#[cfg(test)]
 mod requests;
 #[cfg(test)]
 mod targets;

@@ -10,6 +10,7 @@ pub mod pairs;
 pub mod parts;
 pub mod reach;
 pub mod refusal;
+pub mod relative;
 pub mod segments;
 pub mod service;
 pub mod task;

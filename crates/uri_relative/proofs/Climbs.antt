@@ -11,7 +11,8 @@ use Rattle.std.proofs.lemmas.Bool.Decides.{nat_tests}
 use Rattle.uri_parts.specs.Components.{IsRooted}
 use Rattle.uri_ops.specs.Dots.{is_empty, IsAbsolute, EndsInSlash, lacks_dot_segments, segments}
 use Rattle.uri_ops.specs.Dots.{remove_dot_segments, underflows, directory}
-use Rattle.uri_ops.proofs.Paths.Segments.{pop, pop_push, is_none, none_push, Passes, is_plain, step_of, turn, sunk}
+use Rattle.uri_ops.proofs.Paths.Segments.{pop, pop_push, is_none, none_push, Passes, is_plain}
+use Rattle.uri_ops.proofs.Paths.Segments.{step_of, turn, sunk}
 use Rattle.uri_ops.proofs.Paths.SlashedSegments.{slashed, NoSlashes, lacks_slash, segments_slashed}
 use Rattle.uri_ops.proofs.Paths.SlashedSegments.{segments_some, directory_slashed}
 use Rattle.uri_ops.proofs.Paths.Segments.{parent_plain}
@@ -86,8 +87,10 @@ stay_sunk xs = refl
 
 pub underflowing : IsByDirectory underflows
 underflowing = record {
-  up = λ xs y rest plain lack h. underflows_dot (xs ++ y ∷ []) plain lack (codes "..") refl refl rest h
-      ∙ ap (λ b. b || underflows (dir (step_of (xs ++ y ∷ []) (codes "..")) ++ drop 1 rest)) (up_sunk xs y)
+  up = λ xs y rest plain lack h.
+      underflows_dot (xs ++ y ∷ []) plain lack (codes "..") refl refl rest h
+      ∙ ap (λ b. b || underflows (dir (step_of (xs ++ y ∷ []) (codes "..")) ++ drop 1 rest))
+      (up_sunk xs y)
       ∙ ap (λ s. underflows (dir s ++ drop 1 rest)) (up_step xs y);
   stay = λ xs rest plain lack h. underflows_dot xs plain lack (codes ".") refl refl rest h
       ∙ ap (λ b. b || underflows (dir (step_of xs (codes ".")) ++ drop 1 rest)) (stay_sunk xs)

@@ -364,7 +364,8 @@ rooted_base text e =
     let b = components text in
     ⊎_elim
     (λ some. rooted_with b.authority b.path some (IsSplitOf-components text).authority)
-    (λ none. inr (true_to _ (not-false _ (and_right_of (is_none b.authority) _ (absent b.authority none) e))))
+    (λ none. inr (true_to _ (not-false _
+    (and_right_of (is_none b.authority) _ (absent b.authority none) e))))
     (cases_Bool (is_some b.authority))
   where
     and_right_of : (a c : Bool) → a ≡ true → (a && c) ≡ false → c ≡ false

@@ -18,8 +18,10 @@ use Rattle.uri_ops.proofs.Meanings.TextParts.{components_utf8}
 use Rattle.uri_ops.proofs.Paths.PathMeanings.{part_cleaned, part_guarded}
 use Rattle.uri_ops.proofs.Targeting.Targets.{target_components}
 use Rattle.uri_relative.specs.Forms.{IsReferenceTo}
-use Rattle.uri_relative.specs.Leading.{IsNoLonger, IsRelativeTo, LeadsTo, bare, settled}
+use Rattle.uri_relative.specs.Leading.{ComesBack, IsNoLonger, IsRelativeTo, LeadsTo, bare}
+use Rattle.uri_relative.specs.Leading.{settled}
 use Rattle.uri_relative.proofs.Forms.{IsTargetOf, rules_of}
+use Rattle.uri_relative.proofs.Returning.{comes_back}
 use Rattle.uri_relative.proofs.Settled.{finished_twice, none_and}
 use Rattle.uri_relative.proofs.Shrinking.{settled_length}
 
@@ -142,6 +144,17 @@ leads_as kind prefers base target made base' target' made' needs of_kind e f h w
     subst (λ x. LeadsTo x target' made') e (subst (λ x. LeadsTo base x made') f
     (subst (LeadsTo base target) (sym h)
     (leads_to kind prefers base target made (scheme_of kind target needs of_kind) w)))
+
+pub back_as : (kind : Kind) (prefers : Bool) (base target made base' target' made' : List ℕ)
+    → kind.needs_scheme ≡ true → IsOfKind kind base → IsOfKind kind target → base ≡ base'
+    → target ≡ target' → made' ≡ made
+    → IsReferenceTo kind prefers (components base) (settled target) (components made)
+    → ComesBack base' target' made'
+back_as kind prefers base target made base' target' made' needs of_base of_kind e f h w =
+    λ reference resolves. comes_back base' reference target' made'
+    (subst (λ x. is_some (components x).scheme ≡ true) e (scheme_of kind base needs of_base))
+    resolves
+    (leads_as kind prefers base target made base' target' made' needs of_kind e f h w)
 
 pub no_longer_as : (kind : Kind) (prefers : Bool) (base : Components)
     (target made target' made' : List ℕ) → prefers ≡ false → target ≡ target' → made' ≡ made

@@ -6,6 +6,7 @@ pub mod References
 pub mod Settled
 pub mod PlainPaths
 pub mod Slices
+pub mod EndPlaces
 pub mod Forms
 pub mod Shrinking
 pub mod Leading

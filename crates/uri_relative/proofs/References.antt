@@ -18,7 +18,8 @@ same_components : (c d : Components) → c.scheme ≡ d.scheme → c.authority �
 same_components c d s a p q f =
     let by_s : Option (List ℕ) → Components = λ x. record c { scheme = x } in
     let by_a : Option (List ℕ) → Components = λ x. record c { scheme = d.scheme; authority = x } in
-    let by_p : List ℕ → Components = λ x. record d { path = x; query = c.query; fragment = c.fragment } in
+    let by_p : List ℕ → Components =
+    λ x. record d { path = x; query = c.query; fragment = c.fragment } in
     let by_q : Option (List ℕ) → Components = λ x. record d { query = x; fragment = c.fragment } in
     let by_f : Option (List ℕ) → Components = λ x. record d { fragment = x } in
     ap by_s s ∙ ap by_a a ∙ ap by_p p ∙ ap by_q q ∙ ap by_f f
@@ -48,7 +49,8 @@ path_reference b t path way s a rooted g w =
     let j : joined b r ≡ c = cond-false _ _ _ w.some ∙ cond-false _ _ _ h in
     let k : joined_path b.path way ≡ m = cond-false _ _ _ w.some ∙ cond-false _ _ _ h in
     ap finished j ∙ same_components (finished c) t s a
-    (path_leads_to b.authority b.path way m path t.path w k (true_of _ (merged_absolute b.path way rooted)) whole) refl refl)
+    (path_leads_to b.authority b.path way m path t.path w k
+    (true_of _ (merged_absolute b.path way rooted)) whole) refl refl)
     (cases_Bool (starts slash way))
 
 -- `//`, where the target has an authority

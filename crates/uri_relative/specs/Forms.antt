@@ -1,9 +1,11 @@
 -- The forms of references: RFC 3986, section 4.2.
-use Rattle.std.specs.Prelude.{◌≡◌, ◌≢◌, ◌≤◌, ℕ, Bool, true, false, List, [], ◌++◌, codes, length, None}
-use Rattle.std.specs.Prelude.{◌==◌, ◌&&◌, if◌then◌else◌, is_none, is_some, slice_index}
+use Rattle.std.specs.Prelude.{◌≡◌, ◌≢◌, ◌≤◌, ℕ, Bool, true, false, List, [], ◌++◌, codes, length}
+use Rattle.std.specs.Prelude.{None, ◌==◌, ◌&&◌, if◌then◌else◌, is_none, is_some, slice_index}
 use Rattle.uri_pct.specs.Delimiters.{full_stop, slash}
 use Rattle.uri_parts.specs.Components.{Components, IsSplitOf, marked, recompose, starts}
 use Rattle.uri_parts.specs.Grammar.{Kind, are_components}
+use Rattle.uri_parts.specs.Positions.{positions_of}
+use Rattle.uri_parts.specs.declared.positions.Positions.{Positions}
 use Rattle.uri_ops.specs.Dots.{IsAbsolute, lacks_dot_segments}
 use Rattle.uri_ops.specs.NormalTargets.{reference_kind}
 use Rattle.uri_ops.specs.Target.{guarded, is_opaque, is_refused_as_opaque, target_of}
@@ -32,6 +34,12 @@ pub record IsReferenceTo (kind : Kind) (prefers : Bool) (base target r : Compone
   pub below : target_underflows base r ≡ false
   pub relative : IsRelativeTo base target r
   pub short : prefers ≡ false → length (recompose r) ≤ length (recompose target)
+
+-- the text, with the positions of its components, is such a reference, whatever is preferred
+abbrev pub IsTextOfReference : Kind → Components → Components → List ℕ → Positions → Type 0
+IsTextOfReference kind base target text positions =
+    (r : Components) × (text ≡ recompose r) × (positions ≡ positions_of r)
+    × ((prefers : Bool) → IsReferenceTo kind prefers base target r)
 
 -- no reference without a path leads to the target
 pub record NeedsPath (base target : Components) : Type 0 where

@@ -5,7 +5,7 @@ use Rattle.uri_pct.specs.Delimiters.{slash}
 use Rattle.uri_parts.specs.Components.{Components, components, recompose, starts}
 use Rattle.uri_ops.specs.Dots.{is_empty}
 use Rattle.uri_ops.specs.Resolving.{finished}
-use Rattle.uri_ops.specs.Target.{is_opaque, resolution_of, target_underflows}
+use Rattle.uri_ops.specs.Target.{is_opaque, resolution_of, resolution_of_texts, target_underflows}
 
 -- section 5.1: a base is stripped of its fragment before it is used
 abbrev pub bare : Components → Components
@@ -24,6 +24,12 @@ pub record LeadsTo (base target reference : List ℕ) : Type 0 where
   pub itself : resolution_of (bare (components base)) (components target)
       ≡ Ok (recompose (settled target))
   pub below : target_underflows (bare (components base)) (components reference) ≡ false
+
+-- what leads to the target from the base can be in the place of any reference to it
+abbrev pub ComesBack : List ℕ → List ℕ → List ℕ → Type 0
+ComesBack base target short = (reference : List ℕ)
+    → resolution_of_texts base reference ≡ Ok target
+    → resolution_of_texts base short ≡ Ok target
 
 -- the reference is no longer than that, nor that than the target
 pub record IsNoLonger (target reference : List ℕ) : Type 0 where

@@ -2,9 +2,11 @@
 #![tactic(auto)]
 
 mod dots;
+mod ends;
 pub mod laws;
 mod paths;
 mod pieces;
+mod places;
 mod reference;
 #[doc(hidden)]
 pub mod relative;

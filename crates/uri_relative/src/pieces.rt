@@ -39,6 +39,16 @@ pub(crate) fn after_path<'a, K: Kind>(core: Core<K, &'a str>) -> &'a str
     &text[core.positions().path_end..]
 }
 
+/// The query with its `?`, or no text.
+#[inline(always)]
+pub(crate) fn marked_query<'a, K: Kind>(core: Core<K, &'a str>) -> &'a str
+    ensures { result.now ≡ marked (codes "?") (components (core_text core.entry)).query [] }
+{
+    let text = core.as_str();
+    let positions = core.positions();
+    &text[positions.path_end..positions.before_fragment()]
+}
+
 /// The fragment with its `#`, or no text.
 #[inline(always)]
 pub(crate) fn marked_fragment<'a, K: Kind>(core: Core<K, &'a str>) -> &'a str

@@ -6,6 +6,7 @@ ghost use Rattle.uri_pct.specs.Texts.{Pushes};
 ghost use Rattle.uri_parts.specs.Components.{components, recompose};
 ghost use Rattle.uri_parts.specs.CoreTexts.{core_text};
 ghost use Rattle.uri_parts.specs.Grammar.{IsOfKind};
+ghost use Rattle.uri_parts.specs.Positions.{AreAt};
 ghost use Rattle.uri_ops.specs.Dots.{IsAbsolute};
 ghost use Rattle.uri_ops.specs.Models.Places.{before_path};
 ghost use Rattle.uri_ops.specs.Resolving.{finished};
@@ -22,6 +23,7 @@ use uri_ops::path::dot_segments::push_without_dot_segments;
 use uri_ops::path::slashes::{begins_with_slash, begins_with_two_slashes};
 use uri_parts::core_text::Core;
 use uri_parts::kind::{IriKind, IriRefKind, Kind, UriKind, UriRefKind};
+use uri_parts::positions::Positions;
 
 /// A kind whose texts have a scheme, with the kind of the references that are resolved against it.
 #[doc(hidden)]
@@ -90,6 +92,13 @@ fn settled_text<K: BaseKind>(alloc: Global, target: Core<K, &str>) -> Result<Str
     Ok(text)
 }
 
+/// The text of a reference, and where its components are.
+#[derive(Drop)]
+pub(crate) struct Made {
+    pub(crate) text: String,
+    pub(crate) positions: Positions,
+}
+
 /// A reference that leads from the base to the target, of which no dot segment is removed.
 #[inline(always)]
 fn reference<K: BaseKind>(
@@ -97,15 +106,16 @@ fn reference<K: BaseKind>(
     base: Core<K, &str>,
     target: Core<K, &str>,
     prefers_relative: bool,
-) -> Result<String, AllocError>
+) -> Result<Made, AllocError>
     requires { let t = components (core_text target) in finished t ≡ t }
-    ensures { IfOk result (λ text. IsReferenceTo K.kind prefers_relative
+    ensures leads { IfOk result (λ made. IsReferenceTo K.kind prefers_relative
         (components (core_text base.entry)) (components (core_text target.entry))
-        (components (string_bytes text))) }
+        (components (string_bytes made.text))) }
+    ensures at { IfOk result (λ made. AreAt (string_bytes made.text) made.positions) }
 {
     let mut text = String::with_capacity(alloc, target.as_str().len())?;
-    push_reference(base, target, prefers_relative, &mut text)?;
-    Ok(text)
+    let positions = push_reference(base, target, prefers_relative, &mut text)?;
+    Ok(Made { text, positions })
 }
 
 /// Whether no dot segment of a target is removed when it is resolved.
@@ -128,11 +138,12 @@ fn reference_to_settled<K: BaseKind>(
     base: Core<K, &str>,
     target: Core<K, &str>,
     prefers_relative: bool,
-) -> Result<String, AllocError>
+) -> Result<Made, AllocError>
     requires { IsAbsolute (components (core_text target)).path }
-    ensures { IfOk result (λ text. IsReferenceTo K.kind prefers_relative
+    ensures leads { IfOk result (λ made. IsReferenceTo K.kind prefers_relative
         (components (core_text base.entry)) (settled (core_text target.entry))
-        (components (string_bytes text))) }
+        (components (string_bytes made.text))) }
+    ensures at { IfOk result (λ made. AreAt (string_bytes made.text) made.positions) }
 {
     let text = settled_text(alloc, target)?;
     let settled = Core::<K, String>::of_text(text);
@@ -146,10 +157,11 @@ pub(crate) fn relative<K: BaseKind>(
     base: Core<K, &str>,
     target: Core<K, &str>,
     prefers_relative: bool,
-) -> Result<String, AllocError>
-    ensures { IfOk result (λ text. IsReferenceTo K.kind prefers_relative
+) -> Result<Made, AllocError>
+    ensures leads { IfOk result (λ made. IsReferenceTo K.kind prefers_relative
         (components (core_text base.entry)) (settled (core_text target.entry))
-        (components (string_bytes text))) }
+        (components (string_bytes made.text))) }
+    ensures at { IfOk result (λ made. AreAt (string_bytes made.text) made.positions) }
 {
     if is_settled(target) {
         return reference(alloc, base, target, prefers_relative);

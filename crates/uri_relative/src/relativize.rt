@@ -2,7 +2,7 @@
 ghost use Rattle.std.specs.Prelude.{◌≡◌, IfOk, false};
 ghost use Rattle.uri_parts.specs.Components.{components};
 ghost use Rattle.fluent_uri.specs.References.{reference_text};
-ghost use Rattle.uri_relative.specs.Leading.{IsNoLonger, IsRelativeTo, LeadsTo, settled};
+ghost use Rattle.uri_relative.specs.Leading.{ComesBack, IsNoLonger, IsRelativeTo, LeadsTo, settled};
 
 use crate::relative::{RelativeKind, relative};
 use fluent_uri::{Reference, RiMaybeRef};
@@ -21,14 +21,17 @@ fn relativized<K: RelativeKind, B: AsStr, T: AsStr>(
     ensures leads { IfOk result (λ reference.
         LeadsTo (reference_text base.now) (reference_text target.now)
         (reference_text reference)) }
+    ensures back { IfOk result (λ reference.
+        ComesBack (reference_text base.now) (reference_text target.now)
+        (reference_text reference)) }
     ensures short { prefers_relative_path ≡ false → IfOk result (λ reference.
         IsNoLonger (reference_text target.now) (reference_text reference)) }
     ensures relative { IfOk result (λ reference.
         IsRelativeTo (components (reference_text base.now))
         (settled (reference_text target.now)) (components (reference_text reference))) }
 {
-    let text = relative(alloc, base.core(), target.core(), prefers_relative_path)?;
-    Ok(Reference::of_core(Core::of_text(text)))
+    let made = relative(alloc, base.core(), target.core(), prefers_relative_path)?;
+    Ok(Reference::of_core(Core::new(made.text, made.positions)))
 }
 
 /// Makes references that lead from a base to targets, by its setting: whether a relative path is
@@ -101,6 +104,9 @@ impl<K: RelativeKind, B: AsStr> Relativizer<Reference<K, B>> {
         ensures leads { IfOk result (λ reference.
             LeadsTo (reference_text (base_of self.now)) (reference_text target.now)
             (reference_text reference)) }
+        ensures back { IfOk result (λ reference.
+            ComesBack (reference_text (base_of self.now)) (reference_text target.now)
+            (reference_text reference)) }
         ensures short { prefers_relative_path self.now ≡ false → IfOk result (λ reference.
             IsNoLonger (reference_text target.now) (reference_text reference)) }
         ensures relative { IfOk result (λ reference.
@@ -140,6 +146,9 @@ pub trait Relativize<K: RelativeKind> {
     ) -> Result<Reference<K::Ref, String>, AllocError>
         ensures leads { IfOk result (λ reference.
             LeadsTo (base_text self.now) (reference_text target.now)
+            (reference_text reference)) }
+        ensures back { IfOk result (λ reference.
+            ComesBack (base_text self.now) (reference_text target.now)
             (reference_text reference)) }
         ensures short { IfOk result (λ reference.
             IsNoLonger (reference_text target.now) (reference_text reference)) }

@@ -1,4 +1,5 @@
-use Rattle.std.proofs.Common.{sym, subst, string_bytes}
+use Rattle.std.proofs.Common.{◌≡◌, ap, arith, length, length-append, rules, string_bytes, subst}
+use Rattle.std.proofs.Common.{sym}
 use Rattle.std.specs.Prelude.{None}
 use Rattle.uri_parts.specs.Components.{IsRooted, components}
 use Rattle.uri_parts.specs.CoreTexts.{core_text}
@@ -22,11 +23,17 @@ returns g c =
     let text = core_text c.args.target in
     let t = components text in
     let found = c.in_ok-push_path.ensures in
-    let p = c.requires.path in (
+    let p = c.requires.path in
+    let old = string_bytes c.args.out.now in
+    let new = string_bytes c.push_path.new.out in
+    let start : c.len-start.result ≡ length old = search rules in
+    let end : c.len.result ≡ length new = search rules in (
       record t { scheme = None; authority = None; path = found.0 },
       pushed_after (string_bytes c.args.out.now) (string_bytes c.push_path.new.out)
           (string_bytes c.push_str.new.self) found.0 c.after_path.result.now _ found.1
           c.in_ok-push_str.ensures.bytes c.after_path.ensures,
+      c.positions_with_path.ensures found.0
+          (omega (arith, start, end, ap length found.1, length-append old found.0)),
       with_path g.K.Kind.kind c.args.prefers_relative b t
           (target_of_text g.K.Kind.kind text g.met.K.BaseKind.needs_scheme c.args.target.of_kind
           c.requires.settled) c.without_guard.result.now found.0

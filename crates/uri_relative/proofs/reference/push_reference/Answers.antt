@@ -6,5 +6,6 @@ returns-in_ok-push_str-in-Some g c =
     let found = c.in-Some.ensures.some in (
       found.0,
       c.in_ok-push_str-in-Some.ensures.bytes ∙ ap (λ t. string_bytes c.args.out.now ++ t) found.1,
-      found.2 c.args.prefers_relative,
+      found.2,
+      found.3 c.args.prefers_relative,
     )

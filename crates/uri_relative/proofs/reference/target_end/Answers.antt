@@ -13,7 +13,8 @@ returns-then-not-have_same_scheme-clause-some g c =
     let text = core_text c.args.target in
     let t = components text in (
       t,
-      c.as_str.ensures.text ∙ sym (recompose-components text),
+      c.whole.ensures.text ∙ sym (recompose-components text),
+      c.whole.ensures.at,
       λ prefers. whole g.K.Kind.kind prefers b t
           (target_of_text g.K.Kind.kind text g.met.K.BaseKind.needs_scheme c.args.target.of_kind
           c.requires)

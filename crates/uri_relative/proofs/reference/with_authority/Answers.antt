@@ -15,7 +15,8 @@ returns-then-is_opaque-clause-some g c =
     let text = core_text c.args.target in
     let t = components text in (
       t,
-      c.as_str.ensures.text ∙ sym (recompose-components text),
+      c.whole.ensures.text ∙ sym (recompose-components text),
+      c.whole.ensures.at,
       λ prefers. whole g.K.Kind.kind prefers b t
           (target_of_text g.K.Kind.kind text g.met.K.BaseKind.needs_scheme c.args.target.of_kind
           c.requires.settled)
@@ -29,7 +30,8 @@ returns-then-not-have_same_authority-clause-some g c =
     let text = core_text c.args.target in
     let t = components text in (
       from_authority t,
-      c.from_authority.ensures,
+      c.from_authority.ensures.text,
+      c.from_authority.ensures.at,
       λ prefers. from_authority_form g.K.Kind.kind prefers b t
           (target_of_text g.K.Kind.kind text g.met.K.BaseKind.needs_scheme c.args.target.of_kind
           c.requires.settled) c.requires.scheme
@@ -57,7 +59,8 @@ returns-clause-some g c =
     c.args.target.of_kind c.requires.settled in
     let opaque = sym c.is_opaque.ensures ∙ c.if-is_opaque.false in (
       from_authority t,
-      c.from_authority-2.ensures,
+      c.from_authority-2.ensures.text,
+      c.from_authority-2.ensures.at,
       λ prefers. from_authority_form g.K.Kind.kind prefers b t w c.requires.scheme opaque
           (λ a. needs_it g.K.Kind.kind b t w c.requires.path a opaque
           (sym (c.begins_with_slash.ensures

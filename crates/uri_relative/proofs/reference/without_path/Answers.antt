@@ -23,7 +23,8 @@ returns-then-have_same_query-clause-some g c =
     let t = components text in
     let same = c.have_same_place.ensures.same c.if-not-have_same_place.false in (
       record t { scheme = None; authority = None; path = []; query = None },
-      c.marked_fragment.ensures,
+      c.from_fragment.ensures.text,
+      c.from_fragment.ensures.at,
       λ prefers. with_fragment g.K.Kind.kind prefers b t
           (target_of_text g.K.Kind.kind text g.met.K.BaseKind.needs_scheme c.args.target.of_kind
           c.requires.settled) c.requires.scheme same.0 same.1
@@ -50,7 +51,8 @@ returns-clause-some g c =
     let t = components text in
     let same = c.have_same_place.ensures.same c.if-not-have_same_place.false in (
       record t { scheme = None; authority = None; path = [] },
-      c.after_path.ensures,
+      c.from_query.ensures.text,
+      c.from_query.ensures.at,
       λ prefers. with_query g.K.Kind.kind prefers b t
           (target_of_text g.K.Kind.kind text g.met.K.BaseKind.needs_scheme c.args.target.of_kind
           c.requires.settled) c.requires.scheme same.0 same.1

@@ -28,10 +28,11 @@ returns-clause-of_kind g c =
     let kind = g.K.Kind.kind in
     let whole = core_text c.args.target in
     let t = components whole in
-    subst (IsOfKind kind) (sym (pieces_joined (marked [] t.scheme (codes ":")) (marked (codes "//") t.authority [])
-    (settled (core_text c.args.target)).path (after_path t) [] (string_bytes c.in_ok-text.text)
-    (string_bytes c.push_str.new.self) (string_bytes c.push_settled_path.new.out)
-    (string_bytes c.push_str-2.new.self) c.in_ok-text.ensures.bytes
+    subst (IsOfKind kind) (sym (pieces_joined (marked [] t.scheme (codes ":"))
+    (marked (codes "//") t.authority []) (settled (core_text c.args.target)).path (after_path t) []
+    (string_bytes c.in_ok-text.text) (string_bytes c.push_str.new.self)
+    (string_bytes c.push_settled_path.new.out) (string_bytes c.push_str-2.new.self)
+    c.in_ok-text.ensures.bytes
     (c.in_ok-push_str.ensures.bytes
     ∙ ap (λ p. string_bytes c.in_ok-text.text ++ p) c.before_path.ensures)
     c.in_ok-push_settled_path.ensures

@@ -1,0 +1,155 @@
+-- Where the components are of what stands behind a scheme, and of a query and a fragment.
+use Rattle.std.proofs.Common.{◌≡◌, ℕ, ◌+◌, ◌-◌, ◌≤◌, List, [], length, refl, sym, ap, ◌∙◌}
+use Rattle.std.proofs.Common.{arith, length-append, option_map, subst}
+use Rattle.std.specs.Prelude.{codes, true, false, is_some, Option, Some, None, IfSome}
+use Rattle.std.proofs.lemmas.Bool.{false≢true}
+use Rattle.std.proofs.lemmas.Option.{none-some, same_Some}
+use Rattle.uri_parts.specs.declared.positions.AuthorityPositions.{AuthorityPositions}
+use Rattle.uri_parts.specs.declared.positions.Positions.{Positions}
+use Rattle.uri_parts.specs.Components.{Components, marked}
+use Rattle.uri_parts.specs.Positions.{authority_at, host_end_of, host_start_of, marked_length}
+use Rattle.uri_parts.specs.Positions.{positions_of}
+
+-- an authority's positions, where so many bytes are before its `//`
+pub record IsFrom (n : ℕ) (places : AuthorityPositions) : Type 0 where
+  pub start : n ≤ places.start
+  pub host_start : n ≤ places.host_start
+  pub host_end : n ≤ places.host_end
+  pub end : n ≤ places.end
+
+pub is_from : (n : ℕ) (authority : Option (List ℕ)) (places : AuthorityPositions)
+    → Some places ≡ option_map (authority_at (n + 2)) authority → IsFrom n places
+is_from n None places e = absurd (none-some places (sym e))
+is_from n (Some a) places e =
+    subst (IsFrom n) (sym (same_Some _ _ e))
+    (record {
+      start = omega arith;
+      host_start = omega arith;
+      host_end = omega arith;
+      end = omega arith;
+    })
+
+-- and without them
+pub moved_back : (n : ℕ) (authority : Option (List ℕ)) (places moved : AuthorityPositions)
+    → Some places ≡ option_map (authority_at (n + 2)) authority
+    → moved.start ≡ places.start - n → moved.host_start ≡ places.host_start - n
+    → moved.host_end ≡ places.host_end - n → moved.end ≡ places.end - n
+    → Some moved ≡ option_map (authority_at 2) authority
+moved_back n None places moved e start host_start host_end end = absurd (none-some places (sym e))
+moved_back n (Some a) places moved e start host_start host_end end =
+    let f = same_Some _ _ e in
+    let a0 : moved.start ≡ 2 = omega
+    (arith, start, ap (λ (q : AuthorityPositions). q.start) f) in
+    let a1 : moved.host_start ≡ 2 + host_start_of a = omega
+    (arith, host_start, ap (λ (q : AuthorityPositions). q.host_start) f) in
+    let a2 : moved.host_end ≡ 2 + host_end_of a = omega
+    (arith, host_end, ap (λ (q : AuthorityPositions). q.host_end) f) in
+    let a3 : moved.end ≡ 2 + length a = omega
+    (arith, end, ap (λ (q : AuthorityPositions). q.end) f) in
+    λ i. Some (record { start = a0 i; host_start = a1 i; host_end = a2 i; end = a3 i })
+
+pub authority_placed : (t : Components) (p : Positions) (n : ℕ) (places : AuthorityPositions)
+    → p ≡ positions_of t → n ≡ marked_length 1 t.scheme → p.authority ≡ Some places
+    → Some places ≡ option_map (authority_at (n + 2)) t.authority
+authority_placed t p n places at m e =
+    sym e ∙ ap (λ (q : Positions). q.authority) at
+    ∙ ap (λ k. option_map (authority_at (k + 2)) t.authority) (sym m)
+
+unplaced : (n m : ℕ) (authority : Option (List ℕ)) → None ≡ option_map (authority_at n) authority
+    → None ≡ option_map (authority_at m) authority
+unplaced n m None e = refl
+unplaced n m (Some a) e = absurd (none-some (authority_at n a) e)
+
+pub no_authority : (t : Components) (p : Positions) → p ≡ positions_of t → p.authority ≡ None
+    → None ≡ option_map (authority_at 2) t.authority
+no_authority t p at e =
+    unplaced (marked_length 1 t.scheme + 2) 2 t.authority
+    (sym e ∙ ap (λ (q : Positions). q.authority) at)
+
+-- a position behind a scheme
+pub scheme_marked : (t : Components) (p : Positions) (end : ℕ) → p ≡ positions_of t
+    → p.scheme_end ≡ Some end → end + 1 ≡ marked_length 1 t.scheme
+scheme_marked t p end at e =
+    marked_at t.scheme (sym e ∙ ap (λ (q : Positions). q.scheme_end) at)
+  where
+    marked_at : (scheme : Option (List ℕ)) → Some end ≡ option_map length scheme
+        → end + 1 ≡ marked_length 1 scheme
+    marked_at None f = absurd (none-some end (sym f))
+    marked_at (Some s) f = omega (arith, same_Some _ _ f)
+
+unschemed : (scheme : Option (List ℕ)) → None ≡ option_map length scheme → None ≡ scheme
+unschemed None e = refl
+unschemed (Some s) e = absurd (none-some (length s) e)
+
+pub without_scheme : (t : Components) (p : Positions) → p ≡ positions_of t
+    → p.scheme_end ≡ None → p ≡ positions_of (record t { scheme = None })
+without_scheme t p at e =
+    at ∙ sym (ap (λ s. let c : Components = record t { scheme = s } in positions_of c)
+    (unschemed t.scheme (sym e ∙ ap (λ (q : Positions). q.scheme_end) at)))
+
+-- the places are not before the end of the scheme
+pub path_from : (t : Components) (p : Positions) (n : ℕ) → p ≡ positions_of t
+    → n ≡ marked_length 1 t.scheme → (n ≤ p.path_start) × (n ≤ p.path_end)
+path_from t p n at m = (
+  omega (arith, m, ap (λ (q : Positions). q.path_start) at),
+  omega (arith, m, ap (λ (q : Positions). q.path_end) at),
+)
+
+pub query_from : (t : Components) (p : Positions) (n : ℕ) → p ≡ positions_of t
+    → n ≡ marked_length 1 t.scheme → IfSome p.query_end (λ q. n ≤ q)
+query_from t p n at m =
+    subst (λ o. IfSome o (λ q. n ≤ q)) (sym (ap (λ (q : Positions). q.query_end) at))
+    (some_from t.query)
+  where
+    some_from : (query : Option (List ℕ))
+        → IfSome (option_map (λ q. (positions_of t).path_end + 1 + length q) query) (λ q. n ≤ q)
+    some_from None = tt
+    some_from (Some q) = omega (arith, m)
+
+pub after_scheme_at : (t : Components) (p : Positions) (n : ℕ)
+    (authority : Option AuthorityPositions) (start end : ℕ) (query : Option ℕ)
+    → p ≡ positions_of t → n ≡ marked_length 1 t.scheme
+    → authority ≡ option_map (authority_at 2) t.authority → start ≡ p.path_start - n
+    → end ≡ p.path_end - n → query ≡ option_map (λ q. q - n) p.query_end
+    → (let q : Positions = record {
+      scheme_end = None;
+      authority = authority;
+      path_start = start;
+      path_end = end;
+      query_end = query;
+    } in q) ≡ positions_of (record t { scheme = None })
+after_scheme_at t p n authority start end query at m a s e q =
+    let u : Components = record t { scheme = None } in
+    let s0 : start ≡ (positions_of u).path_start = omega
+    (arith, m, s, ap (λ (q : Positions). q.path_start) at) in
+    let e0 : end ≡ (positions_of u).path_end = omega
+    (arith, m, e, ap (λ (q : Positions). q.path_end) at) in
+    let q0 : query ≡ (positions_of u).query_end =
+    q ∙ ap (option_map (λ q. q - n)) (ap (λ (q : Positions). q.query_end) at)
+    ∙ query_back t.query in
+    λ i. record {
+      scheme_end = None;
+      authority = a i;
+      path_start = s0 i;
+      path_end = e0 i;
+      query_end = q0 i;
+    }
+  where
+    query_back : (query : Option (List ℕ))
+        → option_map (λ q. q - n)
+        (option_map (λ q. (positions_of t).path_end + 1 + length q) query)
+        ≡ option_map
+        (λ q. (positions_of (record t { scheme = None })).path_end + 1 + length q) query
+    query_back None = refl
+    query_back (Some q) = ap Some (omega (arith, m))
+
+-- how long a query is with its mark
+pub query_marked : (n : ℕ) (query : Option (List ℕ)) → is_some query ≡ true
+    → Some (n + length (marked (codes "?") query [])) ≡ option_map (λ q. n + 1 + length q) query
+query_marked n None e = absurd (false≢true e)
+query_marked n (Some q) e = ap Some (omega (arith, length-append q []))
+
+pub query_absent : (n : ℕ) (query : Option (List ℕ)) → is_some query ≡ false
+    → None ≡ option_map (λ q. n + 1 + length q) query
+query_absent n None e = refl
+query_absent n (Some q) e = absurd (false≢true (sym e))

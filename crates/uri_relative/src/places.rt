@@ -1,0 +1,124 @@
+//! Where the components of a reference are that consists of the end of a target's text (RFC 3986,
+//! section 4.2).
+ghost use Rattle.std.specs.Prelude.{◌≡◌, ◌≤◌, ◌+◌, ◌-◌, ◌^◌, ℕ, List, [], IfSome, None, length};
+ghost use Rattle.std.specs.Prelude.{option_map};
+ghost use Rattle.uri_parts.specs.Components.{Components, components};
+ghost use Rattle.uri_parts.specs.CoreTexts.{core_text};
+ghost use Rattle.uri_parts.specs.Positions.{authority_at, marked_length, positions_of};
+
+use crate::pieces::marked_query;
+use uri_parts::core_text::Core;
+use uri_parts::kind::Kind;
+use uri_parts::positions::{AuthorityPositions, Positions};
+
+/// A position counted from so many bytes later on.
+#[inline(always)]
+fn counted_from(start: usize, position: Option<usize>) -> Option<usize>
+    requires { IfSome position (λ p. start ≤ p) }
+    ensures { result ≡ option_map (λ p. p - start) position }
+{
+    match position {
+        Some(position) => Some(position - start),
+        None => None,
+    }
+}
+
+/// The positions of an authority counted from so many bytes later on.
+#[inline(always)]
+fn authority_from(start: usize, authority: AuthorityPositions) -> AuthorityPositions
+    requires start { start ≤ authority.start }
+    requires host_start { start ≤ authority.host_start }
+    requires host_end { start ≤ authority.host_end }
+    requires end { start ≤ authority.end }
+    ensures start { result.start ≡ authority.start - start }
+    ensures host_start { result.host_start ≡ authority.host_start - start }
+    ensures host_end { result.host_end ≡ authority.host_end - start }
+    ensures end { result.end ≡ authority.end - start }
+{
+    AuthorityPositions {
+        start: authority.start - start,
+        host_start: authority.host_start - start,
+        host_end: authority.host_end - start,
+        end: authority.end - start,
+    }
+}
+
+/// Where the authority is, counted from after the scheme and its `:`, which end there.
+#[inline(always)]
+fn authority_after_scheme<K: Kind>(core: Core<K, &str>, start: usize) -> Option<AuthorityPositions>
+    requires { start ≡ marked_length 1 (components (core_text core)).scheme }
+    ensures { let t = components (core_text core.entry) in
+        result ≡ option_map (authority_at 2) t.authority }
+{
+    match core.positions().authority {
+        Some(authority) => Some(authority_from(start, authority)),
+        None => None,
+    }
+}
+
+/// The positions in a text without its scheme.
+#[inline(always)]
+pub(crate) fn positions_after_scheme<K: Kind>(core: Core<K, &str>) -> Positions
+    ensures { let t = components (core_text core.entry) in
+        result ≡ positions_of (record t { scheme = None }) }
+{
+    let positions = core.positions();
+    match positions.scheme_end {
+        None => positions,
+        Some(end) => {
+            let start = end + 1;
+            Positions {
+                scheme_end: None,
+                authority: authority_after_scheme(core, start),
+                path_start: positions.path_start - start,
+                path_end: positions.path_end - start,
+                query_end: counted_from(start, positions.query_end),
+            }
+        }
+    }
+}
+
+/// Where the query ends, if there is one, after a path of this length.
+#[inline(always)]
+fn query_end_after<K: Kind>(core: Core<K, &str>, path_len: usize) -> Option<usize>
+    requires { path_len ≤ 2 ^ 63 }
+    ensures { let t = components (core_text core.entry) in
+        result ≡ option_map (λ q. path_len + 1 + length q) t.query }
+{
+    if core.has_query() {
+        return Some(path_len + marked_query(core).len());
+    }
+    None
+}
+
+/// The positions where a path of this length stands before the target's query and fragment.
+#[inline(always)]
+pub(crate) fn positions_with_path<K: Kind>(core: Core<K, &str>, path_len: usize) -> Positions
+    requires { path_len ≤ 2 ^ 63 }
+    ensures { let t = components (core_text core.entry) in
+        (path : List ℕ) → length path ≡ path_len → result
+        ≡ positions_of (record t { scheme = None; authority = None; path = path }) }
+{
+    Positions {
+        scheme_end: None,
+        authority: None,
+        path_start: 0,
+        path_end: path_len,
+        query_end: query_end_after(core, path_len),
+    }
+}
+
+/// The positions of a fragment alone, or of nothing.
+#[inline(always)]
+pub(crate) fn positions_of_fragment() -> Positions
+    ensures { (t : Components) → result ≡ positions_of
+        (record t { scheme = None; authority = None; path = []; query = None }) }
+{
+    Positions {
+        scheme_end: None,
+        authority: None,
+        path_start: 0,
+        path_end: 0,
+        query_end: None,
+    }
+}
