@@ -1,4 +1,4 @@
--- Hosts in brackets: what is read as one, and how what is before an error becomes one.
+-- Hosts in brackets: what is parsed as one, and how what is before an error becomes one.
 use Rattle.std.proofs.Common.{◌≡◌, ℕ, ◌+◌, ◌-◌, ◌<◌, ◌≤◌, true, false, eqb, List, [], ◌∷◌, ◌++◌}
 use Rattle.std.proofs.Common.{length, get_or, take, drop, Option, Some, None, refl, sym, ap, subst}
 use Rattle.std.proofs.Common.{◌∙◌, arith, ◌&&◌, ⊎_elim, append_assoc, length-append, length-drop}
@@ -117,13 +117,13 @@ part_some text set i le some =
     (omega (arith, length-drop i text)) in omega arith
 
 module _ (names : TableSet) (text : List ℕ) (u : IsUtf8 text) where
-  -- what is read up to a place is a host from the bracket on
+  -- what is parsed up to a position is a host from the bracket on
   pub record IsRead (h end : ℕ) : Type 0 where
     pub host : List ℕ
     pub is : IsHostText names host
     pub split : take end text ≡ take h text ++ host
 
-  -- what is before a place becomes a host
+  -- what is before a position becomes a host
   pub record BecomesHost (h end : ℕ) : Type 0 where
     pub more : List ℕ
     pub host : List ℕ
@@ -224,7 +224,7 @@ module _ (names : TableSet) (text : List ℕ) (u : IsUtf8 text) where
         (ap is_end (drop_all end text l) ∙ nothing_ended)))
         (cases_lt end (length text))
 
-    -- what is read as an IPv6 address, and no `]` after it
+    -- what is parsed as an IPv6 address, and no `]` after it
     unclosed : (end : ℕ) → ipv6_end text (h + 1) ≡ Some end → is_uncounted text (h + 1) ≡ false
         → BecomesHost h end
     unclosed end e late = ⊎_elim
@@ -238,7 +238,7 @@ module _ (names : TableSet) (text : List ℕ) (u : IsUtf8 text) where
         (λ o. held_becomes end (ipv6_followed text (h + 1) end e o) (some_within end o))
         (cases_Bool (is_at_end text end))
 
-    -- what is read in brackets
+    -- what is parsed in brackets
     abbrev pub Outcome : End → Type 0
     Outcome (Ok end) = IsRead h end × At text end
     Outcome (Err e) = BecomesHost h e.index

@@ -17,7 +17,7 @@ use Rattle.uri_parts.specs.Scanning.{is_next}
 use Rattle.uri_parts.proofs.Refusals.Colons.{last_below}
 use Rattle.error_laws.proofs.KindFacts.{Facts, stops_too}
 
--- the last `:` is one, and before the place
+-- the last `:` is one, and before the position
 pub last_sees : (text : List ℕ) (n : ℕ) → 0 < last_colon text n
     → is_next text 58 (last_colon text n) ≡ true
 unfolding last_colon

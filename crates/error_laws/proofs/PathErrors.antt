@@ -61,7 +61,7 @@ module _ (kind : Kind) (f : Facts kind) (text : List ℕ) (u : IsUtf8 text) wher
       (λ o. at_error (unexpected i) r (sym (cond-false _ _ _ o) ∙ e) b)
       (cases_Bool (is_at_end text i))
 
-  -- a set is read, and then something else
+  -- a set is scanned, and then something else
   pub read_ok : (set : TableSet) (i : ℕ) (next : ℕ → Refusal) (r : ParseError)
       → ((set.pct_encoded && is_next text 37 (scan_end text set i)) ≡ true
       → Begun (scan_end text set i))
@@ -145,7 +145,7 @@ module _ (kind : Kind) (f : Facts kind) (text : List ℕ) (u : IsUtf8 text) wher
       (λ _. begun (IsQueryTail kind) end [] p.at closed IsUtf8-nil (no_query kind))
       (λ _ t. query_ok end r p.at closed t) e
 
-  -- a path that is read here is what may follow
+  -- a path that is parsed here is what may follow
   pub path_part : (scheme authority : Bool) (i : ℕ) → (p : Passed text kind.path i)
       → refusal_of scheme authority (part text kind.path i) ≡ None
       → Closed (IsPathTail kind scheme authority) i

@@ -1,4 +1,4 @@
--- Places between the characters of a text, and what is between two.
+-- Positions between the characters of a text, and what is between two.
 use Rattle.std.proofs.Common.{◌≡◌, ℕ, ◌+◌, ◌-◌, ◌<◌, ◌≤◌, true, List, [], ◌∷◌, ◌++◌, length, get_or}
 use Rattle.std.proofs.Common.{take, drop, sym, ap, subst, ◌∙◌, arith, append_assoc, length-drop}
 use Rattle.std.proofs.Common.{length-take-le, take-append-drop}
@@ -20,7 +20,7 @@ use Rattle.uri_parts.proofs.Splitting.Recompose.{starts-cons}
 use Rattle.uri_pct.proofs.ValidTexts.LongestPrefixes.{prefix_boundary, prefix_valid}
 
 module _ (text : List ℕ) where
-  -- a place between two characters
+  -- a position between two characters
   pub record At (i : ℕ) : Type 0 where
     pub utf8 : IsUtf8 (drop i text)
     pub le : i ≤ length text
@@ -49,7 +49,7 @@ module _ (text : List ℕ) where
       ∙ ap (λ k. take k (take i text ++ drop i text)) whole
       ∙ take-append-add (take i text) (drop i text) (end - i)
 
-  -- a mark that is at a place
+  -- a mark that is at a position
   pub mark_at : (mark i : ℕ) → is_next text mark i ≡ true → drop i text ≡ mark ∷ drop (i + 1) text
   mark_at mark i e = starts-cons mark (drop i text) e ∙ ap (λ t. mark ∷ t) (drop-drop 1 i text)
 

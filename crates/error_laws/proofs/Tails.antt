@@ -1,4 +1,4 @@
--- What may follow each place of a text for the whole to be of the kind, from right to left.
+-- What may follow each position of a text for the whole to be of the kind, from right to left.
 use Rattle.std.proofs.Common.{◌≡◌, ℕ, Bool, true, false, not, List, [], ◌∷◌, ◌++◌, refl, ap, subst}
 use Rattle.std.proofs.Common.{◌∙◌, ◌||◌, append_assoc, append-nil}
 use Rattle.std.specs.Prelude.{codes, Option, Some, None, IfSome, is_some}
@@ -128,7 +128,7 @@ named kind f text u v =
     name_host kind.reg_name f.sets.reg_name.percent f.name_bracket text u v
 
 module _ (kind : Kind) (sets : HasComponentSets kind) where
-  -- a text of these parts is of the kind
+  -- a text of these components is of the kind
   pub path_closed : (scheme authority : Option (List ℕ)) (tail : List ℕ)
       → if_some scheme is_scheme_text ≡ true → if_some authority (is_authority_text kind) ≡ true
       → (is_some scheme || not kind.needs_scheme) ≡ true

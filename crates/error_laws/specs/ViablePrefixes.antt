@@ -16,7 +16,7 @@ use Rattle.uri_parts.specs.Scanning.{End, is_next, is_at_end, scan_end}
 abbrev pub IsViable : Kind → List ℕ → Type 0
 IsViable kind prefix = (more : List ℕ) × IsTextOf kind (prefix ++ more)
 
--- what is read ends somewhere, and a test holds there
+-- what is parsed ends somewhere, and a test holds there
 abbrev pub ends_where : (ℕ → Bool) → End → Bool
 ends_where test (Ok end) = test end
 ends_where test (Err e) = false
@@ -27,8 +27,8 @@ module _ (text : List ℕ) where
   abbrev pub lacks_letter : ℕ → Bool
   lacks_letter scheme = nat_lt 0 scheme && not (is_ascii_alphabetic (slice_index text 0))
 
-  -- 2. An IPv6 address is read up to the end of the text, but not if `]` follows: the digits at the
-  -- end of the text are not counted. The error is there: `//[:::1` at 7.
+  -- 2. An IPv6 address is parsed up to the end of the text, but not if `]` follows: the digits at
+  -- the end of the text are not counted. The error is there: `//[:::1` at 7.
   abbrev pub is_uncounted : ℕ → Bool
   is_uncounted i =
       option_map_or (is_at_end text) (ipv6_end text i) false

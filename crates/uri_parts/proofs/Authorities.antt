@@ -1,4 +1,4 @@
--- Authorities: their parts, where these lie, and their ports.
+-- Authorities: their components, the positions of these, and their ports.
 pub mod SchemePorts
 pub mod SchemeRows
 mod PortRows

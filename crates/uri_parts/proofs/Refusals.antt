@@ -1,4 +1,4 @@
--- The errors of a text that is refused.
+-- The errors of a text that is rejected.
 pub mod Accepted
 pub mod Colons
 pub mod Complete

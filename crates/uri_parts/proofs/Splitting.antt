@@ -1,4 +1,4 @@
--- The components of any text: where they are cut, and where they lie.
+-- The components of any text: where they are cut, and their positions.
 pub mod Cuts
 pub mod Marks
 pub mod Splits

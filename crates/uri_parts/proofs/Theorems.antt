@@ -48,7 +48,7 @@ pub whole_positions : (kind tables : Kind) (segment : TableSet)
 whole_positions kind tables segment known k s =
     positions_parsed segment tables (tables_of kind tables segment known k s)
 
--- what is answered by what is parsed
+-- what is returned for what is parsed
 pub answered : {E : Type 0} (segment : TableSet) (tables : Kind) (text : List ℕ)
     (result : Result Positions E)
     → is_ok result ≡ parses segment tables text

@@ -1,4 +1,4 @@
--- The parts of an authority: RFC 3986, section 3.2.
+-- The components of an authority: RFC 3986, section 3.2.
 use Rattle.std.specs.Prelude.{◌≡◌, ℕ, Bool, true, false, ◌&&◌, List, [], ◌++◌, drop, codes}
 use Rattle.std.specs.Prelude.{bytes_eq, Option, IfSome, if◌then◌else◌}
 use Rattle.std.specs.List.{list_any}
@@ -14,7 +14,7 @@ pub record AuthorityParts : Type 0 where
   pub host : List ℕ
   pub port : Option (List ℕ)
 
--- the text of three parts
+-- the text of three components
 abbrev pub recompose_authority : AuthorityParts → List ℕ
 recompose_authority p = marked [] p.userinfo (codes "@") ++ (p.host ++ marked (codes ":") p.port [])
 
@@ -26,14 +26,14 @@ pub record IsAuthorityFor (users names : TableSet) (text : List ℕ)
   pub host : (h : HostKind) × IsHost names p.host h
   pub port : IfSome p.port (IsValidFor digit_set)
 
--- no character that ends a part may stand in it
+-- no component contains a character that ends it
 pub record KeepsApart (users names : TableSet) : Type 0 where
   pub users_percent : LacksPercent users
   pub names_percent : LacksPercent names
   pub users_marks : list_any users.ascii (codes "@") ≡ false
   pub names_marks : list_any names.ascii (codes "@:[") ≡ false
 
--- the cut as a function: the userinfo ends at the first `@`, a host in brackets behind the first
+-- the cut as a function: the userinfo ends at the first `@`, a host in brackets after the first
 -- `]`, and another at the first `:`
 abbrev pub behind_userinfo : List ℕ → List ℕ
 behind_userinfo text =
@@ -59,7 +59,7 @@ authority_parts text =
       port = when (starts colon behind) (drop 1 behind);
     }
 
--- each part of the cut meets its rule, and they are together the text
+-- each component of the cut meets its rule, and together they are the text
 unfoldable pub is_authority_for : TableSet → TableSet → List ℕ → Bool
 is_authority_for users names text =
     let p = authority_parts text in

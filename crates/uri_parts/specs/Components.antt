@@ -14,7 +14,7 @@ pub record Components : Type 0 where
   pub query : Option (List ℕ)
   pub fragment : Option (List ℕ)
 
--- a component with what stands before and after it, where it is present
+-- a component with what is before and after it, where it is present
 abbrev pub marked : List ℕ → Option (List ℕ) → List ℕ → List ℕ
 marked before None behind = []
 marked before (Some part) behind = before ++ part ++ behind
@@ -50,7 +50,7 @@ has_scheme text = starts colon (from_any (codes ":/?#") text) && not (starts col
 abbrev pub has_authority : List ℕ → Bool
 has_authority rest = slice_index rest 0 == slash && slice_index rest 1 == slash
 
--- none of these characters stands in the text
+-- none of these characters is in the text
 abbrev pub Lacks : List ℕ → List ℕ → Type 0
 Lacks marks text = All (λ c. is_one_of marks c ≡ false) text
 

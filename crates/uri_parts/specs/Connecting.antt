@@ -27,14 +27,14 @@ socket_target_of (Of.Name name port) = Name (cow_text name) port
 abbrev pub name_bytes : List ℕ → List ℕ
 name_bytes host = token_bytes (tokens host)
 
--- a name is refused where its bytes are not UTF-8, and needs memory only where a `%` stands in it
+-- a name is rejected if its bytes are not UTF-8, and needs memory only if it has a `%`
 abbrev pub IsNameRefusal : List ℕ → SocketError → Type 0
 IsNameRefusal host InvalidPort = ⊥
 IsNameRefusal host UnsupportedMechanism = ⊥
 IsNameRefusal host NameNotUtf8 = ¬ (IsUtf8 (name_bytes host))
 IsNameRefusal host OutOfMemory = ¬ (IsTrue (is_unencoded host))
 
--- what is answered for a host of a kind, at a port
+-- what is returned for a host of a kind, at a port
 abbrev pub IsAnswerFor : List ℕ → HostKind → ℕ → Result SocketTarget SocketError → Type 0
 IsAnswerFor host (Ipv4 octets) port r = IsOkAnd r (λ t. socket_target_of t ≡ V4 octets port)
 IsAnswerFor host (Ipv6 segments) port r = IsOkAnd r (λ t. socket_target_of t ≡ V6 segments port)

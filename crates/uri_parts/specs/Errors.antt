@@ -16,13 +16,13 @@ index_of e = e.index
 abbrev pub fault_of : ParseError → ParseErrorKind
 fault_of e = e.kind
 
--- what is wrong at the place: an IPv6 address is refused just behind its `[`
+-- what is wrong at the index: the error of an IPv6 address is just after its `[`
 abbrev pub IsFault : List ℕ → ParseErrorKind → ℕ → Type 0
 IsFault text InvalidPctEncodedOctet index = IsStrayPercent text index
 IsFault text UnexpectedChar index = ⊤
 IsFault text InvalidIpv6Addr index = (0 < index) × (slice_index text (index - 1) ≡ left_bracket)
 
--- the index lies on a character boundary of the text, and the kind says what is wrong there
+-- the index is on a character boundary of the text, and the kind says what is wrong there
 pub record IsErrorIn (text : List ℕ) (e : ParseError) : Type 0 where
   pub boundary : IsCharBoundary text e.index
   pub fault : IsFault text e.kind e.index

@@ -4,8 +4,8 @@ use Rattle.uri_pct.specs.Sets.{TableSet}
 use Rattle.uri_parts.specs.Components.{components, before_any, marked}
 use Rattle.uri_parts.specs.Grammar.{Kind, IsOfKind}
 
--- the text with this fragment in place of its own, or with none: the other components are the
--- text's, and so is all that stands before the first `#`
+-- the text with this fragment instead of its own, or with none: the other components are the
+-- text's, and so is all that is before the first `#`
 pub record IsWithFragment (text : List ℕ) (fragment : Option (List ℕ))
     (made : List ℕ) : Type 0 where
   pub parts : components made ≡ record (components text) { fragment = fragment }

@@ -12,7 +12,7 @@ use Rattle.uri_pct.specs.Delimiters.{colon}
 use Rattle.uri_parts.specs.Authority.{is_authority_for}
 use Rattle.uri_parts.specs.Components.{Components, components, before_any}
 
--- what tells the kinds apart: the sets of their components, and whether a scheme is needed
+-- what distinguishes the kinds: the sets of their components, and whether a scheme is needed
 pub record Kind : Type 0 where
   pub userinfo : TableSet
   pub reg_name : TableSet

@@ -19,8 +19,8 @@ pub record IsSpeltBy (kind : Kind) (text : List ℕ) (p : Components) : Type 0 w
   pub path : IsValidFor kind.path p.path
   pub query : IfSome p.query (IsValidFor kind.query)
   pub fragment : IfSome p.fragment (IsValidFor kind.fragment)
-  -- without a scheme, where none is needed, no `:` stands in a first segment that no authority
-  -- comes before
+  -- without a scheme, where none is needed, no `:` is in a first segment that no authority comes
+  -- before
   pub reference : IsSome p.scheme
       ⊎ ((kind.needs_scheme ≡ false) × (IsSome p.authority ⊎ (has_colon_first p.path ≡ false)))
 

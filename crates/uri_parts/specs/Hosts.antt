@@ -26,7 +26,7 @@ IsIpv4Text text octets = IsDotted text octets
 abbrev pub IsIpv6Text : List ℕ → List ℕ → Type 0
 IsIpv6Text text segments = IsColonHex text segments
 
--- `v`, one or more hexadecimal digits, `.`, and one or more characters that may stand in userinfo
+-- `v`, one or more hexadecimal digits, `.`, and one or more characters that may be in userinfo
 pub record IsIpvFuture (text : List ℕ) : Type 0 where
   pub letter : ℕ
   pub version : List ℕ
@@ -39,7 +39,7 @@ pub record IsIpvFuture (text : List ℕ) : Type 0 where
 abbrev pub bracketed : List ℕ → List ℕ
 bracketed text = codes "[" ++ (text ++ codes "]")
 
--- An address in brackets, or an IPv4 address, or else a registered name that these characters spell
+-- An address in brackets, or an IPv4 address, or else a registered name of these characters
 abbrev pub IsHost : TableSet → List ℕ → HostKind → Type 0
 IsHost names text (Ipv6 segments) =
     (address : List ℕ) × (text ≡ bracketed address) × IsIpv6Text address segments
@@ -68,7 +68,7 @@ is_ipv_future (letter ∷ rest) =
     && ((nat_lt 0 (length version) && is_valid_for hexdig_set version)
     && is_future_address (from_any (codes ".") rest))
 
--- what stands behind a `[`, up to the first `]`
+-- what is after a `[`, up to the first `]`
 abbrev pub literal_of : List ℕ → List ℕ
 literal_of text = before_any (codes "]") (drop 1 text)
 

@@ -1,10 +1,10 @@
--- The kind that the tables of the code stand for: RFC 3986, section 3, and RFC 3987, section 2.2.
+-- The kind that the tables of the code represent: RFC 3986, section 3, and RFC 3987, section 2.2.
 use Rattle.uri_pct.specs.Sets.{TableSet}
 use Rattle.uri_pct.specs.Tables.{set_of}
 use Rattle.uri_parts.specs.Grammar.{Kind}
 use Rattle.uri_parts.specs.declared.kind_tables.KindTables.{KindTables}
 
--- the kind whose sets the tables stand for
+-- the kind whose sets the tables represent
 abbrev pub kind_of : KindTables → Kind
 kind_of g = record {
   userinfo = set_of g.userinfo;

@@ -1,4 +1,4 @@
--- Where the components of a text lie in it: RFC 3986, section 3.
+-- The positions of a text's components: RFC 3986, section 3.
 use Rattle.std.specs.Prelude.{◌≡◌, ℕ, ◌+◌, List, length, Option, Some, None, option_map, unwrap_or}
 use Rattle.uri_parts.specs.declared.positions.Positions.{Positions}
 use Rattle.uri_parts.specs.declared.positions.AuthorityPositions.{AuthorityPositions}
@@ -17,7 +17,7 @@ host_start_of text = marked_length 1 (authority_parts text).userinfo
 abbrev pub host_end_of : List ℕ → ℕ
 host_end_of text = host_start_of text + length (authority_parts text).host
 
--- where an authority lies that begins at a place
+-- the positions of an authority that begins at a position
 abbrev pub authority_at : ℕ → List ℕ → AuthorityPositions
 authority_at place text = record {
   start = place;
@@ -26,7 +26,7 @@ authority_at place text = record {
   end = place + length text;
 }
 
--- where components lie in their text, by the lengths of those before each
+-- the positions of components in their text, by the lengths of those before each
 abbrev pub positions_of : Components → Positions
 positions_of p =
     let behind_scheme = marked_length 1 p.scheme in

@@ -1,7 +1,7 @@
 //! An authority, parsed from left to right (RFC 3986, section 3.2).
 //!
-//! What passes as a name and a port is a prefix of userinfo, so nothing is scanned again to tell
-//! the two apart, nor to tell where and why an authority is refused.
+//! What passes as a name and a port is a prefix of userinfo. So nothing is scanned again to
+//! distinguish the two, nor to find where and why an authority is rejected.
 ghost use Rattle.std.specs.Prelude.{◌≡◌, ◌≤◌, ◌+◌, drop, length, true, IfErr, IfOk, IfSome, OnOk};
 ghost use Rattle.std.specs.Prelude.{is_some, Some, Ok, IfNone, ◌<◌, false};
 ghost use Rattle.std.specs.Str.{IsCharBoundary};
@@ -46,7 +46,7 @@ fn pass_port(cursor: &mut Cursor<'_>)
     }
 }
 
-/// Passes a registered name and the port behind it, if there is one. Answers where the name ends,
+/// Passes a registered name and the port after it, if there is one. Returns where the name ends,
 /// if nothing else of the authority is left.
 #[tactic(auto, using(crate::proofs::Steps::cuts), unfolding(crate::proofs::Steps::name))]
 #[inline(always)]
@@ -70,8 +70,8 @@ fn find_name(cursor: &mut Cursor<'_>, tables: &KindTables) -> Option<usize>
     }
 }
 
-/// The refusal of what is left over behind an authority: a malformed octet of the path that is
-/// scanned there, or else what is next.
+/// Returns the error of what is left over after an authority. It reports a malformed
+/// percent-encoded octet of the path that is scanned there, or else what is next.
 #[tactic(auto, unfolding(crate::specs::Models::ParseErrors::left_over_error))]
 #[inline(always)]
 fn left_over(cursor: Cursor<'_>, tables: &KindTables) -> ParseError
@@ -86,7 +86,7 @@ fn left_over(cursor: Cursor<'_>, tables: &KindTables) -> ParseError
     }
 }
 
-/// Where the last `:` stands from `start` to `end`, if there is one.
+/// Returns the position of the last `:` from `start` to `end`, if there is one.
 #[tactic(auto, using(crate::proofs::Steps::colons))]
 fn last_colon(text: &str, start: usize, end: usize) -> Option<usize>
     requires order { start ≤ end }
@@ -108,9 +108,9 @@ fn last_colon(text: &str, start: usize, end: usize) -> Option<usize>
     None
 }
 
-/// The refusal of what was scanned as userinfo up to `end`, where no `@` is next. Up to `start` it
-/// is a name and a port, and behind that stands the last of several `:`, or the port's first byte
-/// that is no digit.
+/// Returns the error of what was scanned as userinfo up to `end`, where no `@` is next. A name and
+/// a port end at `start`. After them the error is at the last of several `:`, or at the port's
+/// first byte that is no digit.
 #[tactic(auto, using(crate::proofs::Refusals::Colons::last_below), unfolding(crate::specs::Models::ParseErrors::name_error))]
 #[inline(always)]
 fn name_fault(start: Cursor<'_>, end: Cursor<'_>, tables: &KindTables) -> ParseError
@@ -152,7 +152,7 @@ fn pass_literal(cursor: &mut Cursor<'_>) -> Result<(), ParseError>
     Ok(())
 }
 
-/// Passes a host and the port behind it, if there is one, which have to end the authority. Answers
+/// Passes a host and the port after it, if there is one. They must end the authority. Returns
 /// where the host ends.
 #[tactic(auto, using(crate::proofs::Steps::cuts), unfolding(crate::proofs::Steps::host))]
 #[inline(always)]
@@ -208,8 +208,8 @@ fn pass_userinfo(cursor: &mut Cursor<'_>, tables: &KindTables) -> Result<(), Par
     }
 }
 
-/// An authority that is more than a name and a port, of which these were passed: where it lies, and
-/// its host.
+/// Returns the positions of an authority and of its host. The authority is more than a name and a
+/// port, which were passed.
 #[tactic(auto, using(crate::proofs::Steps::cuts), unfolding(crate::proofs::Steps::other))]
 #[inline(always)]
 fn find_other_authority(
@@ -269,7 +269,7 @@ fn find_other_of_kind<K: Kind>(
     find_other_authority(Cursor::at(text, start), behind_name, &K::tables())
 }
 
-/// An authority: where it lies, and its host.
+/// Returns the positions of an authority and of its host.
 #[tactic(auto, unfolding(crate::proofs::Steps::authority))]
 #[inline(always)]
 pub(crate) fn find_authority<K: Kind>(

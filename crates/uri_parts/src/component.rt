@@ -202,14 +202,14 @@ impl<'a, U: Encoder, R: Encoder> fmt::Display for Authority<'a, U, R> {
 
     ghost styled_output = { λ a spec. Some (styled_text spec (authority_text a)) };
 
-    /// Prints the text as it stands, padded and cut as the format asks.
+    /// Prints the text unchanged, padded and cut as the format asks.
     fn fmt<W: fmt::Write>(&self, f: &mut fmt::Formatter<W>) -> fmt::Result {
         f.pad(self.text)
     }
 }
 
 impl<'a, U: Encoder, R: Encoder> fmt::Debug for Authority<'a, U, R> {
-    /// Prints the parts by name.
+    /// Prints the components by name.
     fn fmt<W: fmt::Write>(&self, f: &mut fmt::Formatter<W>) -> fmt::Result {
         f.debug_struct("Authority")
             .field("userinfo", &self.userinfo())

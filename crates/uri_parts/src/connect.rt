@@ -38,7 +38,7 @@ pub enum SocketTarget<'a> {
 ///
 /// # Examples
 ///
-/// The authority `a:65536` is refused as `InvalidPort`.
+/// The error of the authority `a:65536` is `InvalidPort`.
 #[derive(Clone, Copy, Debug, PartialEq, Eq, Error)]
 pub enum SocketError {
     /// The port is over 65535.
@@ -63,14 +63,14 @@ impl<'a, U: Encoder, R: Encoder> Authority<'a, U, R> {
     ///
     /// The port is tested first: the error is `InvalidPort` exactly if it is over 65535. Then it is
     /// `UnsupportedMechanism` for an address of a later version, `NameNotUtf8` for a name that does
-    /// not decode to UTF-8 (RFC 3986, section 3.2.2), or `OutOfMemory`. Where no `%` stands in the
-    /// host, no memory is taken and the name is `CowStr::Borrowed`.
+    /// not decode to UTF-8 (RFC 3986, section 3.2.2), or `OutOfMemory`. If the host has no `%`, no
+    /// memory is taken and the name is `CowStr::Borrowed`.
     ///
     /// # Errors
     ///
     /// `InvalidPort` exactly if the port is over 65535. Else `UnsupportedMechanism` for an address
     /// of a later version, `NameNotUtf8` for a name that does not decode to UTF-8 (RFC 3986,
-    /// section 3.2.2), and `OutOfMemory` if memory is refused.
+    /// section 3.2.2), and `OutOfMemory` if an allocation fails.
     ///
     /// # Examples
     ///

@@ -23,7 +23,7 @@ use std::convert::AsStr;
 use std::marker::PhantomData;
 use uri_pct::pct_enc::EStr;
 
-/// Where the components lie of a text that is known to be of the kind.
+/// Returns the positions of the components of a text that is known to be of the kind.
 pub(crate) fn positions_in<K: Kind>(text: &str) -> Positions
     requires { IsOfKind K.kind text.now }
     ensures { AreAt text.now result }
@@ -34,7 +34,7 @@ pub(crate) fn positions_in<K: Kind>(text: &str) -> Positions
     }
 }
 
-/// A text of the kind of `K`, and where its components lie.
+/// A text of the kind of `K`, and the positions of its components.
 #[doc(hidden)]
 #[derive(Drop)]
 pub struct Core<K: Kind, T: AsStr> {
@@ -156,7 +156,7 @@ impl<'a, K: Kind> Core<K, &'a str> {
         Core::new("", positions)
     }
 
-    /// Where its components lie.
+    /// The positions of its components.
     pub fn positions(self) -> Positions
         ensures { AreAt (core_text self.entry) result }
     {
@@ -259,7 +259,7 @@ impl<'a, K: Kind> Core<K, &'a str> {
         Core::new(self.positions.without_fragment(self.text), self.positions)
     }
 
-    /// A copy with this fragment in place of its own, or with none.
+    /// Returns a copy with this fragment instead of its own, or with none.
     pub fn with_fragment(
         self,
         alloc: Global,

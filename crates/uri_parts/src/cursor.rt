@@ -1,4 +1,4 @@
-//! A place in a text.
+//! A position in a text.
 ghost use Rattle.std.specs.Prelude.{◌≡◌, ◌<◌, ◌+◌, ◌==◌, drop, codes, OnOk};
 ghost use Rattle.std.specs.Prelude.{IfErr, if◌then◌else◌};
 ghost use Rattle.std.specs.Result.{result_err};
@@ -8,7 +8,7 @@ use crate::error::{ParseError, ParseErrorKind};
 use std::alloc::AllocError;
 use uri_pct::table::Table;
 
-/// A place in a text, which goes from left to right.
+/// A position in a text, which goes from left to right.
 pub struct Cursor<'a> {
     text: &'a str,
     position: usize,
@@ -49,7 +49,7 @@ impl<'a> Cursor<'a> {
         Cursor { text, position: 0 }
     }
 
-    /// The text from a place on.
+    /// Returns a cursor in the text at a position.
     #[inline]
     pub fn at(text: &'a str, position: usize) -> Self
         requires { IsCharBoundary text.now position }
@@ -88,7 +88,7 @@ impl<'a> Cursor<'a> {
         self.position = table.scan(self.text, self.position);
     }
 
-    /// Whether one of `/?#` is next, or nothing is left: what may stand behind an authority.
+    /// Returns whether one of `/?#` is next, or nothing is left. These may follow an authority.
     #[tactic(auto, using(crate::proofs::Steps::marks))]
     #[inline]
     pub fn ends_authority(&self) -> bool
@@ -100,8 +100,8 @@ impl<'a> Cursor<'a> {
         }
     }
 
-    /// Passes the longest prefix of the rest that the table allows; a `%` behind it that begins no
-    /// octet is refused, where the table allows octets.
+    /// Passes the longest prefix of the rest that the table allows. If the table allows
+    /// percent-encoded octets, it returns an error for a `%` after the prefix that begins none.
     #[tactic(auto, using(crate::proofs::Steps::strays))]
     #[inline(always)]
     pub fn pass(&mut self, table: &Table) -> Result<(), ParseError>
@@ -184,7 +184,7 @@ impl<'a> Cursor<'a> {
         }
     }
 
-    /// The refusal of what is next.
+    /// Returns an `UnexpectedChar` error at the position of the cursor.
     #[inline]
     pub fn unexpected(&self) -> ParseError
         ensures error { IsErrorIn (cursor_text self.now) result }

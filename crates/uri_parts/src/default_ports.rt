@@ -53,13 +53,13 @@ static DEFAULT_PORTS: [(&str, u16); 44] = [
     ("z39.50s", 210),
 ];
 
-/// Before which row the schemes stand that begin with a letter before `a`, before `b` and so on.
+/// The numbers of rows whose schemes begin with a letter before `a`, before `b` and so on.
 const ROWS_BEFORE: &[u8; 27] = &[
     0, 3, 3, 10, 12, 12, 13, 15, 17, 21, 21, 21, 22, //
     24, 26, 26, 27, 27, 30, 33, 38, 38, 40, 42, 42, 42, 44, //
 ];
 
-/// The rows from one place to another.
+/// Returns the rows from one position to another.
 fn rows_between<'a>(
     rows: &'a [(&'static str, u16)],
     start: usize,

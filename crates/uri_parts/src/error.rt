@@ -1,4 +1,4 @@
-//! Why a text is refused.
+//! Why the parser rejects a text.
 ghost use Rattle.std.specs.Prelude.{◌≡◌};
 
 use thiserror::Error;
@@ -7,21 +7,21 @@ use thiserror::Error;
 ///
 /// # Examples
 ///
-/// `http://a b` is refused as `UnexpectedChar`, `%2` as `InvalidPctEncodedOctet`, and `//[::1::]`
-/// as `InvalidIpv6Addr`.
+/// The kind is `UnexpectedChar` for `http://a b`, `InvalidPctEncodedOctet` for `%2`, and
+/// `InvalidIpv6Addr` for `//[::1::]`.
 #[derive(Clone, Copy, Debug, PartialEq, Eq)]
 pub enum ParseErrorKind {
     /// A `%` that two hexadecimal digits do not follow.
     ///
     /// The index points to the `%`.
     InvalidPctEncodedOctet,
-    /// A character that may not stand there, or the end of the text where more has to follow.
+    /// A character that is not allowed there, or the end of the text where more must follow.
     ///
     /// The index points to the character, or to the end.
     UnexpectedChar,
     /// An IPv6 address in brackets that is none.
     ///
-    /// The index points to the byte behind the `[`.
+    /// The index points to the byte after the `[`.
     InvalidIpv6Addr,
 }
 
@@ -49,7 +49,7 @@ fn kind_text(kind: &ParseErrorKind) -> &'static str {
 impl ParseError {
     ghost use Rattle.uri_parts.specs.Errors.{index_of, fault_of};
 
-    /// The refusal of this kind at a byte offset.
+    /// Returns the error of this kind at a byte offset.
     #[doc(hidden)]
     pub fn new(index: usize, kind: ParseErrorKind) -> Self
         ensures index { index_of result ≡ index }
@@ -59,12 +59,12 @@ impl ParseError {
         ParseError { index, kind }
     }
 
-    /// Where the text was refused: a byte offset, at most the length of the text and on a
-    /// character boundary.
+    /// Returns where the parser rejects the text. It is a byte offset, at most the length of the
+    /// text and on a character boundary.
     ///
     /// # Examples
     ///
-    /// For `http://a b` it is 8, where the space stands.
+    /// For `http://a b` it is 8, where the space is.
     pub fn index(&self) -> usize
         ensures { result ≡ index_of self.now }
     {

@@ -24,8 +24,8 @@ fn push_fragment(text: &mut String, fragment: &str) -> Result<(), AllocError>
     text.push_str(fragment)
 }
 
-/// Makes room for a `#` and a fragment of this length behind the text up to a place. The text is as
-/// it was.
+/// Makes room for a `#` and a fragment of this length after the text up to a position. The text is
+/// as it was.
 fn make_room(text: &mut String, place: usize, len: usize) -> Result<(), AllocError>
     requires { IsCharBoundary (string_bytes text.old) place }
     ensures same { string_bytes text.new ≡ string_bytes text.old }
@@ -37,7 +37,7 @@ fn make_room(text: &mut String, place: usize, len: usize) -> Result<(), AllocErr
     text.reserve(added.saturating_sub(text.len() - place))
 }
 
-/// Puts a `#` and the fragment, for which there is room, in place of what stands behind a place.
+/// Replaces what is after a position by a `#` and the fragment, for which there is room.
 fn replace_end(text: &mut String, place: usize, fragment: &str)
     requires boundary { IsCharBoundary (string_bytes text.old) place }
     requires room { place + (length fragment.now + 1) ≤ string_capacity text.old }
@@ -50,7 +50,7 @@ fn replace_end(text: &mut String, place: usize, fragment: &str)
     };
 }
 
-/// A copy of the text with this fragment in place of its own, or with none.
+/// Returns a copy of the text with this fragment instead of its own, or with none.
 #[doc(hidden)]
 pub fn with_fragment<E: Encoder>(
     alloc: Global,
@@ -76,8 +76,8 @@ pub fn with_fragment<E: Encoder>(
     Ok(made)
 }
 
-/// Puts this fragment, or none, in place of the text's own. Where memory is refused, the text is as
-/// it was; to take the fragment away no memory is asked for.
+/// Replaces the text's fragment by this one, or removes it. If an allocation fails, the text is as
+/// it was. Removing the fragment allocates nothing.
 #[doc(hidden)]
 pub fn set_fragment<E: Encoder>(
     text: &mut String,
@@ -98,7 +98,7 @@ pub fn set_fragment<E: Encoder>(
         text.truncate(kept);
         return Ok(());
     };
-    // Memory is asked for first: where it is refused, the old fragment is still there.
+    // Memory is asked for first: if that fails, the old fragment is still there.
     make_room(text, kept, fragment.len())?;
     replace_end(text, kept, fragment.as_str());
     Ok(())

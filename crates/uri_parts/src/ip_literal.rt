@@ -20,7 +20,7 @@ use crate::address_parser::after_ipv6;
 use crate::error::{ParseError, ParseErrorKind};
 use uri_pct::table::{HEXDIG, IPV_FUTURE, Table};
 
-/// Whether this ASCII character stands at `index`.
+/// Returns whether this ASCII character is at `index`.
 #[tactic(auto, using(crate::proofs::Parsing::NextBytes::starts_at))]
 fn sees(text: &str, index: usize, byte: u8) -> bool
     requires { byte < 128 }
@@ -31,7 +31,7 @@ fn sees(text: &str, index: usize, byte: u8) -> bool
     index < bytes.len() && bytes[index] == byte
 }
 
-/// Whether `v` or `V` stands at `index`.
+/// Returns whether `v` or `V` is at `index`.
 fn starts_ipvfuture(text: &str, index: usize) -> bool
     ensures value { result ≡ (starts 118 (drop index text.now) || starts 86 (drop index text.now)) }
     ensures behind { IsTrue result → IsCharBoundary text.now (index + 1) }
@@ -39,7 +39,7 @@ fn starts_ipvfuture(text: &str, index: usize) -> bool
     sees(text, index, b'v') || sees(text, index, b'V')
 }
 
-/// Where the digits end that stand at `start`, of which at most so many are passed.
+/// Returns where the digits at `start` end. It passes `most` of them at most.
 #[tactic(auto, using(crate::proofs::Steps::digits))]
 fn digits_end(text: &str, start: usize, radix: u32, most: usize) -> usize
     requires boundary { IsCharBoundary text.now start }
@@ -57,7 +57,7 @@ fn digits_end(text: &str, start: usize, radix: u32, most: usize) -> usize
     end
 }
 
-/// Where the decimal number of at most 255 ends that stands at `start`, or `None` if there is none.
+/// Returns where the decimal number at `start`, of at most 255, ends, or `None` if there is none.
 /// A `0` is a number by itself.
 #[tactic(auto, unfolding(crate::specs::LiteralErrors::octet_end))]
 fn octet_end(text: &str, start: usize) -> Option<usize>
@@ -73,7 +73,7 @@ fn octet_end(text: &str, start: usize) -> Option<usize>
     if is_octet { Some(end) } else { None }
 }
 
-/// Where the IPv4 address ends that stands at `start`, or `None` if there is none.
+/// Returns where the IPv4 address at `start` ends, or `None` if there is none.
 #[tactic(auto, using(crate::proofs::Steps::octets))]
 fn ipv4_end(text: &str, start: usize) -> Option<usize>
     requires { IsCharBoundary text.now start }
@@ -139,7 +139,7 @@ fn is_malformed_turn(has_colon: bool, is_first: bool) -> bool
     has_colon == is_first
 }
 
-/// Reads groups of one to four hexadecimal digits, at most so many, each with a `:` before it but
+/// Parses groups of one to four hexadecimal digits, at most so many, each with a `:` before it but
 /// the first. An IPv4 address is two of them, and the last. Up to three digits at the end of the
 /// text are passed and make no group.
 fn groups_end(text: &str, start: usize, room: usize) -> GroupsEnd
@@ -181,8 +181,8 @@ fn groups_end(text: &str, start: usize, room: usize) -> GroupsEnd
     GroupsEnd::End(0, end)
 }
 
-/// Where the groups of an IPv6 address end that stand behind its `::`, or `None` if there are too
-/// many of them.
+/// Returns where the groups after the `::` of an IPv6 address end. Returns `None` if they are
+/// malformed or too many.
 fn elided_end(text: &str, start: usize, room: usize) -> Option<usize>
     requires { IsCharBoundary text.now start }
     ensures boundary { IfSome result (IsCharBoundary text.now) }
@@ -194,8 +194,8 @@ fn elided_end(text: &str, start: usize, room: usize) -> Option<usize>
     }
 }
 
-/// Where the IPv6 address ends that stands at `start`, so far as it can be read, or `None` if that
-/// is none.
+/// Returns where the IPv6 address at `start` ends, so far as it can be parsed. Returns `None` if
+/// there is none.
 #[tactic(auto, unfolding(crate::specs::LiteralErrors::ipv6_end))]
 fn ipv6_end(text: &str, start: usize) -> Option<usize>
     requires { IsCharBoundary text.now start }
@@ -222,7 +222,7 @@ fn is_no_ipv6(text: &str, start: usize) -> bool
     last == start || is_dotted(text, start, last)
 }
 
-/// Why what stands at `start`, and begins with no `v`, is no address with a `]` behind it.
+/// Returns the error from `start` on, where neither a `v` nor an address with its `]` begins.
 fn refusal(text: &str, start: usize) -> ParseError
     requires boundary { IsCharBoundary text.now start }
     requires refused { is_ok (literal text.now start) ≡ false }
@@ -240,8 +240,8 @@ fn refusal(text: &str, start: usize) -> ParseError
     }
 }
 
-/// Where one or more characters of the table end that stand at `start`, with the `mark` behind
-/// them; or where one of these is missing.
+/// Returns the position after one or more characters of the table at `start` and the `mark` after
+/// them. The error is where one of these is missing.
 fn marked_end(text: &str, start: usize, table: &Table, mark: u8) -> Result<usize, ParseError>
     requires boundary { IsCharBoundary text.now start }
     requires ascii { mark < 128 }
@@ -257,8 +257,8 @@ fn marked_end(text: &str, start: usize, table: &Table, mark: u8) -> Result<usize
     }
 }
 
-/// Where the rest of an IPvFuture address ends that stands at `start`, behind its `v`, with the `]`
-/// behind it; or where something of these is missing.
+/// Returns the position after the rest of an IPvFuture address at `start` and its `]`. The rest is
+/// what follows the `v`. The error is where something of these is missing.
 ///
 /// No hexadecimal digit is a `.`, and none of its characters a `]`: so each is found by a scan.
 #[tactic(auto, using(uri_pct::proofs::TableSets::Constants::constant_tables))]
@@ -273,8 +273,8 @@ fn future_end(text: &str, start: usize) -> Result<usize, ParseError>
     marked_end(text, address, &IPV_FUTURE, b']')
 }
 
-/// Where the address that stands at `start`, behind a `[`, and the `]` behind it end; or why there
-/// is none.
+/// Returns the position after the address at `start` and its `]`, or why there is none. A `[` is
+/// before `start`.
 pub(crate) fn literal_end(text: &str, start: usize) -> Result<usize, ParseError>
     requires { IsCharBoundary text.now start }
     ensures boundary { IfOk result (λ end. IsCharBoundary text.now end) }

@@ -11,7 +11,7 @@ use uri_pct::encoder::{
 };
 use uri_pct::table::{ISEGMENT_NZ_NC, SEGMENT_NZ_NC, Table};
 
-/// The tables that tell the kinds apart, and whether a scheme is needed.
+/// The tables that distinguish the kinds, and whether a scheme is needed.
 #[derive(Clone, Copy)]
 pub struct KindTables {
     pub userinfo: Table,

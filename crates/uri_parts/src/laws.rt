@@ -49,7 +49,7 @@ pub fn components_recompose()
     ensures { (text : List ℕ) → recompose (components text) ≡ text }
 {}
 
-/// The grammar reads the text of an IPv4 address back as the same four octets.
+/// The grammar parses the text of an IPv4 address back as the same four octets.
 ///
 /// # Examples
 ///
@@ -60,7 +60,7 @@ pub fn ipv4_text_is_read_back(address: &Ipv4Addr)
     let _octets = address.octets();
 }
 
-/// The grammar reads the text of an IPv6 address back as the same eight segments.
+/// The grammar parses the text of an IPv6 address back as the same eight segments.
 ///
 /// # Examples
 ///
@@ -140,7 +140,7 @@ pub fn ipv6_addresses_compare_alike(a: Ipv6Addr, b: Ipv6Addr) -> Ordering
     IpAddr::V6(a).cmp(&IpAddr::V6(b))
 }
 
-/// The characters of userinfo and of registered names keep the parts of an authority apart.
+/// The characters of userinfo and of registered names keep the components of an authority apart.
 #[doc(hidden)]
 #[tactic(auto, unfolding(uri_pct::specs::Sets::is_userinfo_char, uri_pct::specs::Sets::is_reg_name_char, uri_pct::specs::Sets::is_unreserved, uri_pct::specs::Sets::is_sub_delim))]
 pub fn uri_sets_keep_apart()

@@ -1,4 +1,4 @@
-//! The parts of a reference: its components, and the grammar of each kind.
+//! The components of a reference, and the grammar of each kind.
 #![tactic(auto)]
 
 mod address_parser;

@@ -41,7 +41,7 @@ fn parse_fragment(cursor: &mut Cursor<'_>, tables: &KindTables) -> Result<(), Pa
     Ok(())
 }
 
-/// A query if there is one, and what follows it. Answers where the query ends.
+/// Parses a query, if there is one, and what follows it. Returns where the query ends.
 #[tactic(auto, unfolding(crate::proofs::Steps::tail))]
 #[inline(always)]
 fn parse_end(cursor: &mut Cursor<'_>, tables: &KindTables) -> Result<Option<usize>, ParseError>
@@ -60,7 +60,7 @@ fn parse_end(cursor: &mut Cursor<'_>, tables: &KindTables) -> Result<Option<usiz
     Ok(query_end)
 }
 
-/// What stands before the rest of a path.
+/// What comes before the rest of a path.
 #[derive(Clone, Copy)]
 struct BeforePath {
     scheme_end: Option<usize>,
@@ -93,7 +93,7 @@ fn parse_path(
     })
 }
 
-/// An authority, of what stands before a path.
+/// Parses an authority, which comes before a path.
 #[tactic(auto, unfolding(crate::proofs::Steps::before_path))]
 #[inline(always)]
 fn pass_authority<K: Kind>(
@@ -173,8 +173,8 @@ fn pass_relative(cursor: &mut Cursor<'_>, tables: &KindTables) -> Result<BeforeP
     })
 }
 
-/// What stands before a path in a text that has no scheme, behind the characters that might have
-/// been one.
+/// Parses what comes before a path in a text that has no scheme. It begins after the characters
+/// that might have been one.
 #[tactic(auto, unfolding(crate::proofs::Steps::whole))]
 #[inline(always)]
 fn pass_schemeless<K: Kind>(
@@ -199,7 +199,7 @@ fn pass_schemeless<K: Kind>(
     }
 }
 
-/// What stands before a path, from the beginning of the text on.
+/// Parses what comes before a path, from the beginning of the text on.
 #[tactic(auto, using(crate::proofs::Steps::schemes), unfolding(crate::proofs::Steps::whole))]
 #[inline(always)]
 fn pass_front<K: Kind>(
@@ -248,7 +248,8 @@ fn parse_text<K: Kind>(tables: &KindTables, text: &str) -> Result<Positions, Par
     parse_path(&mut cursor, tables, before)
 }
 
-/// Where the components of a text of the kind lie, or why the text is none.
+/// Parses a text of the kind. Returns the positions of its components, or why it is not of the
+/// kind.
 #[inline(always)]
 pub fn parse<K: Kind>(text: &str) -> Result<Positions, ParseError>
     ensures accepts { IsOk result ↔ IsOfKind K.kind text.now }

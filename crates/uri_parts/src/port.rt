@@ -25,7 +25,7 @@ impl<'a, U: Encoder, R: Encoder> Authority<'a, U, R> {
     ///
     /// # Examples
     ///
-    /// Of `a:0080` it is 80, of `a:` and of `a` there is none, and `a:65536` is refused.
+    /// Returns 80 for `a:0080`, `None` for `a:` and `a`, and an error for `a:65536`.
     pub fn port_to_u16(self) -> Result<Option<u16>, ParseIntError>
         ensures number { let p = authority_parts (authority_text self.entry) in
             OkIff result (FitsPort (port_number p.port)) (port_number p.port) }

@@ -1,19 +1,19 @@
-//! Where the components of a text lie (RFC 3986, appendix B), and the components cut out by them.
+//! The positions of a text's components (RFC 3986, appendix B), and the components cut out by them.
 ghost use Rattle.std.specs.Prelude.{◌≡◌, None, is_some, option_map};
 ghost use Rattle.uri_parts.specs.Components.{components};
 ghost use Rattle.uri_parts.specs.Fragments.{IsWithFragment};
 ghost use Rattle.uri_parts.specs.Grammar.{Kind, IsOfKind};
 
-/// Where the components of a text lie, as byte offsets into it.
+/// The positions of a text's components, as byte offsets into it.
 ///
-/// A component runs up to the place that is named for its end; the fragment, where there is one,
-/// runs from behind its `#` to the end of the text.
+/// A component runs up to the position that is named for its end. The fragment, if there is one,
+/// runs from after its `#` to the end of the text.
 #[doc(hidden)]
 #[derive(Clone, Copy, Debug)]
 pub struct Positions {
-    /// Where the `:` behind the scheme stands, if there is a scheme.
+    /// The position of the `:` after the scheme, if there is a scheme.
     pub scheme_end: Option<usize>,
-    /// Where the authority lies, if there is one.
+    /// The positions of the authority, if there is one.
     pub authority: Option<AuthorityPositions>,
     /// Where the path begins.
     pub path_start: usize,
@@ -23,7 +23,7 @@ pub struct Positions {
     pub query_end: Option<usize>,
 }
 
-/// Where an authority lies, behind its `//`, as byte offsets into the whole text.
+/// The positions of an authority, after its `//`, as byte offsets into the whole text.
 #[doc(hidden)]
 #[derive(Clone, Copy, Debug)]
 pub struct AuthorityPositions {
@@ -130,7 +130,7 @@ impl Positions {
         &text[..self.before_fragment()]
     }
 
-    /// Where the query ends, or the path if there is none: where the `#` of a fragment stands.
+    /// Returns where the query ends, or the path if there is none. A fragment's `#` is there.
     pub fn before_fragment(&self) -> usize
         ensures { result ≡ before_fragment self.now }
     {

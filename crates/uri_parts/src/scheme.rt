@@ -10,8 +10,8 @@ use uri_pct::table::SCHEME;
 
 /// A scheme (RFC 3986, section 3.1).
 ///
-/// Schemes are equal, and hash alike, where their texts are the same but for the case of ASCII
-/// letters. One is printed as it stands.
+/// Schemes are equal, and have equal hashes, if their texts are the same but for the case of ASCII
+/// letters. A scheme is printed unchanged.
 ///
 /// # Examples
 ///
@@ -58,7 +58,7 @@ impl<'a> Scheme<'a> {
         Scheme { text }
     }
 
-    /// The text as it stands, for as long as it was borrowed.
+    /// Returns the text unchanged, for as long as it was borrowed.
     ///
     /// # Examples
     ///
@@ -92,7 +92,7 @@ impl<'a> fmt::Display for Scheme<'a> {
 
     ghost styled_output = { λ s spec. Some (styled_text spec (scheme_text s)) };
 
-    /// Prints the text as it stands, padded and cut as the format asks.
+    /// Prints the text unchanged, padded and cut as the format asks.
     fn fmt<W: fmt::Write>(&self, f: &mut fmt::Formatter<W>) -> fmt::Result {
         f.pad(self.text)
     }

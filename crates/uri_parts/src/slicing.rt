@@ -10,7 +10,7 @@ fn is_one_of(marks: &[u8], byte: u8) -> bool
     marks.iter().any(|mark| *mark == byte)
 }
 
-/// How many bytes stand before the first of the marks, or before the end.
+/// Returns how many bytes come before the first of the marks, or before the end.
 fn length_before(bytes: &[u8], marks: &[u8]) -> usize
     ensures { result ≡ prefix_len (λ c. not (is_one_of marks.now c)) bytes.now }
 {

@@ -31,7 +31,7 @@ none_of : (a b : Bool) → (a || b) ≡ false → (a ≡ false) × (b ≡ false)
 none_of false b e = (refl, e)
 none_of true b e = absurd (true≢false e)
 
--- what a set excludes: none of its characters, and nothing that spells an octet
+-- what a set excludes: none of its characters, and nothing of a percent-encoded octet
 outside_from : (set : TableSet) (marks : List ℕ)
     → list_all (λ b. ltb b 128 && (not (is_ascii_hexdigit b) && not (eqb b 37))) marks ≡ true
     → list_any set.ascii marks ≡ false → excludes set marks ≡ true
@@ -61,7 +61,7 @@ cut-none marks text h =
       ap (from_any marks) (sym (append-nil text)) ∙ cut.1,
     )
 
--- the port that is found behind a host
+-- the port that is found after a host
 port_text : Option (List ℕ) → List ℕ
 port_text port = marked (codes ":") port []
 
@@ -123,7 +123,7 @@ lacks_at_bracketed address h =
     (lacks_append (codes "@") address (codes "]") h
     (Lacks-cons (codes "@") 93 [] refl (lacks_nil (codes "@"))))
 
--- the userinfo that is found, and what is left behind it
+-- the userinfo that is found, and what is left after it
 user_cut : (userinfo : Option (List ℕ)) (rest : List ℕ) → IfSome userinfo (Lacks (codes "@"))
     → Lacks (codes "@") rest →
     (when (starts 64 (from_any (codes "@") (marked [] userinfo (codes "@") ++ rest)))

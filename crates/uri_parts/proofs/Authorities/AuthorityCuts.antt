@@ -13,6 +13,6 @@ length-before marks text = length-prefix_len (λ c. not (is_one_of marks c)) tex
 pub behind : (n k : ℕ) (bs : List ℕ) → drop k (drop n bs) ≡ drop (n + k) bs
 behind n k bs = drop-drop k n bs
 
--- behind a mark, and what is passed there
+-- after a mark, and what is passed there
 pub behind_mark : (k : ℕ) (bs : List ℕ) → drop k (drop 1 bs) ≡ drop (1 + k) bs
 behind_mark k bs = drop-drop k 1 bs

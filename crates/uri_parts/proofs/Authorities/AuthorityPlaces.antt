@@ -1,4 +1,4 @@
--- At their places the parts of an authority can be cut out, and what is cut out is them.
+-- At their positions the parts of an authority can be cut out, and what is cut out is them.
 use Rattle.std.proofs.Common.{◌≡◌, ℕ, ◌+◌, ◌-◌, ◌<◌, ◌≤◌, true, false, eqb, List, [], ◌∷◌, ◌++◌}
 use Rattle.std.proofs.Common.{length, get_or, take, drop, refl, sym, ap, subst, ◌∙◌, arith, not}
 use Rattle.std.proofs.Common.{◌||◌, ◌⊎◌, inl, inr, ⊎_elim, append_assoc, append-nil, length-append}
@@ -66,7 +66,7 @@ length-user_text : (userinfo : Option (List ℕ))
 length-user_text None = refl
 length-user_text (Some user) = omega (arith, length-append user (codes "@"))
 
--- a part, from a place to another
+-- a part, from a position to another
 pub record LiesIn (text : List ℕ) (start end : ℕ) (part : List ℕ) : Type 0 where
   pub ordered : start ≤ end
   pub starts : IsCharBoundary text start
@@ -156,7 +156,7 @@ pub some_user : (userinfo : Option (List ℕ))
 some_user None = refl
 some_user (Some user) = ap not (ne_eqb _ 0 (λ e. omega arith))
 
--- the port behind the host
+-- the port after the host
 pub record HasPort (text : List ℕ) (end : ℕ) (port : Option (List ℕ)) : Type 0 where
   pub inside : end < length text
   pub cut : IsCharBoundary text (end + 1)
@@ -203,7 +203,7 @@ unfolding is_authority_for is_host is_valid_for tokens_of chars ipv4_value
 empty_is users names = and_from (is_some (ipv4_value []) || true) true
     (or_right (is_some (ipv4_value [])) true refl) refl
 
--- a name that is no address is spelt by what names allow
+-- a name that is no address is valid for the set of names
 pub name_valid : (names : TableSet) (host : List ℕ) → is_host names host ≡ true
     → starts 91 host ≡ false → ipv4_value host ≡ None → IsValidFor names host
 unfolding is_host

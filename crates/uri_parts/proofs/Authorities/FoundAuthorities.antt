@@ -1,5 +1,5 @@
--- An authority is parsed exactly where the one that is cut out is taken apart, and lies where it is
--- cut.
+-- An authority is parsed exactly where the one that is cut out is taken apart, and its
+-- positions are where it is cut.
 use Rattle.std.proofs.Common.{◌≡◌, ℕ, ◌+◌, Bool, true, false, eqb, List, [], ◌∷◌, ◌++◌}
 use Rattle.std.proofs.Common.{length, drop, refl, sym, ap, ◌∙◌, arith, ◌||◌, ◌&&◌, ⊎_elim}
 use Rattle.std.proofs.Common.{append_assoc, length-append, subst, zero-add, lit<}
@@ -262,7 +262,7 @@ module _ (segment : TableSet) (kind : Kind) (w : Separates segment kind) where
         ∙ sym (without_mark e))
         (cases_Bool (starts 64 tail))
 
-    -- where it lies
+    -- its positions
     name_case : finds_name kind rest ≡ true → IsFound kind rest
     unfolding found_length found_authority
     name_case h =

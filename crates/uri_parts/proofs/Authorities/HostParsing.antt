@@ -51,7 +51,7 @@ literal_lacks marks outside address u h = ⊎_elim
     (ipv6_value-sound address segments s))
     (value_cases (ipv6_value address))
 
--- what stands behind a `[` has a `]` before the authority ends
+-- what is after a `[` has a `]` before the authority ends
 record IsClosed (rest : List ℕ) : Type 0 where
   address : List ℕ
   tail : List ℕ
@@ -122,7 +122,7 @@ module _ (rest : List ℕ) (u : IsUtf8 rest) (w : IsClosed rest) where
   utf8_parts : IsUtf8 w.address × IsUtf8 w.tail
   utf8_parts = utf8_apart w.address 93 w.tail (lit< tt) (subst IsUtf8 (sym w.whole) u)
 
--- a host that is parsed, with what is behind it
+-- a host that is parsed, with what is after it
 pub record FoundHost (kind : Kind) (rest : List ℕ) : Type 0 where
   pub host : List ℕ
   pub behind : List ℕ
@@ -223,7 +223,7 @@ module _ (segment : TableSet) (kind : Kind) (w : Separates segment kind) where
       ∙ ap (λ t. t && (is_literal address && ends_in_port (drop 1 (before_any (codes "/?#") from))))
       (starts_before 93 (codes "/?#") refl from)
 
-  -- behind the address the port is parsed
+  -- after the address the port is parsed
   left_of_literal : (rest : List ℕ) → IsUtf8 rest → (c : IsClosed rest)
       → finds_host kind (91 ∷ rest)
       ≡ (parses_literal rest && begins_any (codes "/?#") (drop (port_length c.tail) c.tail))
@@ -277,7 +277,7 @@ module _ (segment : TableSet) (kind : Kind) (w : Separates segment kind) where
   unfolding name_length
   name_whole rest i j n k = omega (arith, n, k)
 
-  -- where it lies
+  -- its positions
   name_found : (rest : List ℕ) → IsUtf8 rest → starts 91 rest ≡ false → finds_name kind rest ≡ true
       → FoundHost kind rest
   name_found rest u e h =

@@ -37,7 +37,7 @@ first_of : (x y : Bool) → (x || false) ≡ true → (x || y) ≡ true
 first_of true y a = refl
 first_of false y a = absurd (false≢true a)
 
--- a cut at some marks, and one at a further mark in what lies before it
+-- a cut at some marks, and one at a further mark in what is before it
 pub cut_again : (mark : ℕ) (marks bs : List ℕ) →
     (before_any (mark ∷ []) (before_any marks bs) ≡ before_any (mark ∷ marks) bs)
     × (from_any (mark ∷ []) (before_any marks bs) ≡ before_any marks (from_any (mark ∷ marks) bs))
@@ -86,7 +86,7 @@ starts_before mark marks none (b ∷ bs) = ⊎_elim
 pub utf8_before : (marks bs : List ℕ) → AreAscii marks → IsUtf8 bs → IsUtf8 (before_any marks bs)
 utf8_before marks bs ascii u = IsUtf8-take bs _ u (mark_boundary marks ascii bs)
 
--- a scan for a set ends at a mark exactly where what is cut there is spelt by the set
+-- a scan for a set ends at a mark exactly where what is cut there is valid for the set
 begins_is : (marks rest : List ℕ) → Begins marks rest → begins_any marks rest ≡ true
 unfolding begins_any
 begins_is marks [] b = refl

@@ -1,4 +1,4 @@
--- Where an authority lies that is a host with what is behind it, or userinfo and a host.
+-- The positions of an authority that is a host with what is after it, or userinfo and a host.
 use Rattle.std.proofs.Common.{◌≡◌, ℕ, ◌+◌, true, false, cond, List, ◌∷◌, ◌++◌}
 use Rattle.std.proofs.Common.{length, drop, refl, ap, ◌∙◌, arith}
 use Rattle.std.proofs.Common.{length-append}
@@ -12,7 +12,7 @@ use Rattle.uri_parts.proofs.Authorities.Authority.{cut-none}
 use Rattle.uri_parts.proofs.Authorities.AuthorityCuts.{behind}
 use Rattle.uri_parts.proofs.Splitting.Cuts.{cut-append}
 
--- where an authority lies that begins at a place, with a host at another
+-- the positions of an authority that begins at a position, with a host at another
 abbrev pub places : ℕ → ℕ → List ℕ → List ℕ → AuthorityPositions
 places start host name behind =
     record {
@@ -23,7 +23,7 @@ places start host name behind =
           host + length (name ++ behind);
     }
 
--- a host with what is behind it, and userinfo before them
+-- a host with what is after it, and userinfo before them
 module _ (host behind : List ℕ) (at : Lacks (codes "@") (host ++ behind))
     (is_host : host_before (host ++ behind) ≡ host) where
   abbrev pub bare : List ℕ

@@ -7,7 +7,7 @@ use Rattle.uri_parts.specs.SchemePorts.{scheme_ports, default_port}
 rows : length scheme_ports ≡ 44
 rows = refl
 
--- each name is in lower case, and stands once: what its row says is its default port
+-- each name is in lower case, and occurs once: what its row says is its default port
 in_lower_case : map (λ row. str_to_ascii_lowercase row.0) scheme_ports
     ≡ map (λ row. row.0) scheme_ports
 in_lower_case = refl

@@ -56,7 +56,7 @@ numeral : (digits : List ℕ) → AllDigits 10 digits → 0 < length digits
     → IsNumeral 10 (without_leading_plus digits)
 numeral digits d some = subst (IsNumeral 10) (sym (no_plus digits d)) (some, d)
 
--- a port that is not empty is parsed as its number, or refused because that is too great
+-- a port that is not empty is parsed as its number, or rejected because that is too great
 pub record IsPortParsed (port : Option (List ℕ)) (r : Result ℕ ParseIntError) : Type 0 where
   pub ok : (n : ℕ) → r ≡ Ok n → FitsPort (port_number port) × (Some n ≡ port_number port)
   pub err : (e : ParseIntError) → r ≡ Err e

@@ -62,7 +62,7 @@ outer_differ nth = list_all (differs (97 + nth)) (take (before nth) scheme_ports
 abbrev is_within : ℕ → Bool
 is_within nth = ltb (before nth) (before (nth + 1) + 1) && ltb (before (nth + 1)) 45
 
--- the rows of a letter lie within the table
+-- the rows of a letter are in the table
 pub rows_within : (nth : ℕ) → nth < 26
     → (before nth ≤ before (nth + 1)) × (before (nth + 1) ≤ 44)
 rows_within nth small =

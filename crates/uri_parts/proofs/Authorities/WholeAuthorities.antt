@@ -17,7 +17,7 @@ use Rattle.uri_parts.proofs.Parsing.Acceptance.{is_literal}
 use Rattle.uri_parts.proofs.Splitting.Cuts.{Begins, IsCut-any, before_past_other, from_past_other}
 use Rattle.uri_parts.proofs.HostForms.Hosts.{literal_at}
 
--- a host that stands in no brackets
+-- a host without brackets
 unfoldable pub is_name : TableSet → List ℕ → Bool
 is_name names text = is_some (ipv4_value text) || is_valid_for names text
 
@@ -54,7 +54,7 @@ bytes_eq-front (x ∷ xs) ys zs = ap (λ t. t && bytes_eq (xs ++ ys) (xs ++ zs))
 port_of : List ℕ → Option (List ℕ)
 port_of behind = when (starts 58 behind) (drop 1 behind)
 
--- nothing else stands behind a host than a port
+-- nothing else than a port comes after a host
 port_ends : (behind : List ℕ)
     → (bytes_eq (marked (codes ":") (port_of behind) []) behind
     && option_map_or (is_valid_for digit_set) (port_of behind) true)
@@ -75,7 +75,7 @@ port_ends (b ∷ rest) = ⊎_elim
     ∙ sym (and_left _ _ e))
     (cases_Bool (eqb b 58))
 
--- the host and the port of what stands behind the userinfo
+-- the host and the port of what is after the userinfo
 host_test : TableSet → List ℕ → Bool
 host_test names rest =
     bytes_eq (host_before rest ++ marked (codes ":") (port_of (behind_host rest)) []) rest

@@ -29,7 +29,7 @@ digit_at (d ∷ text) zero h l = h.0
 digit_at (d ∷ text) (suc i) h l = digit_at text i h.1 (omega arith)
 
 module _ (text : List ℕ) (count : ℕ) (h : AreHexDigits text count) where
-  -- a byte that is no hexadecimal digit comes behind them
+  -- a byte that is no hexadecimal digit comes after them
   no_digit_within : (i : ℕ) → i < count → ¬ (16 ≤ digit_value (get_or text i 0))
   no_digit_within i l big =
       let inside : i < length (take count text) =

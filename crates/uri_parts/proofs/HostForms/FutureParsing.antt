@@ -1,4 +1,4 @@
--- An IPvFuture address in brackets is what is parsed behind its `v`.
+-- An IPvFuture address in brackets is what is parsed after its `v`.
 use Rattle.std.proofs.Common.{◌≡◌, ℕ, ◌+◌, ◌<◌, true, false, List, [], ◌∷◌, ◌++◌, length, drop}
 use Rattle.std.proofs.Common.{refl, sym, ap, subst, ◌∙◌, arith, ◌||◌, eqb, ⊎_elim, append_assoc}
 use Rattle.std.proofs.Common.{length-append, lit<}
@@ -108,7 +108,7 @@ module _ (set : TableSet) (lacks : LacksPercent set) (mark : ℕ) (ascii : mark 
       (λ w. absurd (both_ways _ (ap (starts mark) w.left ∙ no_mark w.byte w.other) p.1))
       (stop_cases (mark ∷ []) set lacks outside rest u)
 
--- an IPvFuture address with a `]` behind it is parsed as a host
+-- an IPvFuture address with a `]` after it is parsed as a host
 closed : (text tail : List ℕ) → Lacks (codes "]") text → is_ipv_future text ≡ true
     → (parses_literal (text ++ (93 ∷ tail)) ≡ true)
     × (literal_length (text ++ (93 ∷ tail)) ≡ length text + 1)
@@ -141,7 +141,7 @@ module _ (letter : ℕ) (v : (eqb letter 118 || eqb letter 86) ≡ true) where
     utf8_rest : IsUtf8 rest
     utf8_rest = utf8_tail letter rest (letter_ascii letter v) u
 
-    -- what is parsed is an address with a `]` behind it
+    -- what is parsed is an address with a `]` after it
     accepted : parses_future rest ≡ true
         → (parses_literal (letter ∷ rest) ≡ true)
         × (literal_length (letter ∷ rest) ≡ 1 + future_length rest)
@@ -178,7 +178,7 @@ module _ (letter : ℕ) (v : (eqb letter 118 || eqb letter 86) ≡ true) where
           ap literal_length whole ∙ c.1 ∙ omega (arith, size, version.long, address.long),
         )
 
-    -- an address with a `]` behind it is parsed
+    -- an address with a `]` after it is parsed
     future_parses : parses_literal (letter ∷ rest) ≡ true → parses_future rest ≡ true
     unfolding parses_future parses_literal
     future_parses e =

@@ -1,4 +1,4 @@
--- A text in brackets that begins with no `v` is parsed as an IPv6 address with `]` behind it.
+-- A text in brackets that begins with no `v` is parsed as an IPv6 address with `]` after it.
 use Rattle.std.proofs.Common.{◌≡◌, ℕ, ◌+◌, ◌-◌, ◌≤◌, Bool, true, false, List, [], ◌∷◌, ◌++◌, length}
 use Rattle.std.proofs.Common.{drop, Option, Some, None, option_map, refl, sym, ap, ◌∙◌, arith, ◌||◌}
 use Rattle.std.proofs.Common.{lit≤, eqb-true, length-append, length-drop, drop_at}
@@ -73,7 +73,7 @@ value_of : (o : Option (List ℕ)) (b : Bool) → (is_some o || b) ≡ true → 
 value_of None b e f = absurd (false≢true (sym f ∙ e))
 value_of (Some x) b e f = (x, refl)
 
--- an address with `]` behind it is parsed
+-- an address with `]` after it is parsed
 pub closed_parsed : (rest : List ℕ) → (starts 118 rest || starts 86 rest) ≡ false
     → parses_literal rest ≡ true
     → (left rest ≡ Some (from_any (codes "]") rest))

@@ -1,4 +1,4 @@
--- The refusal of an address in brackets is one in the whole text.
+-- The error of an address in brackets is one in the whole text.
 use Rattle.std.proofs.Common.{◌≡◌, ℕ, ◌+◌, ◌-◌, Bool, true, false, not, cond, List, [], ◌∷◌, drop}
 use Rattle.std.proofs.Common.{get_or, Option, Some, None, ap, sym, subst, ◌∙◌, arith}
 use Rattle.std.specs.Prelude.{Ok, Err, codes, nat_lt, ◌&&◌, ⊤}
@@ -23,7 +23,7 @@ byte_at mark place text e =
     sym (get_or-drop place text 0 0 ∙ ap (λ n. get_or text n 0) z)
     ∙ first_is mark (drop place text) e
 
--- what is wrong where an address that begins behind a `[` ends with an error
+-- what is wrong where an address that begins after a `[` ends with an error
 module _ (text : List ℕ) (place : ℕ) (bracket : starts 91 (drop place text) ≡ true) where
   HasFault : End → Type 0
   HasFault (Ok end) = ⊤

@@ -14,7 +14,7 @@ use Rattle.uri_parts.specs.Models.AuthorityParsing.{begins_any, finds_name, from
 use Rattle.uri_parts.specs.Models.AuthorityParsing.{host_length, user_length}
 use Rattle.uri_parts.specs.Models.Literals.{literal_before}
 
--- what may stand in brackets
+-- what may be in brackets
 unfoldable pub is_literal : List ℕ → Bool
 is_literal address = is_some (ipv6_value address) || is_ipv_future address
 
@@ -30,11 +30,11 @@ parses_marked set mark rest = nat_lt 0 (valid_prefix set rest) && starts mark (a
 unfoldable pub length_to_mark : TableSet → List ℕ → ℕ
 length_to_mark set rest = valid_prefix set rest + 1
 
--- what is left behind a version and its `.`
+-- what is left after a version and its `.`
 abbrev pub behind_version : List ℕ → List ℕ
 behind_version rest = drop (length_to_mark hexdig_set rest) rest
 
--- behind a `v`, the rest of an IPvFuture address and `]` come first
+-- after a `v`, the rest of an IPvFuture address and `]` come first
 unfoldable pub parses_future : List ℕ → Bool
 parses_future rest =
     parses_marked hexdig_set full_stop rest
@@ -90,7 +90,7 @@ unfoldable pub parses_authority : Kind → List ℕ → Bool
 parses_authority kind rest =
     finds_authority kind rest && parses_path kind (drop (found_length kind rest) rest)
 
--- a path that has no colon behind the characters of a first segment, and what follows it
+-- a path that has no colon after the characters of a first segment, and what follows it
 unfoldable pub parses_relative : TableSet → Kind → List ℕ → Bool
 parses_relative segment kind rest =
     parses_after segment (λ r. not (starts colon r) && parses_path kind r) rest
@@ -100,7 +100,7 @@ unfoldable pub parses_hier : Kind → List ℕ → Bool
 parses_hier kind rest =
     if has_authority rest then parses_authority kind (drop 2 rest) else parses_path kind rest
 
--- a text that has no scheme, of which so many characters are passed that may stand in one
+-- a text that has no scheme, of which so many characters are passed that may be in one
 unfoldable pub parses_schemeless : TableSet → Kind → ℕ → List ℕ → Bool
 parses_schemeless segment kind passed rest =
     if passed == 0 && has_authority rest then parses_authority kind (drop 2 rest)

@@ -1,4 +1,4 @@
--- What is next at a place in a text.
+-- What is next at a position in a text.
 use Rattle.std.proofs.Common.{◌≡◌, ℕ, ◌+◌, ◌<◌, ◌≤◌, true, eqb, ltb, List, length, get_or, drop}
 use Rattle.std.proofs.Common.{sym, ap, ◌∙◌, arith, ◌&&◌, ◌||◌, ⊎_elim}
 use Rattle.std.proofs.lemmas.Bool.{cases_lt, and_left, eq-eqb, ne_eqb, lt-ltb, le-ltb}
@@ -33,7 +33,7 @@ stray_fault set text i n o e h p =
           stray-digits set text n h o p (ap (valid_prefix set) d ∙ valid_prefix-after set (drop i text));
     }
 
--- nothing is left where the place is the length
+-- nothing is left where the position is the length
 pub is_end_at : (i : ℕ) (text : List ℕ) → i ≤ length text
     → is_end (drop i text) ≡ eqb i (length text)
 unfolding is_end
@@ -42,7 +42,7 @@ is_end_at i text l = ⊎_elim
     (λ h. ap is_end (drop_all i text h) ∙ sym (eq-eqb i (length text) (omega arith)))
     (cases_lt i (length text))
 
--- what may stand behind an authority
+-- what may come after an authority
 three : (b : ℕ) → is_one_of (codes "/?#") b ≡ ((eqb b 47 || eqb b 63) || eqb b 35)
 three b = grind (arith, nat_tests)
 

@@ -49,7 +49,7 @@ prefix_true marks set lacks outside test stuck bs u e = ⊎_elim (λ h. h)
     (λ s. absurd (both_ways _ (ap test s.left ∙ stuck s.byte s.rest s.other) e))
     (stop_cases marks set lacks outside bs u)
 
--- the positions of what lies behind a scheme and an authority
+-- the positions of what is after a scheme and an authority
 abbrev tail_positions : Option ℕ → Option AuthorityPositions → ℕ → List ℕ → Positions
 tail_positions scheme_end authority start tail =
     let end = start + length (before_any (codes "?#") tail) in
@@ -63,7 +63,7 @@ tail_positions scheme_end authority start tail =
           (when (starts 63 rest) (before_any (codes "#") (drop 1 rest)));
     }
 
--- the positions of what lies behind a scheme
+-- the positions of what is after a scheme
 abbrev hier_layout : Option ℕ → ℕ → List ℕ → Positions
 hier_layout scheme_end place rest =
     let authority = when (has_authority rest) (before_any (codes "/?#") (drop 2 rest)) in
@@ -254,7 +254,7 @@ module _ (segment : TableSet) (kind : Kind) (w : Separates segment kind) where
       (sym (relative_within segment kind w text) ∙ sym (cond-false _ _ _ e) ∙ h)))
       (cases_Bool (has_authority text))
 
-  -- where there is no colon behind the characters of a scheme, there is no scheme
+  -- where there is no colon after the characters of a scheme, there is no scheme
   no_scheme : (text : List ℕ) → IsUtf8 text → starts 58 (after scheme_set text) ≡ false
       → parses_schemeless segment kind (valid_prefix scheme_set text) (after scheme_set text) ≡ true
       → has_scheme text ≡ false

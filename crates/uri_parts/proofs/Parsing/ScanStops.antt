@@ -74,7 +74,7 @@ module _ (marks : List ℕ) (set : TableSet) (lacks : LacksPercent set)
   no_stray bs = from_mark marks (λ r. is_stray set r ≡ false) (and_right _ _ refl)
       (λ b rest m. and_right _ _ (mark_percent set marks outside b m)) bs
 
-  -- what a test takes behind the longest prefix, where it takes nothing but the end and marks
+  -- what a test takes after the longest prefix, where it takes nothing but the end and marks
   pub piece : (test : List ℕ → Bool)
       → ((b : ℕ) (rest : List ℕ) → is_one_of marks b ≡ false → valid_prefix set (b ∷ rest) ≡ 0
       → test (b ∷ rest) ≡ false)

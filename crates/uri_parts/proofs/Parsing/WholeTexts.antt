@@ -46,7 +46,7 @@ and_assoc : (a b c : Bool) → (a && (b && c)) ≡ ((a && b) && c)
 and_assoc true b c = refl
 and_assoc false b c = refl
 
--- an authority is not behind a scheme's characters
+-- an authority is not after a scheme's characters
 pub slashes_first : (bs : List ℕ) → has_authority bs ≡ true → from_any (codes ":/?#") bs ≡ bs
 slashes_first [] e = refl
 slashes_first (b ∷ rest) e = from_at_mark (codes ":/?#") b rest
@@ -61,7 +61,7 @@ slashes_prefix [] e = absurd (false≢true e)
 slashes_prefix (b ∷ rest) e = prefix_zero_mark (codes ":/?#") scheme_set scheme_lacks scheme_marks b
     rest (ap (is_one_of (codes ":/?#")) (eqb-true b 47 (and_parts _ _ e).0))
 
--- slashes are next behind no character of a scheme exactly where the text begins with them
+-- slashes are next after no character of a scheme exactly where the text begins with them
 pub slashes_scanned : (text : List ℕ)
     → (eqb (valid_prefix scheme_set text) 0 && has_authority (after scheme_set text))
     ≡ has_authority text
@@ -214,7 +214,7 @@ module _ (segment : TableSet) (kind : Kind) (w : Separates segment kind) where
   tail_authority text u e f = ap (rest_ok segment kind w) (behind_none text e)
       ∙ sym (slashes_lemma segment kind w text f u)
 
-  -- a colon behind the characters of a scheme
+  -- a colon after the characters of a scheme
   with_colon : (text : List ℕ) → IsUtf8 text → starts 58 (after scheme_set text) ≡ true
       → (is_ascii_alphabetic (get_or text 0 0) && parses_hier kind (drop 1 (after scheme_set text)))
       ≡ (scheme_ok text && (unmixed text && tail_ok text))

@@ -1,4 +1,4 @@
--- The last `:` before a place.
+-- The last `:` before a position.
 use Rattle.std.proofs.Common.{◌≡◌, ℕ, zero, suc, ◌+◌, ◌-◌, ◌<◌, ◌≤◌, true, false, List, length}
 use Rattle.std.proofs.Common.{get_or, drop, sym, ap, ◌∙◌, arith, ⊎_elim, ◌⊎◌, inl, inr}
 use Rattle.std.proofs.Common.{add-one, add-zero}
@@ -25,7 +25,7 @@ last_past : (text : List ℕ) (n : ℕ) → n < length text → (get_or text n 0
 unfolding last_colon
 last_past text n l e = cond-false _ _ _ (at_other text n l e)
 
--- the same by the place behind
+-- the same by the position after
 pub last_is : (text : List ℕ) (i n : ℕ) → 0 < i → i ≤ length text → n ≡ i - 1
     → get_or text n 0 ≡ 58 → n ≡ last_colon text i
 last_is text zero n l k e c = absurd (omega arith)
@@ -59,7 +59,7 @@ pub last_at : (text : List ℕ) (n : ℕ) → starts 58 (drop n text) ≡ true
 unfolding last_colon
 last_at text n e = ap (last_colon text) (add-one n) ∙ cond-true _ _ _ e
 
--- nothing changes behind places where none stands
+-- nothing changes after positions where there is none
 pub last_plain : (text : List ℕ) (n k : ℕ)
     → ((j : ℕ) → j < k → starts 58 (drop (n + j) text) ≡ false)
     → last_colon text (n + k) ≡ last_colon text n

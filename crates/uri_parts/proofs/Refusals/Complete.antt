@@ -1,4 +1,4 @@
--- An IPv6 address with a `]` behind it is read.
+-- An IPv6 address with a `]` after it is read.
 use Rattle.std.proofs.Common.{◌≡◌, ◌≢◌, ℕ, zero, suc, ◌+◌, ◌-◌, ◌<◌, ◌≤◌, Bool, true, false, not}
 use Rattle.std.proofs.Common.{cond, eqb, List, [], ◌∷◌, ◌++◌, length, get_or, take, drop, decimal, Option}
 use Rattle.std.proofs.Common.{Some, None, refl, sym, ap, subst, ◌∙◌, arith, ◌&&◌, ◌||◌, ⊎_elim, inl, inr}
@@ -24,7 +24,7 @@ use Rattle.uri_parts.proofs.Splitting.Recompose.{starts-cons}
 use Rattle.uri_parts.proofs.HostForms.AddressParsing.{dotted as dotted_with}
 use Rattle.uri_parts.proofs.Refusals.GroupTurns.{none_left, ends, elides, dotted, goes_on}
 
--- what stands before a group
+-- what is before a group
 abbrev lead : Bool → List ℕ
 lead true = []
 lead false = 58 ∷ []
@@ -167,7 +167,7 @@ module _ (text : List ℕ) where
       ∙ next_octet 0 w.d (p + la + 1 + lb + 1 + lc) behind w.fit.3 s_d stop
       ∙ ap (λ k. Some k) (omega (arith, e, size))
 
-  -- where a group begins, behind its `:`
+  -- where a group begins, after its `:`
   record Led (is_first : Bool) (i : ℕ) (xs : List ℕ) : Type 0 where
     place : ℕ
     is : place ≡ cond (starts 58 (drop i text)) (i + 1) i
@@ -310,7 +310,7 @@ module _ (text : List ℕ) where
   too_few None = refl
   too_few (Some last) = refl
 
-  -- behind the groups stands `]`, or `::`
+  -- after the groups comes `]`, or `::`
   closing : (ipv4 : Bool) (end : ℕ) → starts 93 (drop end text) ≡ true
       → IsRest ipv4 end (λ m. Groups_end m end)
   closing ipv4 end c =

@@ -97,7 +97,7 @@ module _ (text : List ℕ) where
       (cases_Bool (parses_literal rest)))
       (cases_Bool (starts 118 rest || starts 86 rest))
 
--- the same for the place of its `[`
+-- the same for the position of its `[`
 ended : (p : Bool) (n end : ℕ) (r : End) → Ends p n r → Ok end ≡ r → end ≡ n
 ended true n end r (e, f) s = same_Some end n (ap result_ok (s ∙ f))
 ended false n end r (e, f) s = absurd (false≢true (sym (ap is_ok (s ∙ f))))

@@ -86,7 +86,7 @@ module _ (text : List ℕ) (i : ℕ) where
       → literal text i ≡ Err (malformed_ipv6 i)
   error_none some e = closed_as some ∙ ap (closed text i) e
 
-  -- what is read so with a `]` behind it is parsed
+  -- what is read so with a `]` after it is parsed
   read_parsed : (end : ℕ) → ipv6_end text i ≡ Some end → starts 93 (drop end text) ≡ true
       → parses_literal (drop i text) ≡ true
   read_parsed end e c =
@@ -116,7 +116,7 @@ module _ (text : List ℕ) (i : ℕ) where
       (λ n. ap is_ok (closed_as n) ∙ none_closed (ipv6_end text i) refl none)
       (cases_Bool (is_no_ipv6 text i))
 
--- an address that is parsed with a `]` behind it is read so
+-- an address that is parsed with a `]` after it is read so
 pub closed_read : (text behind : List ℕ) (i : ℕ)
     → Some behind ≡ option_map (λ p. p.1) (read_ipv6 (drop i text)) → starts 93 behind ≡ true
     → literal text i ≡ Ok (length text - length behind + 1)

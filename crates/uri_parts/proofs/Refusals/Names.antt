@@ -91,7 +91,7 @@ starts_one mark other (b ∷ bs) n e = ap (λ c. eqb c other) (eqb-true b mark e
 
 module _ (segment : TableSet) (kind : Kind) (w : Separates segment kind) (a : Adjoins kind)
     (text : List ℕ) where
-  -- userinfo stops where a name does and no `:` stands
+  -- userinfo stops where a name does and there is no `:`
   user_stops : (bs : List ℕ) → valid_prefix kind.reg_name bs ≡ 0 → starts 58 bs ≡ false
       → valid_prefix kind.userinfo bs ≡ 0
   unfolding valid_prefix_from
@@ -133,7 +133,7 @@ module _ (segment : TableSet) (kind : Kind) (w : Separates segment kind) (a : Ad
         let d = ap (valid_prefix kind.userinfo) (drop-drop (name_length kind rest) i text) in
         omega (arith, u, m, d)
 
-    -- what `from_name` tells, by whether more of userinfo stands behind the name and the port
+    -- what `from_name` returns, by whether more of userinfo comes after the name and the port
     abbrev found : Refusal
     found = cond (eqb behind user) (ended_error kind text user)
         (cond (nat_lt (last_colon text user) behind) (Some (unexpected behind))
@@ -205,7 +205,7 @@ module _ (segment : TableSet) (kind : Kind) (w : Separates segment kind) (a : Ad
     name_is : from_name kind text i user ≡ found
     name_is = ⊎_elim name_error_some name_error_none (cases_Bool (is_next text 58 name))
 
-    -- by what stands behind the userinfo
+    -- by what is after the userinfo
     abbrev stray : Bool
     stray = kind.userinfo.pct_encoded && is_next text 37 user
 

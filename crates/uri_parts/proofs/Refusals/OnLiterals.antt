@@ -1,4 +1,4 @@
--- What an answer unfolds to compute the error of a literal text.
+-- What a proof unfolds to compute the error of a literal text.
 use Rattle.std.specs.Prelude.{⊤}
 use Rattle.uri_pct.specs.Prefixes.{valid_prefix_from, allows_first, begins_hex, first_char}
 use Rattle.uri_pct.specs.Sets.{allows_past_ascii, is_ucschar, is_iprivate}

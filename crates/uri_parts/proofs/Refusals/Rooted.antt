@@ -24,7 +24,8 @@ use Rattle.uri_parts.specs.Models.ParseErrors.{left_over_error, ended_error, por
 use Rattle.uri_parts.proofs.Authorities.NamesAndPorts.{prefix_nil}
 use Rattle.uri_parts.proofs.TextKinds.Separations.{Separates}
 
--- the sets of an authority and of a path have octets, and only `:` tells userinfo from a name
+-- the sets of an authority and of a path have percent-encoded octets, and only `:` distinguishes
+-- userinfo from a name
 pub record Adjoins (kind : Kind) : Type 0 where
   pub userinfo_octets : kind.userinfo.pct_encoded ≡ true
   pub reg_name_octets : kind.reg_name.pct_encoded ≡ true
@@ -190,7 +191,7 @@ module _ (segment : TableSet) (kind : Kind) (w : Separates segment kind) (a : Ad
   unfolding from_port
   from_none n e = ap (from_rooted_path kind text) (cond-false _ _ _ e)
 
-  -- a stray `%` behind a name is one in the path that is read there
+  -- a stray `%` after a name is one in the path that is read there
   stray_port : (i : ℕ) → is_next text 37 (scan_end text kind.reg_name i) ≡ true
       → port_error kind text (scan_end text kind.reg_name i)
       ≡ Some (stray_percent (scan_end text kind.reg_name i))

@@ -1,4 +1,4 @@
--- What is read as an IPv6 address with something behind it, as `]`, is one.
+-- What is read as an IPv6 address with something after it, as `]`, is one.
 use Rattle.std.proofs.Common.{◌≡◌, ◌≢◌, ℕ, zero, suc, ◌+◌, ◌-◌, ◌<◌, ◌≤◌, Bool, true, false, not}
 use Rattle.std.proofs.Common.{cond, eqb, List, [], ◌∷◌, ◌++◌, length, get_or, drop, decimal, Option, Some}
 use Rattle.std.proofs.Common.{None, refl, sym, ap, subst, ◌∙◌, arith, ◌&&◌, ◌||◌, ⊎_elim, inl, inr}
@@ -291,7 +291,7 @@ module _ (text : List ℕ) where
       (cases_Bool (nat_lt end (group + 4) && is_end (drop end text))))
       (cases_Bool (eqb end group))
 
-  -- an address, and what stands behind it
+  -- an address, and what is after it
   pub record Holds (i end : ℕ) : Type 0 where
     pub address : List ℕ
     pub segments : List ℕ

@@ -1,4 +1,4 @@
--- What the parser tells of a whole text is its refusal.
+-- The parser returns the error that `refusal` defines for a whole text.
 use Rattle.std.proofs.Common.{◌≡◌, ℕ, ◌+◌, Bool, true, false, cond, eqb, List, get_or, drop, refl}
 use Rattle.std.proofs.Common.{sym, ap, subst, ◌∙◌, arith, ◌&&◌, ◌||◌, ⊎_elim, zero-add, Some}
 use Rattle.std.specs.Prelude.{if◌then◌else◌, Ok, Err, Result, is_ok, is_none}
@@ -29,7 +29,7 @@ use Rattle.uri_parts.proofs.Theorems.{tables_of}
 
 module _ (segment : TableSet) (kind : Kind) (w : Separates segment kind) (j : Adjoins kind)
     (text : List ℕ) where
-  -- a first segment is read on from behind the characters of a scheme
+  -- a first segment is read on from after the characters of a scheme
   segment_end : scan_end text segment (valid_prefix scheme_set text) ≡ scan_end text segment 0
   segment_end = sym (valid_prefix-within scheme_set segment w.scheme_within scheme_lacks text)
       ∙ sym (zero-add _)
@@ -71,7 +71,7 @@ module _ (segment : TableSet) (kind : Kind) (w : Separates segment kind) (j : Ad
       ∙ ap (λ s. cond (has_authority text) (from_authority kind text 2)
       (from_relative_path kind text s 0)) e)
 
--- what may stand in userinfo and in no name is `:`
+-- what may be in userinfo and in no name is `:`
 only_colon : (c : ℕ) → eqb c 58 ≡ false → is_reg_name_char c ≡ false → is_userinfo_char c ≡ false
 only_colon c e n = ap (λ t. t || eqb c 58) n ∙ e
 

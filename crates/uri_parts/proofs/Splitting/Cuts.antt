@@ -53,7 +53,7 @@ pub Lacks-cons : (marks : List ℕ) (c : ℕ) (text : List ℕ) → is_one_of ma
 Lacks-cons marks c text e h zero d l = e
 Lacks-cons marks c text e h (suc k) d l = h k d (omega arith)
 
--- a text that lacks the marks, with one of them behind it, is cut at its end
+-- a text that lacks the marks, with one of them after it, is cut at its end
 pub cut-append : (marks xs ys : List ℕ) → Lacks marks xs → Begins marks ys
     → (before_any marks (xs ++ ys) ≡ xs) × (from_any marks (xs ++ ys) ≡ ys)
 cut-append marks [] [] lacks begins = (refl, refl)

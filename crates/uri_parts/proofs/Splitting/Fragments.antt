@@ -26,7 +26,7 @@ use Rattle.uri_parts.proofs.Splitting.Recompose.{IsSplitOf-components}
 use Rattle.uri_parts.proofs.Splitting.Splits.{components-recompose}
 use Rattle.uri_pct.proofs.Tests.{each_some}
 
--- what begins with `#` behind a text makes no scheme of it
+-- what begins with `#` after a text makes no scheme of it
 colon_behind : (marks front back tail : List ℕ) → Lacks marks front → Begins marks back
     → Begins marks tail → starts 58 tail ≡ false
     → starts 58 (from_any marks ((front ++ back) ++ tail)) ≡ starts 58 back
@@ -116,7 +116,7 @@ Lacks-before_hash text p split =
     All-append is_other _ _
     (All-append is_other _ _ (All-append is_other _ _ scheme authority) path) query
 
--- what stands before the fragment stands before the first `#`
+-- what is before the fragment is before the first `#`
 before_any-hash : (text : List ℕ) → before_any (codes "#") text ≡ before_hash (components text)
 before_any-hash text =
     let c = components text in
@@ -147,7 +147,7 @@ boundary text before tail e begins =
 pub from_start : (text : List ℕ) (mark : ℕ) → slice_range text 0 mark ≡ take mark text
 from_start text mark = let n : mark - 0 ≡ mark = omega arith in ap (λ n. take n text) n
 
--- for callers: a text up to the place where its fragment begins
+-- for callers: a text up to the position where its fragment begins
 module _ (text : List ℕ) (p : Positions) (at : AreAt text p) (mark : ℕ)
     (here : mark ≡ before_fragment p) where
   mark_at : length (before_hash (components text)) ≡ mark
@@ -172,7 +172,7 @@ module _ (text : List ℕ) (p : Positions) (at : AreAt text p) (mark : ℕ)
   pub stripped : (made : List ℕ) → made ≡ take mark text → IsWithFragment text None made
   stripped made e = is_with_fragment text made None (e ∙ taken ∙ sym (append-nil _))
 
--- a fragment behind a text that has none
+-- a fragment after a text that has none
 pub added : (text kept made fragment : List ℕ) → IsWithFragment text None kept
     → made ≡ kept ++ (35 ∷ fragment) → IsWithFragment text (Some fragment) made
 added text kept made fragment w e =
@@ -183,8 +183,8 @@ added text kept made fragment w e =
     (e ∙ ap (λ t. t ++ (35 ∷ fragment)) front
     ∙ ap (λ t. before ++ (35 ∷ t)) (sym (append-nil fragment)))
 
--- such a text is of the kind where the fragment is valid for it, and its components lie where they
--- lay
+-- such a text is of the kind where the fragment is valid for it, and its components are where they
+-- were
 of_kind : (kind : Kind) (text made : List ℕ) (fragment : Option (List ℕ)) → IsOfKind kind text
     → if_some fragment (is_valid_for kind.fragment) ≡ true → IsWithFragment text fragment made
     → IsOfKind kind made

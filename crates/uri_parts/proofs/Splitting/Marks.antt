@@ -42,7 +42,7 @@ pub fragment-found : (fragment : Option (List ℕ))
 fragment-found None = refl
 fragment-found (Some f) = ap Some (append-nil f)
 
--- the query that is found, and what is left behind it
+-- the query that is found, and what is left after it
 pub query-found : (query fragment : Option (List ℕ)) → IfSome query (λ q. Lacks (codes "#") q) →
     (when (starts 63 (query_text query fragment))
     (before_any (codes "#") (drop 1 (query_text query fragment))) ≡ query)
@@ -63,7 +63,7 @@ query-found (Some q) fragment lacks =
 no_slash : (c : ℕ) → is_one_of (codes "?#") c ≡ true → eqb c 47 ≡ false
 no_slash c h = grind (arith, nat_tests)
 
--- what stands behind a path does not make it begin with `//`
+-- what is after a path does not make it begin with `//`
 pub has_authority-append : (path tail : List ℕ) → Begins (codes "?#") tail
     → has_authority (path ++ tail) ≡ has_authority path
 has_authority-append [] [] begins = refl
@@ -87,7 +87,7 @@ Begins-rooted [] tail rooted begins =
 Begins-rooted (c ∷ path) tail rooted begins =
     ⊎_elim (λ e. absurd (nil_cons c path e)) (λ e. slash_mark c (true_of _ e)) rooted
 
--- the authority that is found, and what is left behind it
+-- the authority that is found, and what is left after it
 pub authority-found : (authority : Option (List ℕ)) (path tail : List ℕ) →
     IfSome authority (λ a. Lacks (codes "/?#") a × IsRooted path)
     → IfNone authority (has_authority path ≡ false) → Begins (codes "?#") tail →
@@ -113,7 +113,7 @@ scheme_first : (s rest : List ℕ) → 0 < length s → Lacks (codes ":/?#") s
 scheme_first [] rest h lacks = absurd (omega arith)
 scheme_first (c ∷ s) rest h lacks = no_colon c (lacks 0 0 (omega arith))
 
--- the scheme that is found, and what is left behind it
+-- the scheme that is found, and what is left after it
 pub scheme-found : (scheme : Option (List ℕ)) (rest : List ℕ) →
     IfSome scheme (λ s. (0 < length s) × Lacks (codes ":/?#") s)
     → IfNone scheme (has_scheme (marked [] scheme (codes ":") ++ rest) ≡ false) →

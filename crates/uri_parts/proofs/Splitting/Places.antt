@@ -19,7 +19,7 @@ use Rattle.uri_parts.proofs.Splitting.Cuts.{Begins, Begins-more}
 use Rattle.uri_parts.proofs.Splitting.Marks.{query_text, fragment_text, Begins-query_text}
 use Rattle.uri_parts.proofs.Splitting.Marks.{Begins-fragment_text, Begins-rooted}
 
--- a text may be cut at both places, and between them lies this component
+-- a text may be cut at both positions, and between them is this component
 pub record LiesAt (text : List ℕ) (start end : ℕ) (part : Option (List ℕ)) : Type 0 where
   pub ordered : start ≤ end
   pub starts : IsCharBoundary text start
@@ -44,7 +44,7 @@ before_mark before (c ∷ rest) begins =
     IsCharBoundary-before_ascii (before ++ (c ∷ rest)) (length before)
     (omega (arith, length-append before (c ∷ rest))) at
 
--- and behind one
+-- and after one
 pub after_mark : (before rest : List ℕ) (c : ℕ) → c < 128 → IsUtf8 (before ++ (c ∷ rest))
     → IsCharBoundary (before ++ (c ∷ rest)) (length before + 1)
 after_mark before rest c ascii utf8 =
@@ -61,7 +61,7 @@ range-between before part behind =
     ∙ ap (take (length part)) (drop-append_seam before (part ++ behind))
     ∙ take-append_seam part behind
 
--- a part with a mark, or nothing, behind it
+-- a part with a mark, or nothing, after it
 LiesAt-between : (text before part behind : List ℕ) (start end : ℕ)
     → text ≡ before ++ (part ++ behind) → start ≡ length before → end ≡ start + length part
     → IsCharBoundary text start → Begins (codes ":/?#") behind → LiesAt text start end (Some part)
@@ -209,7 +209,7 @@ hierarchy-append scheme authority path behind =
     sym (append_assoc (scheme_text scheme) (marked_authority authority) (path ++ behind))
     ∙ sym (append_assoc (scheme_text scheme ++ marked_authority authority) path behind)
 
--- a query behind the end of the path
+-- a query after the end of the path
 query_lies : (text hierarchy q behind : List ℕ)
     → text ≡ hierarchy ++ (marked (codes "?") (Some q) [] ++ behind) → IsUtf8 text
     → Begins (codes "#") behind
@@ -221,7 +221,7 @@ query_lies text hierarchy q behind whole utf8 begins =
     (length hierarchy + 1 + length q) joined refl refl (omega arith) utf8
     (hash_mark behind begins)
 
--- a fragment, behind all else
+-- a fragment, after all else
 fragment_lies : (text before f : List ℕ) → text ≡ before ++ fragment_text (Some f) → IsUtf8 text
     → LiesAt text (length before + 1) (length text) (Some f)
 fragment_lies text before f whole utf8 =
@@ -335,7 +335,7 @@ pub before_hash-append : (text : List ℕ) (p : Components) → IsSplitOf text p
     → text ≡ before_hash p ++ fragment_text p.fragment
 before_hash-append text p split = sym split.whole ∙ recompose-before_hash p
 
--- a text is longer than what stands before its fragment only where it has one
+-- a text is longer than what is before its fragment only where it has one
 pub fragment_there : (text before : List ℕ) (fragment : Option (List ℕ))
     → text ≡ before ++ fragment_text fragment
     → nat_lt (length before) (length text) ≡ is_some fragment

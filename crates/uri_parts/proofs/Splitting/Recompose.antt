@@ -30,7 +30,7 @@ has_authority-cons (a ∷ []) h = absurd (both_ways _ refl (and_parts _ _ h).1)
 has_authority-cons (a ∷ b ∷ text) h = let parts = and_parts _ _ h in
     ap (λ x. x ∷ b ∷ text) (eqb-true a 47 parts.0) ∙ ap (λ x. 47 ∷ x ∷ text) (eqb-true b 47 parts.1)
 
--- the scheme and what is behind it
+-- the scheme and what is after it
 scheme_whole : (text : List ℕ)
     → marked [] (when (has_scheme text) (before_any (codes ":/?#") text)) (codes ":")
     ++ after_scheme text
@@ -79,7 +79,7 @@ fragment_whole (c ∷ text) begins =
     let h : eqb c 35 ≡ true = grind (arith, nat_tests) in
     rw h (ap (λ t. 35 ∷ t) (append-nil text) ∙ ap (λ x. x ∷ text) (sym (eqb-true c 35 h)))
 
--- what is behind a path, and does not begin with `?`, begins with `#`
+-- what is after a path, and does not begin with `?`, begins with `#`
 hash_left : (end : List ℕ) → Begins (codes "?#") end → starts 63 end ≡ false
     → Begins (codes "#") end
 hash_left [] begins h = tt

@@ -1,4 +1,4 @@
--- The kinds keep apart what has to be apart, and their tables stand for their sets.
+-- The kinds keep apart what must be apart, and their tables represent their sets.
 use Rattle.std.proofs.Common.{◌≡◌, ℕ, Bool, true, false, refl, sym, ap, subst, ◌∙◌, arith, ◌||◌}
 use Rattle.std.proofs.Common.{◌&&◌, not, ⊎_elim, List, []}
 use Rattle.std.specs.Prelude.{codes, is_some}

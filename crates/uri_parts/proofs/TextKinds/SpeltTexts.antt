@@ -1,4 +1,4 @@
--- What a text lacks that a set's characters spell, and UTF-8 on both sides of an ASCII character.
+-- What a text that is valid for a set lacks, and UTF-8 on both sides of an ASCII character.
 use Rattle.std.proofs.Common.{◌≡◌, ℕ, ◌<◌, ◌≤◌, true, false, List, ◌∷◌, ◌++◌, length, get_or, drop}
 use Rattle.std.proofs.Common.{length-append, sym, subst, ◌∙◌, arith}
 use Rattle.std.specs.Str.{IsUtf8}
@@ -37,7 +37,7 @@ pub mark_outside : (set : TableSet) (marks : List ℕ) → excludes set marks �
 mark_outside set marks outside c m =
     not-true _ (and_parts _ _ (and_parts _ _ (of_each _ marks outside c m)).1).0
 
--- what a set spells lacks the marks that the set excludes
+-- a text that is valid for a set lacks the marks that the set excludes
 pub valid_lacks : (set : TableSet) (marks : List ℕ) → LacksPercent set → excludes set marks ≡ true
     → (text : List ℕ) → IsUtf8 text → is_valid_for set text ≡ true → Lacks marks text
 valid_lacks set marks lacks outside text u valid =

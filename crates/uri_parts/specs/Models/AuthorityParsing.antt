@@ -45,7 +45,7 @@ unfoldable pub user_length : Kind → List ℕ → ℕ
 user_length kind rest =
     name_length kind rest + more_user kind (drop (name_length kind rest) rest)
 
--- where the host begins: at once if it stands in brackets, and else behind userinfo and its mark
+-- where the host begins: at once if it is in brackets, and else after userinfo and its mark
 unfoldable pub host_place : Kind → List ℕ → ℕ
 host_place kind rest = if starts left_bracket rest then 0 else user_length kind rest + 1
 

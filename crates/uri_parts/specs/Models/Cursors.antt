@@ -1,4 +1,4 @@
--- Where a `Cursor` stands in its text: no RFC has this.
+-- The position of a `Cursor` in its text: no RFC has this.
 use Rattle.std.specs.Prelude.{ℕ, List, drop}
 use Rattle.uri_parts.specs.declared.parse.BeforePath.{BeforePath}
 use Rattle.uri_parts.specs.declared.positions.Positions.{Positions}
@@ -18,7 +18,7 @@ place_of r = r.position
 abbrev pub rest_of : Cursor → List ℕ
 rest_of r = drop r.position r.text.now
 
--- where the components lie, if this stands before a path and the rest of the text is parsed
+-- the positions of the components, if this comes before a path and the rest of the text is parsed
 abbrev pub positions_from : Kind → BeforePath → Cursor → Positions
 positions_from kind before cursor =
     path_positions kind before.scheme_end before.authority before.path_start

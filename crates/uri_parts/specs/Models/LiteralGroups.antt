@@ -1,4 +1,4 @@
--- What the code answers for the groups of an IPv6 address.
+-- What the code returns for the groups of an IPv6 address.
 use Rattle.std.specs.Prelude.{ℕ, List, ⊤}
 use Rattle.std.specs.Str.{IsCharBoundary}
 use Rattle.uri_parts.specs.declared.ip_literal.GroupsEnd.{GroupsEnd}

@@ -1,4 +1,4 @@
--- What the parser takes of an address in brackets, behind the `[`: RFC 3986, section 3.2.2.
+-- What the parser takes of an address in brackets, after the `[`: RFC 3986, section 3.2.2.
 use Rattle.std.specs.Prelude.{◌≡◌, ℕ, ◌+◌, ◌<◌, ◌≤◌, Bool, List, length, take, codes, slice_index}
 use Rattle.std.specs.Char.{digit_value}
 use Rattle.std.specs.Str.Parse.{AllDigits}

@@ -1,4 +1,4 @@
--- Why the parser refuses a text, on the way that it goes: no RFC has this.
+-- Why the parser rejects a text, on the way that it goes: no RFC has this.
 use Rattle.std.specs.Prelude.{ℕ, ◌+◌, ◌&&◌, ◌==◌, nat_lt, List, drop, codes, slice_index, Some}
 use Rattle.std.specs.Prelude.{if◌then◌else◌}
 use Rattle.std.specs.Char.{is_ascii_alphabetic}
@@ -13,18 +13,18 @@ use Rattle.uri_parts.specs.Grammar.{Kind}
 use Rattle.uri_parts.specs.Models.AuthorityParsing.{begins_any, port_length, name_length}
 use Rattle.uri_parts.specs.Models.AuthorityParsing.{finds_name}
 
--- what is left over behind an authority
+-- what is left over after an authority
 unfoldable pub left_over_error : Kind → List ℕ → ℕ → Refusal
 left_over_error kind text i = scan text kind.path i >>= λ _. Some (unexpected i)
 
--- a name and a port end at `start`, and behind them stands what may be userinfo, up to `end`
+-- a name and a port end at `start`, and after them comes what may be userinfo, up to `end`
 unfoldable pub name_error : Kind → List ℕ → ℕ → ℕ → Refusal
 name_error kind text start end =
     if start == end then left_over_error kind text end
     else (if nat_lt (last_colon text end) start then Some (unexpected start)
     else Some (unexpected (last_colon text end)))
 
--- behind a host and its port
+-- after a host and its port
 unfoldable pub ended_error : Kind → List ℕ → ℕ → Refusal
 ended_error kind text i =
     if begins_any (codes "/?#") (drop i text) then from_path kind text i
@@ -38,7 +38,7 @@ host_error kind text i =
     if is_next text left_bracket i then literal text (i + 1) >>= port_error kind text
     else port_error kind text (scan_end text kind.reg_name i)
 
--- behind a name and a port that do not end the authority
+-- after a name and a port that do not end the authority
 unfoldable pub userinfo_error : Kind → List ℕ → ℕ → Refusal
 userinfo_error kind text i =
     if is_next text at_sign i then host_error kind text (i + 1)
@@ -59,7 +59,7 @@ unfoldable pub hier_error : Kind → List ℕ → ℕ → Refusal
 hier_error kind text i =
     if has_authority (drop i text) then authority_error kind text (i + 2) else from_path kind text i
 
--- a text that has no scheme, from behind the characters on that may stand in one
+-- a text that has no scheme, from after the characters on that may be in one
 unfoldable pub schemeless_error : TableSet → Kind → List ℕ → ℕ → Refusal
 schemeless_error segment kind text i =
     if i == 0 && has_authority (drop i text) then authority_error kind text (i + 2)

@@ -10,7 +10,7 @@ use Rattle.uri_parts.specs.declared.positions.Positions.{Positions}
 use Rattle.uri_parts.specs.declared.positions.AuthorityPositions.{AuthorityPositions}
 use Rattle.uri_pct.specs.Delimiters.{colon, question_mark}
 
--- where the query ends that begins at a place
+-- where the query ends that begins at a position
 unfoldable pub query_end_at : Kind → ℕ → List ℕ → Option ℕ
 query_end_at kind place rest =
     if starts question_mark rest then Some (place + 1 + valid_prefix kind.query (drop 1 rest)) else None

@@ -11,8 +11,8 @@ use std::alloc::AllocError;
 use uri_pct::pct_enc::EStr;
 
 impl<K: Kind> Core<K, String> {
-    /// Puts this fragment, or none, in place of its own. Where memory is refused, the text is as it
-    /// was; to take the fragment away no memory is asked for.
+    /// Replaces the fragment by this one, or removes it. If an allocation fails, the text is as it
+    /// was. Removing the fragment allocates nothing.
     pub fn set_fragment(
         &mut self,
         fragment: Option<EStr<'_, K::FragmentE>>,
