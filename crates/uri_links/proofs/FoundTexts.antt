@@ -22,7 +22,7 @@ use Rattle.uri_links.proofs.GrownTrees.{no_child, length_grown, new_child, old_c
 
 -- a search ends at a node that has no child on that side
 module _ (nodes : List Node) (texts : List (List ℕ)) (text : List ℕ) (follow : ChildrenFollow nodes) where
-  pub ends_free : (steps id depth parent : ℕ) (right : Bool) → id < length nodes
+  ends_free : (steps id depth parent : ℕ) (right : Bool) → id < length nodes
       → length nodes ≤ id + steps
       → search_from steps nodes texts text id depth ≡ Missing parent right
       → (parent < length nodes) × (child (node_at nodes parent) right ≡ 0)
@@ -68,7 +68,7 @@ module _ (nodes : List Node) (hash parent : ℕ) (right : Bool) (texts : List (L
   text_last = ap (λ n. get_or texts_after n []) many ∙ get_or-append_seam texts text [] []
 
   -- a search that ended at a node ends there
-  pub kept : (other : List ℕ) (steps id depth at : ℕ) → id < length nodes
+  kept : (other : List ℕ) (steps id depth at : ℕ) → id < length nodes
       → search_from steps nodes texts other id depth ≡ Found at
       → search_from (suc steps) after texts_after other id depth ≡ Found at
   unfolding search_from
@@ -98,7 +98,7 @@ module _ (nodes : List Node) (hash parent : ℕ) (right : Bool) (texts : List (L
       ]) refl
 
   -- a search that ended where the new node is ends at the new node
-  pub joined : (steps id depth : ℕ) → id < length nodes → length nodes ≤ id + steps
+  joined : (steps id depth : ℕ) → id < length nodes → length nodes ≤ id + steps
       → search_from steps nodes texts text id depth ≡ Missing parent right
       → search_from (suc steps) after texts_after text id depth ≡ Found (length nodes)
   unfolding search_from
@@ -140,7 +140,7 @@ module _ (nodes : List Node) (hash parent : ℕ) (right : Bool) (texts : List (L
       ]) refl
 
   -- each text is found
-  pub finds_each : FindsEach nodes texts → search nodes texts text ≡ Missing parent right
+  finds_each : FindsEach nodes texts → search nodes texts text ≡ Missing parent right
       → FindsEach after texts_after
   finds_each finds e id l =
       let more : length after ≡ suc (length nodes) = length_grown nodes hash parent right

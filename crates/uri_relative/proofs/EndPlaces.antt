@@ -87,25 +87,6 @@ without_scheme t p at e =
     at ∙ sym (ap (λ s. let c : Components = record t { scheme = s } in positions_of c)
     (unschemed t.scheme (sym e ∙ ap (λ (q : Positions). q.scheme_end) at)))
 
--- the places are not before the end of the scheme
-pub path_from : (t : Components) (p : Positions) (n : ℕ) → p ≡ positions_of t
-    → n ≡ marked_length 1 t.scheme → (n ≤ p.path_start) × (n ≤ p.path_end)
-path_from t p n at m = (
-  omega (arith, m, ap (λ (q : Positions). q.path_start) at),
-  omega (arith, m, ap (λ (q : Positions). q.path_end) at),
-)
-
-pub query_from : (t : Components) (p : Positions) (n : ℕ) → p ≡ positions_of t
-    → n ≡ marked_length 1 t.scheme → IfSome p.query_end (λ q. n ≤ q)
-query_from t p n at m =
-    subst (λ o. IfSome o (λ q. n ≤ q)) (sym (ap (λ (q : Positions). q.query_end) at))
-    (some_from t.query)
-  where
-    some_from : (query : Option (List ℕ))
-        → IfSome (option_map (λ q. (positions_of t).path_end + 1 + length q) query) (λ q. n ≤ q)
-    some_from None = tt
-    some_from (Some q) = omega (arith, m)
-
 pub after_scheme_at : (t : Components) (p : Positions) (n : ℕ)
     (authority : Option AuthorityPositions) (start end : ℕ) (query : Option ℕ)
     → p ≡ positions_of t → n ≡ marked_length 1 t.scheme

@@ -147,7 +147,7 @@ unfolding slashed
 no_double c s tail e = (or_parts (eqb c 47) (has_slash s) e).0
 
 -- what is left of a path that begins with one `/`
-unfoldable pub Shrinks : List ℕ → Type 0
+unfoldable Shrinks : List ℕ → Type 0
 Shrinks path = has_authority path ≡ false → has_authority (remove_dot_segments path) ≡ true
     → length (remove_dot_segments path) + 2 ≤ length path
 
