@@ -67,10 +67,8 @@ held_at : (takes : List ℕ → Bool) (o : Option ℕ) (rest : List ℕ)
 held_at takes None rest e = absurd (false≢true e)
 held_at takes (Some n) rest e = (n, refl, e)
 
-module _ (a : Draft) (whole : a.failed ≡ false) where
-  abbrev rest : List ℕ
-  rest = behind_part 1 a.lengths.scheme (string_bytes a.text)
-
+module _ (a : Draft) (x new : List ℕ) (g : Bool) (kept : g ≡ false → a.failed ≡ false) (m n : ℕ)
+    (before_len : m ≡ length (string_bytes a.text)) (after_len : n ≡ length new) where
   abbrev text : List ℕ
   text = string_bytes a.text
 
