@@ -51,12 +51,20 @@ tells stderr 'error: line 2: unexpected character at index 1'
 is stop 1 'x:\na b\ny:\n' 'x:\n' normalize uri --errors=stop
 tells stop 'error: line 2: unexpected character at index 1'
 is too-long 1 'x:345\nx:3456\nx:\n' 'x:345\nerror: line over 5 bytes\nx:\n' normalize uri --max-line 5
+is too-long-return 1 'x:3456\r\nx:345\r\n' 'error: line over 5 bytes\r\nx:345\r\n' normalize uri --max-line 5
 is null 1 'HTTP://h\0x:a\nb' 'http://h\0error: unexpected character at index 3\0' normalize uri -0
 is resolve 0 '../g\n?y' 'http://a/b/g\nhttp://a/b/c/d;p?y\n' resolve uri 'http://a/b/c/d;p?q'
 is resolve-iri 1 'é\na b\n' 'http://a/é\nerror: reference: unexpected character at index 1\n' resolve iri http://a
 is check 0 'x:\na\ny:\n' 'x:\ny:\n' check uri
 is invert 0 'x:\na\ny:\n' 'a\n' check --invert uri
 is parse 0 'x://h/p\n' '{"scheme":"x","authority":"h","host":"h","host_kind":"reg-name","path":"/p"}\n' parse uri
+is unique 1 'HTTP://h\nx:\nhttp://h:80\na b\nX:\n' 'http://h\nx:\nerror: unexpected character at index 1\n' unique uri
+is unique-null 0 'x:%%41\0x:A\0x:a' 'x:A\0x:a\0' unique -0 uri-ref
+is links 1 'c\nd\n./%%63\na b\n' 'new 0 http://a/c\nnew 1 http://a/d\nknown 0 http://a/c\nerror: reference: unexpected character at index 1\n' links http://a/b
+is links-base 2 '' '' links b
+tells links-base 'error: base: unexpected character at index 1'
+is progress 1 'x:\na\n' 'x:\nerror: unexpected character at index 1\n' normalize uri --progress
+holds progress-says "$(sed 's/errors, .*/errors/' "$work/err")" '2 lines, 1 errors'
 is no-command 2 '' ''
 is no-kind 2 '' '' normalize
 is wrong-kind 2 '' '' normalize url
@@ -124,6 +132,22 @@ with concurrent.futures.ThreadPoolExecutor() as pool:
                 differ += 1
                 if differ <= 5:
                     print(f"urilines {' '.join(words)}: {text!r}: {answer!r}, and uritool {want!r}", file=sys.stderr)
+# What was met counts through a run: `links` is that of one `uritool`, and `unique` the normal forms
+# without those that came before.
+texts = [it for it in (varied(draw.choice(urls)) for _ in range(400)) if "\n" not in it]
+ran = subprocess.run([lines, "links", urls[0]], input="".join(it + "\n" for it in texts).encode(), capture_output=True)
+links = ran.stdout.decode().split("\n")[:-1]
+good = [it for it, line in zip(texts, links, strict=True) if not line.startswith("error: reference")]
+wanted = by_tool(["links", urls[0], *good[:-1]], good[-1]).replace("refused ", "error: ")
+if "".join(it + "\n" for it in links if not it.startswith("error: reference")) != wanted:
+    print("urilines: links differs from uritool", file=sys.stderr)
+    differ += 1
+for kind in ("uri", "iri-ref"):
+    both = [subprocess.run([lines, "--errors=drop", it, kind], input="\n".join(texts * 2).encode(), capture_output=True)
+            for it in ("normalize", "unique")]
+    if list(dict.fromkeys(both[0].stdout.split(b"\n"))) != both[1].stdout.split(b"\n"):
+        print(f"urilines: unique {kind} is not the normal forms, each once", file=sys.stderr)
+        differ += 1
 if differ:
     print(f"urilines: {differ} of 10,000 lines differ from uritool", file=sys.stderr)
 sys.exit(differ > 0)

@@ -1,20 +1,23 @@
 //! The tests.
 use fluent_uri::Uri;
 use std::alloc::{AllocError, Global};
+use std::hash::RandomState;
 use std::io::{self, BufReader, ErrorKind, Read, Write};
 use std::process::Abort;
 use test_support::equal;
-use uri_streams::command::{Base, Command, KindName};
+use uri_streams::command::{Base, Command, KindName, LineCommand};
 use uri_streams::failure::Failure;
 use uri_streams::job::{Job, OnError};
-use uri_streams::run::{Tally, run};
+use uri_streams::run::{Tally, Unwatched, run};
+use uri_streams::sink::Sink;
+use uri_streams::source::Source;
 
 const CAPACITY: usize = 64;
 
 /// The command, with the options that are there where none is given.
-fn plain(command: Command<'_>) -> Job<'_> {
+fn plain(command: LineCommand<'_>) -> Job<'_> {
     Job {
-        command,
+        command: Command::Each(command),
         is_null: false,
         max_line: 40,
         errors: OnError::Line,
@@ -27,20 +30,34 @@ fn written<R: Read + Drop>(
     job: &Job<'_>,
     input: R,
 ) -> Result<(Tally, Vec<u8>), Failure> {
-    let mut reader = BufReader::with_capacity(alloc, CAPACITY, input).map_err(Failure::Input)?;
-    let mut out = Vec::new(alloc);
-    let mut err = Vec::new(alloc);
-    let tally = run(alloc, job, &mut reader, &mut out, &mut err)?;
-    Ok((tally, out))
+    let reader = BufReader::with_capacity(alloc, CAPACITY, input).map_err(Failure::Input)?;
+    let mut out = Sink::new(Vec::new(alloc));
+    let mut err = Sink::new(Vec::new(alloc));
+    let tally = run(
+        alloc,
+        job,
+        &mut Source::new(reader),
+        &mut out,
+        &mut err,
+        &mut Unwatched,
+    )?;
+    Ok((tally, out.into_inner()))
 }
 
 /// The same, with the error output.
 fn told(alloc: Global, job: &Job<'_>, input: &[u8]) -> Result<(Vec<u8>, Vec<u8>), Failure> {
-    let mut reader = BufReader::with_capacity(alloc, CAPACITY, input).map_err(Failure::Input)?;
-    let mut out = Vec::new(alloc);
-    let mut err = Vec::new(alloc);
-    run(alloc, job, &mut reader, &mut out, &mut err)?;
-    Ok((out, err))
+    let reader = BufReader::with_capacity(alloc, CAPACITY, input).map_err(Failure::Input)?;
+    let mut out = Sink::new(Vec::new(alloc));
+    let mut err = Sink::new(Vec::new(alloc));
+    run(
+        alloc,
+        job,
+        &mut Source::new(reader),
+        &mut out,
+        &mut err,
+        &mut Unwatched,
+    )?;
+    Ok((out.into_inner(), err.into_inner()))
 }
 
 /// An input is a sequence of three of these.
@@ -66,7 +83,7 @@ fn input(alloc: Global, number: usize) -> Result<Vec<u8>, AllocError> {
 #[test]
 fn reads_may_end_anywhere(rt: HostRuntime) {
     let alloc = rt.alloc();
-    let job = plain(Command::Normalize(KindName::Uri));
+    let job = plain(LineCommand::Normalize(KindName::Uri));
     for number in 0..216 {
         let input = input(alloc, number).expect(&rt, "memory");
         let bytes = input.as_slice();
@@ -96,14 +113,14 @@ const NORMALIZED: &[(&[u8], &[u8])] = &[
     ),
     (
         b"x:34567890123456789012345678901234567890\r\nx:345678901234567890123456789012345678901\r\n\n",
-        b"x:34567890123456789012345678901234567890\r\nerror: line over 40 bytes\nerror: unexpected character at index 0\n",
+        b"x:34567890123456789012345678901234567890\r\nerror: line over 40 bytes\r\nerror: unexpected character at index 0\n",
     ),
 ];
 
 #[test]
 fn writes_a_line_for_each(rt: HostRuntime) {
     let alloc = rt.alloc();
-    let job = plain(Command::Normalize(KindName::Uri));
+    let job = plain(LineCommand::Normalize(KindName::Uri));
     for &(input, output) in NORMALIZED {
         let got = written(alloc, &job, input).ok().expect(&rt, "run");
         equal(got.1.as_slice(), output).expect(&rt, "output");
@@ -114,7 +131,7 @@ fn writes_a_line_for_each(rt: HostRuntime) {
 fn each_command_and_option_has_its_output(rt: HostRuntime) {
     let alloc = rt.alloc();
     let base = Uri::<&str>::parse("http://a/b/c/d;p?q").expect(&rt, "base");
-    let resolve = plain(Command::Resolve(Base::Uri(base)));
+    let resolve = plain(LineCommand::Resolve(Base::Uri(base)));
     let got = told(alloc, &resolve, b"../g\r\na b\n")
         .ok()
         .expect(&rt, "run");
@@ -123,11 +140,11 @@ fn each_command_and_option_has_its_output(rt: HostRuntime) {
         b"http://a/b/g\r\nerror: reference: unexpected character at index 1\n".as_slice(),
     )
     .expect(&rt, "resolve");
-    let mut check = plain(Command::Check(KindName::UriRef, true));
+    let mut check = plain(LineCommand::Check(KindName::UriRef, true));
     check.is_null = true;
     let got = told(alloc, &check, b"a\0a b\0c").ok().expect(&rt, "run");
     equal(got.0.as_slice(), b"a b\0".as_slice()).expect(&rt, "check");
-    let mut parse = plain(Command::Parse(KindName::Iri));
+    let mut parse = plain(LineCommand::Parse(KindName::Iri));
     parse.errors = OnError::Stop;
     let got = told(alloc, &parse, "x://u@[::1]:8/é?q#f\na b\ny:\n".as_bytes());
     let got = got.ok().expect(&rt, "run");
@@ -141,6 +158,67 @@ fn each_command_and_option_has_its_output(rt: HostRuntime) {
         b"error: line 2: unexpected character at index 1\n".as_slice(),
     )
     .expect(&rt, "message");
+}
+
+#[test]
+fn what_was_met_counts(rt: HostRuntime) {
+    let alloc = rt.alloc();
+    let hasher = RandomState::new(&rt).expect(&rt, "random numbers");
+    let mut job = plain(LineCommand::Parse(KindName::Uri));
+    job.command = Command::Unique(KindName::Uri, hasher);
+    let got = told(alloc, &job, b"HTTP://h\r\nx:\nhttp://h:80\na b\nX:\n");
+    let got = got.ok().expect(&rt, "run");
+    equal(
+        got.0.as_slice(),
+        b"http://h\r\nx:\nerror: unexpected character at index 1\n".as_slice(),
+    )
+    .expect(&rt, "unique");
+    let base = Uri::<&str>::parse("http://a/b").expect(&rt, "base");
+    job.command = Command::Links(base);
+    let got = told(alloc, &job, b"c\nd\n./%63\na b\n")
+        .ok()
+        .expect(&rt, "run");
+    equal(
+        got.0.as_slice(),
+        b"new 0 http://a/c\nnew 1 http://a/d\nknown 0 http://a/c\nerror: reference: unexpected character at index 1\n".as_slice(),
+    )
+    .expect(&rt, "links");
+}
+
+/// A run that may be denied memory writes a prefix of its output.
+#[test]
+fn denied_memory_leaves_a_prefix(rt: HostRuntime) {
+    let alloc = rt.alloc();
+    let hasher = RandomState::new(&rt).expect(&rt, "random numbers");
+    let mut job = plain(LineCommand::Parse(KindName::Uri));
+    job.command = Command::Unique(KindName::Uri, hasher);
+    let input: &[u8] = b"HTTP://h\nx:\na b\nhttp://h:80\ny:\n";
+    let output: &[u8] = b"http://h\nx:\nerror: unexpected character at index 1\ny:\n";
+    let Ok(reader) = BufReader::with_capacity(alloc, CAPACITY, input) else {
+        return;
+    };
+    let mut room = [0u8; 80];
+    let mut out = Sink::new(room.as_mut_slice());
+    let mut err = Sink::new(Vec::new(alloc));
+    let got = run(
+        alloc,
+        &job,
+        &mut Source::new(reader),
+        &mut out,
+        &mut err,
+        &mut Unwatched,
+    );
+    let left = out.into_inner().len();
+    match got {
+        Ok(tally) => {
+            equal(tally.lines, 5).expect(&rt, "lines");
+            equal(80 - left, output.len()).expect(&rt, "whole");
+        }
+        Err(failure) => {
+            equal(matches!(failure, Failure::OutOfMemory), true).expect(&rt, "failure");
+            equal(80 - left < output.len(), true).expect(&rt, "prefix");
+        }
+    }
 }
 
 /// Takes so many writes, and rejects those after them.
@@ -174,21 +252,30 @@ impl Read for Fails {
 #[test]
 fn a_failed_read_and_a_failed_write_end_the_run(rt: HostRuntime) {
     let alloc = rt.alloc();
-    let job = plain(Command::Normalize(KindName::Uri));
+    let job = plain(LineCommand::Normalize(KindName::Uri));
     let input: &[u8] = b"HTTP://a/\nHTTP://b/\nx";
     for at in 0..input.len() {
         let reader = BufReader::with_capacity(alloc, CAPACITY, input[..at].chain(Fails));
-        let mut reader = reader.expect(&rt, "memory");
-        let (mut out, mut err) = (Vec::new(alloc), Vec::new(alloc));
-        let got = run(alloc, &job, &mut reader, &mut out, &mut err);
+        let mut reader = Source::new(reader.expect(&rt, "memory"));
+        let (mut out, mut err) = (Sink::new(Vec::new(alloc)), Sink::new(Vec::new(alloc)));
+        let got = run(alloc, &job, &mut reader, &mut out, &mut err, &mut Unwatched);
         equal(matches!(got, Err(Failure::Input(_))), true).expect(&rt, "read");
+        equal(reader.has_failed(), true).expect(&rt, "reader");
         let whole = input[..at].iter().filter(|&&byte| byte == b'\n').count();
-        equal(out.len(), 10 * whole).expect(&rt, "lines before it");
+        equal(out.into_inner().len(), 10 * whole).expect(&rt, "lines before it");
     }
     for takes in 0..4 {
-        let mut reader = BufReader::with_capacity(alloc, CAPACITY, input).expect(&rt, "memory");
-        let (mut out, mut err) = (Takes(takes), Vec::new(alloc));
-        let got = run(alloc, &job, &mut reader, &mut out, &mut err);
+        let reader = BufReader::with_capacity(alloc, CAPACITY, input).expect(&rt, "memory");
+        let (mut out, mut err) = (Sink::new(Takes(takes)), Sink::new(Vec::new(alloc)));
+        let got = run(
+            alloc,
+            &job,
+            &mut Source::new(reader),
+            &mut out,
+            &mut err,
+            &mut Unwatched,
+        );
         equal(matches!(got, Err(Failure::Output(_))), true).expect(&rt, "write");
+        equal(out.has_failed(), true).expect(&rt, "writer");
     }
 }

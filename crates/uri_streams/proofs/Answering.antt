@@ -8,11 +8,10 @@ use Rattle.fluent_uri.specs.declared.ParseError.{ParseError}
 use Rattle.fluent_uri.specs.Normalizers.{IsNormalForm}
 use Rattle.fluent_uri.specs.SchemePorts.{default_port}
 use Rattle.fluent_uri.specs.Resolving.{IsRefusalFor}
-use Rattle.fluent_uri.specs.Target.{Refusal, BaseWithFragment, InvalidReferenceAgainstOpaqueBase}
-use Rattle.fluent_uri.specs.Target.{resolution_of, resolution_of_texts}
+use Rattle.fluent_uri.specs.Target.{resolution_of_texts}
 use Rattle.fluent_uri.specs.declared.resolve.ResolveError.{ResolveError}
 use Rattle.fluent_uri.specs.declared.resolve.ResolveError.TheVariants as errors
-use Rattle.std.specs.Prelude.{IfOk, if◌then◌else◌, not, unwrap_or, option_map}
+use Rattle.std.specs.Prelude.{IfOk, if◌then◌else◌, unwrap_or, option_map}
 use Rattle.uri_commands.specs.Messages.{error_text, resolve_error_text}
 use Rattle.uri_streams.specs.Answers.{Answer, Text, Error, normal_form_of, normalize_answer}
 use Rattle.uri_streams.specs.Answers.{parse_answer, parse_message, resolve_answer}
@@ -25,7 +24,6 @@ use Rattle.uri_streams.specs.declared.answers.Answer.{Answer as Returned}
 use Rattle.uri_streams.specs.declared.answers.Answer.TheVariants as returned
 use Rattle.uri_streams.specs.declared.fault.Fault.TheVariants.{Refused}
 use Rattle.uri_commands.specs.declared.refusal.Refusal.TheVariants.{Target}
-use Rattle.uri_streams.specs.declared.failure.Failure.{Failure}
 
 normal_form_is : (kind : Kind) (text normal : List ℕ)
     → IsNormalForm kind default_port text normal → normal ≡ normal_form_of kind text
@@ -41,7 +39,7 @@ normal_is kind text normal of_kind is =
     ∙ sym (ap (λ b. if b then Text (normal_form_of kind text) else Error (parse_message kind text))
     of_kind)
 
-message_is : (kind : Kind) (text : List ℕ) (e : ParseError) → refusal kind text ≡ Some e
+pub message_is : (kind : Kind) (text : List ℕ) (e : ParseError) → refusal kind text ≡ Some e
     → error_text e ≡ parse_message kind text
 message_is kind text e is = sym (ap (λ o. unwrap_or (option_map error_text o) []) is)
 
@@ -108,8 +106,8 @@ no_target_is base reference errors.InvalidReferenceAgainstOpaqueBase is some =
 no_target_is base reference errors.PathUnderflow is some = absurd is
 no_target_is base reference errors.OutOfMemory is some = absurd (some refl)
 
-pub no_target_answer : (base reference : List ℕ) (e : ResolveError)
-    (result : Result Returned Failure) → IsRefusalFor (components base) (components reference) e
+pub no_target_answer : {E : Type 0} (base reference : List ℕ) (e : ResolveError)
+    (result : Result Returned E) → IsRefusalFor (components base) (components reference) e
     → IfOk result (λ answer. answer ≡ returned.Error (Refused (Target e)))
     → IfOk result (λ answer. e ≢ errors.OutOfMemory)
     → IfOk result (λ answer. answer_in answer ≡ target_answer base reference)
@@ -118,8 +116,8 @@ no_target_answer base reference e (Ok answer) is error some =
 no_target_answer base reference e (Err failure) is error some = tt
 
 -- the same for a base of either kind
-pub reference_answer : (base : Base) (base_is : List ℕ) (kind : Kind) (text reference : List ℕ)
-    (result : Result Returned Failure) → base_text base ≡ base_is → reference_kind base ≡ kind
+pub reference_answer : {E : Type 0} (base : Base) (base_is : List ℕ) (kind : Kind)
+    (text reference : List ℕ) (result : Result Returned E) → base_text base ≡ base_is → reference_kind base ≡ kind
     → IsOfKind kind text → reference ≡ text
     → IfOk result (λ answer. answer_in answer ≡ target_answer base_is reference)
     → IfOk result (λ answer. answer_in answer ≡ resolve_answer (reference_kind base) (base_text

@@ -1,5 +1,10 @@
 pub mod Answering
 pub mod Cuts
+pub mod Failures
 pub mod LineAnswers
 pub mod Parts
+pub mod Returns
+pub mod Steps
 pub mod Streams
+pub mod Tasks
+pub mod Uniques

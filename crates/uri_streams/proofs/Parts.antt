@@ -1,13 +1,14 @@
 -- What is kept of parts of a line that are read one after the other.
-use Rattle.std.proofs.Common.{◌≡◌, ◌<◌, ◌≤◌, ◌+◌, ◌-◌, ℕ, Bool, true, false, List, [], ◌++◌, Option}
-use Rattle.std.proofs.Common.{Some, None, IfSome, length, length-append, take, min, ap, arith, refl}
-use Rattle.std.proofs.Common.{sym, ◌∙◌, subst, append_assoc, take-take, take_all, length-take-le}
+use Rattle.std.proofs.Common.{◌≡◌, ◌<◌, ◌≤◌, ◌+◌, ◌-◌, ℕ, Bool, true, false, List, ◌++◌, Option}
+use Rattle.std.proofs.Common.{Some, None, IfSome, length, take, min, ap, arith, refl}
+use Rattle.std.proofs.Common.{sym, ◌∙◌, take-take, take_all, length-take-le}
 use Rattle.std.proofs.Common.{ltb-true, ltb-false}
-use Rattle.std.specs.Prelude.{nat_lt}
+use Rattle.std.specs.Prelude.{nat_lt, OnErr, Result, Ok, Err}
 use Rattle.std.specs.Io.BufRead.{take_through, DropsThrough}
 use Rattle.std.proofs.BufReadLemmas.{take_through_nonempty}
 use Rattle.std.proofs.lemmas.List.{take-append-le, length-take, append-nil}
 use Rattle.std.proofs.Math.Seq.{take-append-add}
+use Rattle.uri_streams.specs.Lines.{ends_with_return}
 use Rattle.uri_streams.specs.Runs.{TakesLine}
 
 -- as much of a front as there is room for
@@ -48,10 +49,20 @@ take_more_parts limit done part old new was is = at (nat_lt limit (length done))
         ∙ sym (take-append-add done part (limit - length old))
         ∙ ap (λ n. take n (done ++ part)) (sym room)
 
-pub line_taken : (end limit : ℕ) (a c : Option (List ℕ)) (all line : List ℕ)
+pub line_taken : (end limit : ℕ) (a c : Option (List ℕ)) (all line : List ℕ) (is_return : Bool)
     → IfSome a (λ xs. all ≡ take_through end xs) → DropsThrough a c end → 0 < length all
-    → line ≡ take limit all → TakesLine a c end limit line
-line_taken end limit None c all line whole rest some kept = tt
-line_taken end limit (Some xs) c all line whole rest some kept =
-    let longer : 0 < length (take_through end xs) = omega (arith, some, ap length whole) in
-    (take_through_nonempty end xs longer, kept ∙ ap (take limit) whole, rest)
+    → line ≡ take limit all → is_return ≡ ends_with_return end all
+    → TakesLine a c end limit line is_return
+line_taken end limit None c all line is_return whole rest some kept is = tt
+line_taken end limit (Some xs) c all line is_return whole rest some kept is =
+    let longer : 0 < length (take_through end xs) = omega (arith, some, ap length whole) in (
+      take_through_nonempty end xs longer,
+      kept ∙ ap (take limit) whole,
+      rest,
+      is ∙ ap (ends_with_return end) whole,
+    )
+
+-- what holds after an error
+pub on-err : {T E : Type 0} (result : Result T E) (P : Type 0) → P → OnErr result P
+on-err (Ok value) P p = tt
+on-err (Err error) P p = p

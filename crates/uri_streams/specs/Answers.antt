@@ -1,8 +1,6 @@
--- What a command answers for the text of a line.
+-- What a command answers for the text of a line, whatever the other lines are.
 use Rattle.std.specs.Prelude.{ℕ, List, [], ◌++◌, codes, Bool, not, Result, Ok, Err, unwrap_or}
-use Rattle.std.specs.Prelude.{decimal, nat_lt, option_map, if◌then◌else◌, length}
-use Rattle.std.specs.Str.{is_utf8}
-use Rattle.std.specs.Str.Lossy.{utf8_valid_len}
+use Rattle.std.specs.Prelude.{option_map, if◌then◌else◌}
 use Rattle.fluent_uri.specs.Components.{components}
 use Rattle.fluent_uri.specs.Grammar.{Kind, uri, uri_ref, iri, iri_ref, is_of_kind}
 use Rattle.fluent_uri.specs.Iris.{iri_text}
@@ -18,8 +16,9 @@ use Rattle.uri_commands.specs.Messages.{error_text, resolve_error_text}
 use Rattle.uri_streams.specs.Json.{json_of}
 use Rattle.uri_streams.specs.declared.command.Base.{Base}
 use Rattle.uri_streams.specs.declared.command.Base.TheVariants as bases
-use Rattle.uri_streams.specs.declared.command.Command.{Command}
-use Rattle.uri_streams.specs.declared.command.Command.TheVariants.{Normalize, Resolve, Check, Parse}
+use Rattle.uri_streams.specs.declared.command.LineCommand.{LineCommand}
+use Rattle.uri_streams.specs.declared.command.LineCommand.TheVariants.{Normalize, Resolve, Check}
+use Rattle.uri_streams.specs.declared.command.LineCommand.TheVariants.{Parse}
 use Rattle.uri_streams.specs.declared.command.KindName.{KindName}
 use Rattle.uri_streams.specs.declared.command.KindName.TheVariants as kinds
 
@@ -87,19 +86,8 @@ parse_answer kind text =
     if is_of_kind kind text then Text (json_of (components text))
     else Error (parse_message kind text)
 
-abbrev pub command_answer : Command → List ℕ → Answer
+abbrev pub command_answer : LineCommand → List ℕ → Answer
 command_answer (Normalize kind) text = normalize_answer (kind_named kind) text
 command_answer (Resolve base) text = resolve_answer (reference_kind base) (base_text base) text
 command_answer (Check kind is_inverted) text = check_answer (kind_named kind) is_inverted text
 command_answer (Parse kind) text = parse_answer (kind_named kind) text
-
--- what is said of a line whose text has more bytes than this
-abbrev pub long_message : ℕ → List ℕ
-long_message max_line = codes "line over " ++ decimal max_line ++ codes " bytes"
-
--- A line whose text is longer than the maximum, or not UTF-8, is an error under each command.
-abbrev pub answer_of : Command → ℕ → List ℕ → Answer
-answer_of command max_line text =
-    if nat_lt max_line (length text) then Error (long_message max_line)
-    else (if is_utf8 text then command_answer command text
-    else Error (codes "not UTF-8 at index " ++ decimal (utf8_valid_len text)))

@@ -1,6 +1,8 @@
+pub mod Causes
 pub mod Lines
 pub mod Json
 pub mod Answers
+pub mod Tasks
 pub mod Outputs
 pub mod Returned
 pub mod Runs
@@ -15,3 +17,6 @@ pub use Rattle.fluent_uri.specs.Resolving
 pub use Rattle.fluent_uri.specs.SchemePorts
 pub use Rattle.fluent_uri.specs.Target
 pub use Rattle.uri_commands.specs.Messages
+pub use Rattle.uri_commands.specs.Links
+pub use Rattle.uri_links.specs.Outcomes
+pub use Rattle.uri_links.specs.Registers

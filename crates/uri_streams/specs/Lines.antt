@@ -1,5 +1,6 @@
 -- The lines of an input, and the text of a line.
-use Rattle.std.specs.Prelude.{ℕ, List, [], ◌∷◌, Bool, not, ◌&&◌, ◌==◌, if◌then◌else◌}
+use Rattle.std.specs.Prelude.{ℕ, List, [], ◌∷◌, Bool, not, ◌&&◌, ◌==◌, length, nat_lt}
+use Rattle.std.specs.Prelude.{if◌then◌else◌}
 use Rattle.std.specs.Io.BufRead.{ends_with_byte, strip_last}
 
 -- the byte that ends a line: a newline, or NUL
@@ -17,10 +18,19 @@ lines_of end [] = []
 lines_of end (x ∷ xs) =
     if x == end then (x ∷ []) ∷ lines_of end xs else onto_first x (lines_of end xs)
 
+-- the byte ends the line, and a `\r` is before it
+abbrev pub ends_with_return : ℕ → List ℕ → Bool
+ends_with_return end line = ends_with_byte end line && ends_with_byte 13 (strip_last end line)
+
+-- whether a `\r` is last before the end of a part of a line, or was before it
+abbrev pub return_after : ℕ → Bool → List ℕ → Bool
+return_after end was part =
+    let bytes = strip_last end part in
+    if nat_lt 0 (length bytes) then ends_with_byte 13 bytes else was
+
 -- a newline ends the line, and a `\r` is before it
 abbrev pub has_return : Bool → List ℕ → Bool
-has_return is_null line =
-    not is_null && (ends_with_byte 10 line && ends_with_byte 13 (strip_last 10 line))
+has_return is_null line = not is_null && ends_with_return 10 line
 
 -- the line without what ends it
 abbrev pub line_text : Bool → List ℕ → List ℕ

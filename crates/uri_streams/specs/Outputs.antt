@@ -1,22 +1,61 @@
 -- What is written for an input: one line for each of its lines, unless that has no answer.
-use Rattle.std.specs.Prelude.{ℕ, List, [], ◌∷◌, ◌++◌, codes, Bool, true, false, not, ◌&&◌, ◌||◌}
-use Rattle.std.specs.Prelude.{nat_lt, length, if◌then◌else◌}
-use Rattle.uri_streams.specs.Answers.{Answer, Text, NoLine, Error, answer_of}
+use Rattle.std.specs.Prelude.{ℕ, ◌+◌, List, [], ◌∷◌, ◌++◌, codes, Bool, true, false, ◌&&◌}
+use Rattle.std.specs.Prelude.{decimal, if◌then◌else◌}
+use Rattle.std.specs.List.{count_by, flat_map}
+use Rattle.uri_streams.specs.Answers.{Answer, Text, NoLine, Error}
 use Rattle.uri_streams.specs.Lines.{end_byte, has_return, line_text, lines_of}
+use Rattle.uri_streams.specs.Tasks.{Known, answer_of}
 use Rattle.uri_streams.specs.declared.job.Job.{Job}
 use Rattle.uri_streams.specs.declared.job.OnError.{OnError}
 use Rattle.uri_streams.specs.declared.job.OnError.TheVariants as errors
 
-abbrev pub line_answer : Job → List ℕ → Answer
-line_answer job line = answer_of job.command job.max_line (line_text job.is_null line)
+-- the answer to a line, and what is known after it
+abbrev pub line_answer : Job → Known → List ℕ → Answer × Known
+line_answer job known line =
+    answer_of job.command job.max_line known (line_text job.is_null line)
 
--- What ends the answer: what ended the line. The last line may have no end, and its answer has one.
--- The answer to a line that is too long has no `\r`.
+-- what ends the answer: what ended the line, or would have ended the last one
+abbrev pub end_of : Bool → Bool → List ℕ
+end_of is_null is_return = if is_return then codes "\r\n" else end_byte is_null ∷ []
+
 abbrev pub answer_end : Job → List ℕ → List ℕ
-answer_end job line =
-    if has_return job.is_null line
-    && not (nat_lt job.max_line (length (line_text job.is_null line)))
-    then codes "\r\n" else end_byte job.is_null ∷ []
+answer_end job line = end_of job.is_null (has_return job.is_null line)
+
+abbrev pub is_error : Answer → Bool
+is_error (Error message) = true
+is_error answer = false
+
+abbrev pub is_stop : OnError → Bool
+is_stop errors.Stop = true
+is_stop mode = false
+
+-- a line that was answered
+pub record Answered : Type 0 where
+  -- from 1
+  pub number : ℕ
+  -- what ends its answer
+  pub end : List ℕ
+  pub answer : Answer
+
+-- the line of this number, after lines that left this known
+abbrev pub answered : Job → ℕ → Known → List ℕ → Answered
+answered job number known line = record {
+  number = number;
+  end = answer_end job line;
+  answer = (line_answer job known line).0;
+}
+
+-- the run ends with this line
+abbrev pub is_last : Job → Answered → Bool
+is_last job line = is_error line.answer && is_stop job.errors
+
+-- the lines that are answered: under `stop` none after the first error
+unfoldable pub answered_lines : Job → ℕ → Known → List (List ℕ) → List Answered
+answered_lines job before known [] = []
+answered_lines job before known (line ∷ lines) =
+    answered job (before + 1) known line
+    ∷ (if is_last job (answered job (before + 1) known line) then []
+    else answered_lines job (before + 1) (line_answer job known line).1 lines)
 
 -- an error in place of an answer
 abbrev pub error_output : OnError → List ℕ → List ℕ → List ℕ
@@ -30,37 +69,38 @@ answer_output mode end (Text text) = text ++ end
 answer_output mode end NoLine = []
 answer_output mode end (Error message) = error_output mode message end
 
-abbrev pub is_error : Answer → Bool
-is_error (Error message) = true
-is_error answer = false
+-- the line of the error output that says which line is an error, and why
+abbrev pub message_line : ℕ → List ℕ → List ℕ
+message_line number message =
+    codes "error: line " ++ decimal number ++ codes ": " ++ message ++ codes "\n"
 
-abbrev pub is_stop : OnError → Bool
-is_stop errors.Stop = true
-is_stop mode = false
+abbrev pub error_message : OnError → ℕ → List ℕ → List ℕ
+error_message errors.Line number message = []
+error_message errors.Drop number message = []
+error_message errors.Stderr number message = message_line number message
+error_message errors.Stop number message = message_line number message
 
--- what is written for a line
-unfoldable pub line_output : Job → List ℕ → List ℕ
-line_output job line = answer_output job.errors (answer_end job line) (line_answer job line)
+abbrev pub answer_message : OnError → ℕ → Answer → List ℕ
+answer_message mode number (Text text) = []
+answer_message mode number NoLine = []
+answer_message mode number (Error message) = error_message mode number message
 
--- whether a line is an error
-unfoldable pub is_error_line : Job → List ℕ → Bool
-is_error_line job line = is_error (line_answer job line)
+-- what is written for a line, and what goes to the error output
+abbrev pub line_output : Job → Answered → List ℕ
+line_output job line = answer_output job.errors line.end line.answer
 
--- what is written for lines: under `stop` nothing more after the first error
-abbrev pub output_of_lines : Job → List (List ℕ) → List ℕ
-output_of_lines job [] = []
-output_of_lines job (line ∷ lines) =
-    line_output job line ++ (if is_error_line job line && is_stop job.errors then []
-    else output_of_lines job lines)
+abbrev pub line_message : Job → Answered → List ℕ
+line_message job line = answer_message job.errors line.number line.answer
 
--- whether one of the lines is an error
-abbrev pub have_error : Job → List (List ℕ) → Bool
-have_error job [] = false
-have_error job (line ∷ lines) = is_error_line job line || have_error job lines
+abbrev pub output_of : Job → List Answered → List ℕ
+output_of job lines = flat_map (line_output job) lines
 
--- what is written for an input
-abbrev pub output_of : Job → List ℕ → List ℕ
-output_of job input = output_of_lines job (lines_of (end_byte job.is_null) input)
+abbrev pub messages_of : Job → List Answered → List ℕ
+messages_of job lines = flat_map (line_message job) lines
 
-abbrev pub has_error : Job → List ℕ → Bool
-has_error job input = have_error job (lines_of (end_byte job.is_null) input)
+abbrev pub error_count : List Answered → ℕ
+error_count lines = count_by (λ line. is_error line.answer) lines
+
+-- the lines of an input that are answered
+abbrev pub answers_of : Job → List ℕ → List Answered
+answers_of job input = answered_lines job 0 [] (lines_of (end_byte job.is_null) input)

@@ -1,24 +1,24 @@
-//! The answer to the text of a line.
+//! The answer to the text of a line, whatever the other lines are.
 ghost use Rattle.std.specs.Prelude.{◌≡◌, ◌↔◌, IfErr, IfOk, IsOk, Some, ◌≢◌};
 ghost use Rattle.fluent_uri.specs.Grammar as test;
 ghost use Rattle.fluent_uri.specs.Grammar.{IsOfKind};
 ghost use Rattle.fluent_uri.specs.Iris.{iri_ref_text, iri_text};
 ghost use Rattle.fluent_uri.specs.Refusals.{refusal};
 ghost use Rattle.fluent_uri.specs.Uris.{uri_ref_text, uri_text};
-ghost use Rattle.uri_streams.specs.Answers.{answer_of, base_text, check_answer, command_answer};
+ghost use Rattle.uri_streams.specs.Answers as answers;
+ghost use Rattle.uri_streams.specs.Answers.{base_text, check_answer};
 ghost use Rattle.uri_streams.specs.Answers.{is_kept};
 ghost use Rattle.uri_streams.specs.Answers.{kind_named, normalize_answer, parse_answer};
 ghost use Rattle.uri_streams.specs.Answers.{reference_kind};
 ghost use Rattle.uri_streams.specs.Answers.{resolve_answer, target_answer};
 ghost use Rattle.uri_streams.specs.Returned.{answer_in};
 
-use crate::command::{Base, Command, KindName};
-use crate::failure::Failure;
+use crate::command::{Base, KindName, LineCommand};
 use crate::fault::Fault;
 use crate::json::json;
 use fluent_uri::resolve::ResolveError;
 use fluent_uri::{Iri, IriRef, ParseError, Uri, UriRef};
-use std::alloc::Global;
+use std::alloc::{AllocError, Global};
 use uri_commands::refusal::Refusal;
 
 /// The answer to a line.
@@ -32,41 +32,27 @@ pub(crate) enum Answer {
     Error(Fault),
 }
 
-/// Returns the answer to the bytes of a line, which need not be UTF-8.
+/// Returns the answer to a text under a command that does the same with each.
 ///
 /// # Errors
 ///
 /// Only if memory is refused.
-pub(crate) fn answer_to(
+pub(crate) fn command_answer(
     alloc: Global,
-    command: &Command<'_>,
-    max_line: u32,
-    bytes: &[u8],
-) -> Result<Answer, Failure>
-    ensures { IfOk result (λ answer.
-        answer_in answer ≡ answer_of command.now max_line bytes.now) }
+    command: LineCommand<'_>,
+    text: &str,
+) -> Result<Answer, AllocError>
+    ensures { IfOk result (λ answer. answer_in answer ≡ answers.command_answer command.entry text.now) }
 {
-    if bytes.len() > max_line as usize {
-        return Ok(Answer::Error(Fault::TooLong(max_line)));
-    }
-    match str::from_utf8(bytes) {
-        Ok(text) => text_answer(alloc, command, text),
-        Err(error) => Ok(Answer::Error(Fault::NotUtf8(error.valid_up_to()))),
+    match command {
+        LineCommand::Normalize(kind) => normalize(alloc, kind, text),
+        LineCommand::Resolve(base) => resolve(alloc, base, text),
+        LineCommand::Check(kind, is_inverted) => check(alloc, kind, is_inverted, text),
+        LineCommand::Parse(kind) => parse(alloc, kind, text),
     }
 }
 
-fn text_answer(alloc: Global, command: &Command<'_>, text: &str) -> Result<Answer, Failure>
-    ensures { IfOk result (λ answer. answer_in answer ≡ command_answer command.now text.now) }
-{
-    match *command {
-        Command::Normalize(kind) => normalize(alloc, kind, text),
-        Command::Resolve(base) => resolve(alloc, base, text),
-        Command::Check(kind, is_inverted) => check(alloc, kind, is_inverted, text),
-        Command::Parse(kind) => parse(alloc, kind, text),
-    }
-}
-
-fn normalize(alloc: Global, kind: KindName, text: &str) -> Result<Answer, Failure>
+pub(crate) fn normalize(alloc: Global, kind: KindName, text: &str) -> Result<Answer, AllocError>
     ensures { IfOk result (λ answer.
         answer_in answer ≡ normalize_answer (kind_named kind) text.now) }
 {
@@ -78,7 +64,7 @@ fn normalize(alloc: Global, kind: KindName, text: &str) -> Result<Answer, Failur
     }
 }
 
-fn normalize_uri(alloc: Global, text: &str) -> Result<Answer, Failure>
+fn normalize_uri(alloc: Global, text: &str) -> Result<Answer, AllocError>
     ensures { IfOk result (λ answer. answer_in answer ≡ normalize_answer test.uri text.now) }
 {
     match Uri::<&str>::parse(text) {
@@ -87,7 +73,7 @@ fn normalize_uri(alloc: Global, text: &str) -> Result<Answer, Failure>
     }
 }
 
-fn normalize_uri_ref(alloc: Global, text: &str) -> Result<Answer, Failure>
+fn normalize_uri_ref(alloc: Global, text: &str) -> Result<Answer, AllocError>
     ensures { IfOk result (λ answer. answer_in answer ≡ normalize_answer test.uri_ref text.now) }
 {
     match UriRef::<&str>::parse(text) {
@@ -96,7 +82,7 @@ fn normalize_uri_ref(alloc: Global, text: &str) -> Result<Answer, Failure>
     }
 }
 
-fn normalize_iri(alloc: Global, text: &str) -> Result<Answer, Failure>
+fn normalize_iri(alloc: Global, text: &str) -> Result<Answer, AllocError>
     ensures { IfOk result (λ answer. answer_in answer ≡ normalize_answer test.iri text.now) }
 {
     match Iri::<&str>::parse(text) {
@@ -105,7 +91,7 @@ fn normalize_iri(alloc: Global, text: &str) -> Result<Answer, Failure>
     }
 }
 
-fn normalize_iri_ref(alloc: Global, text: &str) -> Result<Answer, Failure>
+fn normalize_iri_ref(alloc: Global, text: &str) -> Result<Answer, AllocError>
     ensures { IfOk result (λ answer. answer_in answer ≡ normalize_answer test.iri_ref text.now) }
 {
     match IriRef::<&str>::parse(text) {
@@ -120,7 +106,7 @@ fn not_of_kind(error: ParseError) -> Answer
     Answer::Error(Fault::Refused(Refusal::Text(error)))
 }
 
-fn resolve(alloc: Global, base: Base<'_>, text: &str) -> Result<Answer, Failure>
+fn resolve(alloc: Global, base: Base<'_>, text: &str) -> Result<Answer, AllocError>
     ensures { IfOk result (λ answer. answer_in answer
         ≡ resolve_answer (reference_kind base.entry) (base_text base.entry) text.now) }
 {
@@ -142,7 +128,11 @@ fn not_a_reference(error: ParseError) -> Answer
     Answer::Error(Fault::Refused(Refusal::Reference(error)))
 }
 
-fn resolve_uri(alloc: Global, base: Uri<&str>, reference: UriRef<&str>) -> Result<Answer, Failure>
+fn resolve_uri(
+    alloc: Global,
+    base: Uri<&str>,
+    reference: UriRef<&str>,
+) -> Result<Answer, AllocError>
     ensures { IfOk result (λ answer. answer_in answer
         ≡ target_answer (uri_text base.entry) (uri_ref_text reference.entry)) }
 {
@@ -152,7 +142,11 @@ fn resolve_uri(alloc: Global, base: Uri<&str>, reference: UriRef<&str>) -> Resul
     }
 }
 
-fn resolve_iri(alloc: Global, base: Iri<&str>, reference: IriRef<&str>) -> Result<Answer, Failure>
+fn resolve_iri(
+    alloc: Global,
+    base: Iri<&str>,
+    reference: IriRef<&str>,
+) -> Result<Answer, AllocError>
     ensures { IfOk result (λ answer. answer_in answer
         ≡ target_answer (iri_text base.entry) (iri_ref_text reference.entry)) }
 {
@@ -162,18 +156,18 @@ fn resolve_iri(alloc: Global, base: Iri<&str>, reference: IriRef<&str>) -> Resul
     }
 }
 
-fn without_target(error: ResolveError) -> Result<Answer, Failure>
+fn without_target(error: ResolveError) -> Result<Answer, AllocError>
     ensures answer { IfOk result (λ answer.
         answer ≡ Answer.Error (Fault.Refused (Refusal.Target error))) }
     ensures memory { IfOk result (λ _. error ≢ ResolveError.OutOfMemory) }
 {
     match error {
-        ResolveError::OutOfMemory => Err(Failure::OutOfMemory),
+        ResolveError::OutOfMemory => Err(AllocError),
         error => Ok(Answer::Error(Fault::Refused(Refusal::Target(error)))),
     }
 }
 
-fn check(alloc: Global, kind: KindName, is_inverted: bool, text: &str) -> Result<Answer, Failure>
+fn check(alloc: Global, kind: KindName, is_inverted: bool, text: &str) -> Result<Answer, AllocError>
     ensures { IfOk result (λ answer.
         answer_in answer ≡ check_answer (kind_named kind) is_inverted text.now) }
 {
@@ -200,7 +194,7 @@ fn is_of_kind(kind: KindName, text: &str) -> bool
     }
 }
 
-fn parse(alloc: Global, kind: KindName, text: &str) -> Result<Answer, Failure>
+fn parse(alloc: Global, kind: KindName, text: &str) -> Result<Answer, AllocError>
     ensures { IfOk result (λ answer. answer_in answer ≡ parse_answer (kind_named kind) text.now) }
 {
     match parsed(kind, text) {

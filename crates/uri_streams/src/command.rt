@@ -1,6 +1,7 @@
 //! What is done with the text of a line.
 
 use fluent_uri::{Iri, Uri};
+use std::hash::RandomState;
 
 /// A kind, by its name on the command line.
 #[derive(Clone, Copy)]
@@ -24,9 +25,9 @@ pub enum Base<'a> {
     Iri(Iri<&'a str>),
 }
 
-/// What is done with the text of a line.
+/// What is done with the text of each line, whatever the other lines are.
 #[derive(Clone, Copy)]
-pub enum Command<'a> {
+pub enum LineCommand<'a> {
     /// `normalize KIND`: its normal form takes its place.
     Normalize(KindName),
     /// `resolve uri|iri BASE`: its target against the base takes its place.
@@ -36,4 +37,17 @@ pub enum Command<'a> {
     Check(KindName, bool),
     /// `parse KIND`: a line of JSON that has its components takes its place.
     Parse(KindName),
+}
+
+/// What is done with the lines.
+#[derive(Clone, Copy)]
+pub enum Command<'a> {
+    /// The same with each line.
+    Each(LineCommand<'a>),
+    /// `unique KIND`: its normal form takes its place the first time that its meaning comes. The
+    /// normal forms that were met are kept, hashed with these keys.
+    Unique(KindName, RandomState),
+    /// `links BASE`: the id of its target against the base takes its place, with whether it is new,
+    /// and the target. The targets that were met are kept.
+    Links(Uri<&'a str>),
 }

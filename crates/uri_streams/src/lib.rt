@@ -8,4 +8,8 @@ mod fault;
 pub mod job;
 mod json;
 mod lines;
+mod met;
 pub mod run;
+pub mod sink;
+pub mod source;
+mod task;

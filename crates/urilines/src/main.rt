@@ -1,17 +1,23 @@
 //! Each line of standard input as a URI, an IRI or a reference: `urilines normalize KIND`,
-//! `urilines resolve uri|iri BASE`, `urilines check KIND` and `urilines parse KIND`.
+//! `urilines resolve uri|iri BASE`, `urilines check KIND`, `urilines parse KIND`, `urilines unique
+//! KIND` and `urilines links BASE`.
 #![tactic(auto)]
 
 mod options;
+mod progress;
 
-use options::{command, job};
+use options::{command, job, shows_progress};
+use progress::Progress;
 use std::alloc::Global;
 use std::env;
+use std::hash::RandomState;
 use std::io::{self, BufReader, BufWriter, ErrorKind};
 use std::process::ExitCode;
 use uri_streams::failure::Failure;
 use uri_streams::job::Job;
 use uri_streams::run::run;
+use uri_streams::sink::Sink;
+use uri_streams::source::Source;
 
 /// Of each buffer.
 const CAPACITY: usize = 64 * 1024;
@@ -35,8 +41,11 @@ fn main(rt: HostRuntime) -> ExitCode {
             };
         }
     };
-    match job(&matches) {
-        Ok(job) => answer(&rt, alloc, &job),
+    let Ok(hasher) = RandomState::new(&rt) else {
+        return failed(&rt, "no random numbers");
+    };
+    match job(&matches, hasher) {
+        Ok(job) => answer(&rt, alloc, &job, shows_progress(&matches)),
         Err(refusal) => {
             let _ = eprintln!(rt; "error: {refusal}");
             ExitCode::from(2)
@@ -45,16 +54,32 @@ fn main(rt: HostRuntime) -> ExitCode {
 }
 
 /// Answers the lines of standard input.
-fn answer(rt: &HostRuntime, alloc: Global, job: &Job<'_>) -> ExitCode {
-    let Ok(mut reader) = BufReader::with_capacity(alloc, CAPACITY, rt.stdin()) else {
+fn answer(rt: &HostRuntime, alloc: Global, job: &Job<'_>, shows_progress: bool) -> ExitCode {
+    let Ok(reader) = BufReader::with_capacity(alloc, CAPACITY, rt.stdin()) else {
         return failed(rt, "out of memory");
     };
-    let Ok(mut writer) = BufWriter::with_capacity(alloc, CAPACITY, rt.stdout()) else {
+    let Ok(writer) = BufWriter::with_capacity(alloc, CAPACITY, rt.stdout()) else {
         return failed(rt, "out of memory");
     };
-    match run(alloc, job, &mut reader, &mut writer, &mut rt.stderr()) {
-        Ok(tally) if tally.errors > 0 => ExitCode::from(1),
-        Ok(_) => ExitCode::SUCCESS,
+    let (mut reader, mut writer) = (Source::new(reader), Sink::new(writer));
+    let mut err = Sink::new(rt.stderr());
+    let mut progress = Progress::new(rt, shows_progress);
+    match run(
+        alloc,
+        job,
+        &mut reader,
+        &mut writer,
+        &mut err,
+        &mut progress,
+    ) {
+        Ok(tally) => {
+            progress.end(tally);
+            if tally.errors > 0 {
+                ExitCode::from(1)
+            } else {
+                ExitCode::SUCCESS
+            }
+        }
         Err(Failure::Output(error)) if error.kind() == ErrorKind::BrokenPipe => ExitCode::SUCCESS,
         Err(Failure::Output(_)) => failed(rt, "output failed"),
         Err(Failure::Input(_)) => failed(rt, "input failed"),

@@ -3,8 +3,9 @@
 use clap::{Arg, ArgAction, ArgMatches, Command as Words, value_parser};
 use fluent_uri::{Iri, Uri};
 use std::alloc::{AllocError, Global};
+use std::hash::RandomState;
 use uri_commands::refusal::Refusal;
-use uri_streams::command::{Base, Command, KindName};
+use uri_streams::command::{Base, Command, KindName, LineCommand};
 use uri_streams::job::{Job, OnError};
 
 static KINDS: [&str; 4] = ["uri", "uri-ref", "iri", "iri-ref"];
@@ -29,7 +30,8 @@ fn with_options<'a>(alloc: Global, words: Words<'a>) -> Result<Words<'a>, AllocE
     words
         .arg(null(alloc))?
         .arg(errors(alloc))?
-        .arg(max_line(alloc))
+        .arg(max_line(alloc))?
+        .arg(progress(alloc))
 }
 
 fn with_commands<'a>(alloc: Global, words: Words<'a>) -> Result<Words<'a>, AllocError> {
@@ -37,7 +39,9 @@ fn with_commands<'a>(alloc: Global, words: Words<'a>) -> Result<Words<'a>, Alloc
         .subcommand(normalize(alloc)?)?
         .subcommand(resolve(alloc)?)?
         .subcommand(check(alloc)?)?
-        .subcommand(parse(alloc)?)
+        .subcommand(parse(alloc)?)?
+        .subcommand(unique(alloc)?)?
+        .subcommand(links(alloc)?)
 }
 
 fn normalize<'a>(alloc: Global) -> Result<Words<'a>, AllocError> {
@@ -64,6 +68,18 @@ fn parse<'a>(alloc: Global) -> Result<Words<'a>, AllocError> {
     Words::new(alloc, "parse")
         .about("Write the components of each line as an object of JSON")
         .arg(kind(alloc))
+}
+
+fn unique<'a>(alloc: Global) -> Result<Words<'a>, AllocError> {
+    Words::new(alloc, "unique")
+        .about("Write the normal form of each line the first time that its meaning comes")
+        .arg(kind(alloc))
+}
+
+fn links<'a>(alloc: Global) -> Result<Words<'a>, AllocError> {
+    Words::new(alloc, "links")
+        .about("Write whether the target of each line is new, its id and itself")
+        .arg(base_text(alloc))
 }
 
 fn null<'a>(alloc: Global) -> Arg<'a> {
@@ -93,6 +109,14 @@ fn max_line<'a>(alloc: Global) -> Arg<'a> {
         .default_value("1048576")
         .global(true)
         .help("A longer line is an error")
+}
+
+fn progress<'a>(alloc: Global) -> Arg<'a> {
+    Arg::new(alloc, "progress")
+        .long("progress")
+        .action(ArgAction::SetTrue)
+        .global(true)
+        .help("Say on the error output how far the run is, once a second")
 }
 
 fn invert<'a>(alloc: Global) -> Arg<'a> {
@@ -125,22 +149,32 @@ fn kind<'a>(alloc: Global) -> Arg<'a> {
         .help("What a line is")
 }
 
-/// Returns what the words ask for.
+/// Returns whether the words ask for the progress.
+pub fn shows_progress(matches: &ArgMatches<'_>) -> bool {
+    match matches.subcommand() {
+        Some((_, words)) => words.get_flag("progress"),
+        None => matches.get_flag("progress"),
+    }
+}
+
+/// Returns what the words ask for. `hasher` is for the texts that `unique` keeps.
 ///
 /// # Errors
 ///
 /// `Base` if the base is not of its kind.
-pub fn job<'a>(matches: &ArgMatches<'a>) -> Result<Job<'a>, Refusal> {
+pub fn job<'a>(matches: &ArgMatches<'a>, hasher: RandomState) -> Result<Job<'a>, Refusal> {
     let (name, words) = match matches.subcommand() {
         Some((name, words)) => (name, words),
         None => ("", matches),
     };
     let kind = kind_named(words.get_str("kind").unwrap_or("iri-ref"));
     let command = match name {
-        "resolve" => Command::Resolve(base(words)?),
-        "check" => Command::Check(kind, words.get_flag("invert")),
-        "parse" => Command::Parse(kind),
-        _ => Command::Normalize(kind),
+        "unique" => Command::Unique(kind, hasher),
+        "links" => Command::Links(uri_base(words)?),
+        "resolve" => Command::Each(LineCommand::Resolve(base(words)?)),
+        "check" => Command::Each(LineCommand::Check(kind, words.get_flag("invert"))),
+        "parse" => Command::Each(LineCommand::Parse(kind)),
+        _ => Command::Each(LineCommand::Normalize(kind)),
     };
     Ok(Job {
         command,
@@ -155,6 +189,11 @@ pub fn job<'a>(matches: &ArgMatches<'a>) -> Result<Job<'a>, Refusal> {
     })
 }
 
+fn uri_base<'a>(words: &ArgMatches<'a>) -> Result<Uri<&'a str>, Refusal> {
+    let text = words.get_str("base").unwrap_or("");
+    Uri::<&str>::parse(text).map_err(Refusal::Base)
+}
+
 fn kind_named(word: &str) -> KindName {
     match word {
         "uri" => KindName::Uri,
@@ -165,9 +204,11 @@ fn kind_named(word: &str) -> KindName {
 }
 
 fn base<'a>(words: &ArgMatches<'a>) -> Result<Base<'a>, Refusal> {
-    let text = words.get_str("base").unwrap_or("");
     Ok(match words.get_str("kind").unwrap_or("uri") {
-        "iri" => Base::Iri(Iri::<&str>::parse(text).map_err(Refusal::Base)?),
-        _ => Base::Uri(Uri::<&str>::parse(text).map_err(Refusal::Base)?),
+        "iri" => {
+            let text = words.get_str("base").unwrap_or("");
+            Base::Iri(Iri::<&str>::parse(text).map_err(Refusal::Base)?)
+        }
+        _ => Base::Uri(uri_base(words)?),
     })
 }

@@ -1,12 +1,15 @@
-use Rattle.std.proofs.Common.{◌≡◌, ◌≢◌, ◌<◌, ◌++◌, [], All, length, length-append, take, refl, sym}
-use Rattle.std.proofs.Common.{ap, subst, ◌∙◌, rules, arith, true, false, true≢false, ◌≤◌, ltb-true}
-use Rattle.std.proofs.Common.{ltb-false}
+use Rattle.std.proofs.Common.{◌≢◌, ◌++◌, [], length-append, refl, sym}
+use Rattle.std.proofs.Common.{ap, ◌∙◌, rules, arith, true≢false}
+use Rattle.std.specs.Prelude.{◌&&◌, nat_lt}
 use Rattle.std.proofs.Math.Seq.{take-nil}
-use Rattle.std.proofs.KnownBytes.{Consumes-nil, Consumes-trans, Keeps-refl, Keeps-trans}
+use Rattle.std.proofs.KnownBytes.{Consumes-nil, Consumes-kept, Consumes-trans, Keeps-refl}
+use Rattle.std.proofs.KnownBytes.{Keeps-trans}
 use Rattle.std.proofs.BufReadLemmas.{Consumes_through, IsAtEnd-of_take_through}
 use Rattle.std.proofs.lemmas.List.Elements.{All-nil, All-append}
 use Rattle.std.specs.Io.Buffered.{reader_remaining}
-use Rattle.uri_streams.proofs.Parts.{line_taken, take_more_parts}
+use Rattle.uri_streams.proofs.Parts.{line_taken, on-err, take_more_parts}
+use Rattle.uri_streams.proofs.Returns.{return-more, return-last}
+use Rattle.uri_streams.specs.Lines.{return_after}
 use Rattle.uri_streams.proofs.lines.read_line.Goals as goal
 
 pub loop-init : goal.loop-init
@@ -14,45 +17,108 @@ loop-init g c = (
   [],
   c.clear.ensures.items ∙ sym (take-nil c.args.limit),
   All-nil (λ x. x ≢ c.args.end),
-  Consumes-nil (reader_remaining g.R.Read.remaining c.args.reader.now),
+  Consumes-nil (reader_remaining g.R.Read.remaining c.args.reader.now.reader),
   refl,
-  Keeps-refl (g.W.Write.contents c.args.writer.now),
+  Keeps-refl (g.W.Write.contents c.args.writer.now.writer),
+  refl,
+  refl,
+  refl,
 )
 
 pub loop-preserved : goal.loop-preserved
 loop-preserved g c =
-    let (done, kept, none, read, counted, held) = c.loop.invariant in
-    let (part, long, more, stops, read', none', ends, end) = c.in_ok-taken.ensures.taken in (
-      done ++ part,
-      take_more_parts c.args.limit done part c.loop.line.items c.take_part.new.line.items kept more,
-      All-append (λ x. x ≢ c.args.end) done part none (none' (λ e. true≢false (sym e ∙
-          c.if-is_done.false))),
+    let (done, kept, none, read, counted, held, was, reading, writing) = c.loop.invariant in
+    let (bs, long, more, stops, read', none', ends, end, is) = c.in_ok-part.ensures.taken in
+    let lacks = none' (λ e. true≢false (sym e ∙ c.if-part.false)) in (
+      done ++ bs,
+      take_more_parts c.args.limit done bs c.loop.line.items c.take_part.new.line.items kept more,
+      All-append (λ x. x ≢ c.args.end) done bs none lacks,
       Consumes-trans _ _ _ _ _ read read',
-      omega (arith, length-append done part, c.saturating_add-count.ensures),
-      Keeps-trans _ _ _ held c.in_ok-flush_before_read.ensures,
+      omega (arith, length-append done bs, c.saturating_add-count.ensures, long),
+      Keeps-trans _ _ _ held c.in_ok-flush_before_read.ensures.keeps,
+      is ∙ return-more c.args.end c.loop.is_return done bs was lacks,
+      search rules,
+      search rules,
     )
 
-pub returns-then-is_done : goal.returns-then-is_done
-returns-then-is_done g c =
-    let (done, kept, none, read, counted, held) = c.loop.invariant in
-    let (part, long, more, stops, read', none', ends, end) = c.in_ok-taken.ensures.taken in
-    let all = Consumes_through c.args.end _ _ _ done part read none read' stops (ends
-    c.if-is_done.true) (end c.if-is_done.true) in
-    let line = take_more_parts c.args.limit done part c.loop.line.items c.take_part.new.line.items
+pub returns-in_err-flush_before_read-clause-stopped :
+    goal.returns-in_err-flush_before_read-clause-stopped
+returns-in_err-flush_before_read-clause-stopped g c =
+    let (done, kept, none, read, counted, held, was, reading, writing) = c.loop.invariant in
+    on-err c.from_residual.result _ (done, read, none)
+
+pub returns-in_err-part-clause-stopped : goal.returns-in_err-part-clause-stopped
+returns-in_err-part-clause-stopped g c =
+    let (done, kept, none, read, counted, held, was, reading, writing) = c.loop.invariant in
+    on-err c.from_residual-in_err-part.result _
+    (done, Consumes-kept _ _ _ done read c.in_err-part.ensures.kept, none)
+
+pub returns-then-count-eq0-clause-end : goal.returns-then-count-eq0-clause-end
+returns-then-count-eq0-clause-end g c = λ _.
+    let (done, kept, none, read, counted, held, was, reading, writing) = c.loop.invariant in
+    let (bs, long, more, stops, read', none', ends, end, is) = c.in_ok-part.ensures.taken in
+    let all = Consumes_through c.args.end _ _ _ done bs read none read' stops (ends
+    c.if-part.true) (end c.if-part.true) in
+    IsAtEnd-of_take_through c.args.end (reader_remaining g.R.Read.remaining
+    c.args.reader.now.reader) [] (done ++ bs) all.0
+    (omega (
+      arith,
+      length-append done bs,
+      c.saturating_add-count.ensures,
+      c.if-count-eq0.true,
+      long,
+      counted,
+    ))
+
+pub returns-then-is_return-clause-line : goal.returns-then-is_return-clause-line
+returns-then-is_return-clause-line g c =
+    let (done, kept, none, read, counted, held, was, reading, writing) = c.loop.invariant in
+    let (bs, long, more, stops, read', none', ends, end, is) = c.in_ok-part.ensures.taken in
+    let all = Consumes_through c.args.end _ _ _ done bs read none read' stops (ends
+    c.if-part.true) (end c.if-part.true) in
+    let line = take_more_parts c.args.limit done bs c.loop.line.items c.take_part.new.line.items
     kept more in
-    record {
-      line = λ is. line_taken c.args.end c.args.limit _ _ (done ++ part) _ all.0 all.1
-          (let some : 0 < c.saturating_add-count.result = ltb-true _ _ is in omega (
-            arith,
-            length-append done part,
-            c.saturating_add-count.ensures,
-          )) line;
-      end = λ is. IsAtEnd-of_take_through c.args.end (reader_remaining g.R.Read.remaining
-          c.args.reader.now) [] (done ++ part) all.0
-          (let none : c.saturating_add-count.result ≤ 0 = ltb-false _ _ is in omega (
-            arith,
-            length-append done part,
-            c.saturating_add-count.ensures,
-          ));
-      keeps = Keeps-trans _ _ _ held c.in_ok-flush_before_read.ensures;
-    }
+    line_taken c.args.end c.args.limit _ _ (done ++ bs) _ _ all.0 all.1
+    (omega (
+      arith,
+      length-append done bs,
+      c.saturating_add-count.ensures,
+      c.if-count-eq0.false,
+      long,
+      counted,
+    )) line
+    (ap (λ b. b && nat_lt 0 c.in_ok-part.part.count) (sym c.if-is_return.true)
+    ∙ ap (λ b. b && nat_lt 0 c.in_ok-part.part.count) is
+    ∙ ap (λ n. return_after c.args.end c.loop.is_return bs && nat_lt 0 n) (sym long)
+    ∙ return-last c.args.end c.loop.is_return done bs was none (ends c.if-part.true))
+
+pub returns-then-is_return-clause-keeps : goal.returns-then-is_return-clause-keeps
+returns-then-is_return-clause-keeps g c =
+    Keeps-trans _ _ _ c.loop.invariant.5 c.in_ok-flush_before_read.ensures.keeps
+
+pub returns-else-is_return-clause-line : goal.returns-else-is_return-clause-line
+returns-else-is_return-clause-line g c =
+    let (done, kept, none, read, counted, held, was, reading, writing) = c.loop.invariant in
+    let (bs, long, more, stops, read', none', ends, end, is) = c.in_ok-part.ensures.taken in
+    let all = Consumes_through c.args.end _ _ _ done bs read none read' stops (ends
+    c.if-part.true) (end c.if-part.true) in
+    let line = take_more_parts c.args.limit done bs c.loop.line.items c.take_part.new.line.items
+    kept more in
+    line_taken c.args.end c.args.limit _ _ (done ++ bs) _ _ all.0 all.1
+    (omega (
+      arith,
+      length-append done bs,
+      c.saturating_add-count.ensures,
+      c.if-count-eq0.false,
+      long,
+      counted,
+    )) line
+    (c.if-is_return.false
+    ∙ ap (λ b. b && nat_lt 0 c.in_ok-part.part.count) (sym c.if-is_return.false)
+    ∙ ap (λ b. b && nat_lt 0 c.in_ok-part.part.count) is
+    ∙ ap (λ n. return_after c.args.end c.loop.is_return bs && nat_lt 0 n) (sym long)
+    ∙ return-last c.args.end c.loop.is_return done bs was none (ends c.if-part.true))
+
+pub returns-else-is_return-clause-keeps : goal.returns-else-is_return-clause-keeps
+returns-else-is_return-clause-keeps g c =
+    Keeps-trans _ _ _ c.loop.invariant.5 c.in_ok-flush_before_read.ensures.keeps

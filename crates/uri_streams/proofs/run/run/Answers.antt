@@ -1,32 +1,89 @@
-use Rattle.std.proofs.Common.{nat_lt}
+use Rattle.std.proofs.Common.{arith, refl, subst, sym, ◌∙◌}
+use Rattle.fluent_uri.proofs.Outcomes.{refused_with}
 use Rattle.std.specs.Io.Buffered.{reader_remaining}
-use Rattle.uri_streams.proofs.Streams.{SoFar-start, SoFar-step, SoFar-last, Answers-kept}
+use Rattle.uri_streams.specs.Runs.{Stops}
+use Rattle.uri_streams.proofs.Failures.{Answers-stop, SoFar-fails, SoFar-stops}
+use Rattle.uri_streams.proofs.Streams.{Answers-kept, SoFar-last, SoFar-start, SoFar-step}
 use Rattle.uri_streams.proofs.run.run.Goals as goal
 
 pub loop-number-init : goal.loop-number-init
-loop-number-init g c =
-    SoFar-start c.args.job.now (reader_remaining g.R.Read.remaining c.args.reader.now)
-    (g.W.Write.contents c.args.writer.now)
+loop-number-init g c = (
+  SoFar-start c.args.job.now c.new-task.result
+      (reader_remaining g.R.Read.remaining c.args.reader.now.reader)
+      (g.W.Write.contents c.args.writer.now.writer) _ c.new-task.ensures refl refl,
+  refl,
+  refl,
+)
 
 pub loop-number-preserved : goal.loop-number-preserved
-loop-number-preserved g c =
-    SoFar-step c.args.job.now (reader_remaining g.R.Read.remaining c.args.reader.now)
-    (reader_remaining g.R.Read.remaining c.loop-number.reader)
-    (reader_remaining g.R.Read.remaining c.answer_line.new.reader)
-    (g.W.Write.contents c.args.writer.now) (g.W.Write.contents c.loop-number.writer)
-    (g.W.Write.contents c.answer_line.new.writer) (nat_lt 0 c.loop-number.tally.errors)
-    (nat_lt 0 c.count.new.self.errors) c.in_ok-step.step c.loop-number.invariant
-    c.in_ok-step.ensures c.if-step.false c.count.ensures
+loop-number-preserved g c = (
+  SoFar-step c.args.job.now c.loop-number.number c.loop-number.task c.answer_line.new.task
+      (reader_remaining g.R.Read.remaining c.args.reader.now.reader)
+      (reader_remaining g.R.Read.remaining c.loop-number.reader.reader)
+      (reader_remaining g.R.Read.remaining c.answer_line.new.reader.reader)
+      (g.W.Write.contents c.args.writer.now.writer) (g.W.Write.contents c.loop-number.writer.writer)
+      (g.W.Write.contents c.answer_line.new.writer.writer) c.loop-number.tally c.count.new.self
+      c.in_ok-step.step (omega (arith, c.loop-number-test.true)) c.count.ensures.lines
+      c.count.ensures.errors c.loop-number.invariant.0 c.in_ok-step.ensures.steps c.if-step.false,
+  c.in_ok-step.ensures.reading ∙ c.loop-number.invariant.1,
+  c.in_ok-step.ensures.writing ∙ c.loop-number.invariant.2,
+)
 
-pub returns-then-step : goal.returns-then-step
-returns-then-step g c =
-    Answers-kept c.args.job.now (reader_remaining g.R.Read.remaining c.args.reader.now)
-    (g.W.Write.contents c.args.writer.now) (g.W.Write.contents c.answer_line.new.writer) _
-    (nat_lt 0 c.count.new.self.errors)
-    (SoFar-last c.args.job.now (reader_remaining g.R.Read.remaining c.args.reader.now)
-    (reader_remaining g.R.Read.remaining c.loop-number.reader)
-    (reader_remaining g.R.Read.remaining c.answer_line.new.reader)
-    (g.W.Write.contents c.args.writer.now) (g.W.Write.contents c.loop-number.writer)
-    (g.W.Write.contents c.answer_line.new.writer) (nat_lt 0 c.loop-number.tally.errors)
-    (nat_lt 0 c.count.new.self.errors) c.in_ok-step.step c.loop-number.invariant
-    c.in_ok-step.ensures c.if-step.true c.count.ensures) c.flush.ensures.bytes
+pub returns-in_err-step-clause-stops : goal.returns-in_err-step-clause-stops
+returns-in_err-step-clause-stops g c =
+    refused_with _ c.from_residual.result c.in_err-step.field-0.0 c.from_residual.ensures.1
+    (SoFar-fails c.args.job.now c.loop-number.number c.loop-number.task
+    (reader_remaining g.R.Read.remaining c.args.reader.now.reader)
+    (reader_remaining g.R.Read.remaining c.loop-number.reader.reader)
+    (reader_remaining g.R.Read.remaining c.answer_line.new.reader.reader)
+    (g.W.Write.contents c.args.writer.now.writer) (g.W.Write.contents c.loop-number.writer.writer)
+    (g.W.Write.contents c.answer_line.new.writer.writer) c.loop-number.tally
+    c.in_err-step.field-0.0 c.loop-number.invariant.0 c.in_err-step.ensures.fails)
+
+pub returns-in_err-flush-clause-stops : goal.returns-in_err-flush-clause-stops
+returns-in_err-flush-clause-stops g c =
+    refused_with _ c.from_residual-in_err-flush.result c.in_err-flush.field-0.0
+    c.from_residual-in_err-flush.ensures.1
+    (Answers-stop c.args.job.now (reader_remaining g.R.Read.remaining c.args.reader.now.reader)
+    (reader_remaining g.R.Read.remaining c.answer_line.new.reader.reader)
+    (g.W.Write.contents c.args.writer.now.writer)
+    (g.W.Write.contents c.answer_line.new.writer.writer) (g.W.Write.contents
+    c.flush.new.self.writer) c.count.new.self c.in_err-flush.field-0.0
+    (SoFar-last c.args.job.now c.loop-number.number c.loop-number.task c.answer_line.new.task
+    (reader_remaining g.R.Read.remaining c.args.reader.now.reader)
+    (reader_remaining g.R.Read.remaining c.loop-number.reader.reader)
+    (reader_remaining g.R.Read.remaining c.answer_line.new.reader.reader)
+    (g.W.Write.contents c.args.writer.now.writer) (g.W.Write.contents c.loop-number.writer.writer)
+    (g.W.Write.contents c.answer_line.new.writer.writer) c.loop-number.tally c.count.new.self
+    c.in_ok-step.step (omega (arith, c.loop-number-test.true)) c.count.ensures.lines
+    c.count.ensures.errors c.loop-number.invariant.0 c.in_ok-step.ensures.steps c.if-step.true)
+    c.flush.ensures.keeps c.in_err-flush.ensures.reading)
+
+pub returns-then-step-clause-answers : goal.returns-then-step-clause-answers
+returns-then-step-clause-answers g c =
+    Answers-kept c.args.job.now (reader_remaining g.R.Read.remaining c.args.reader.now.reader)
+    (g.W.Write.contents c.args.writer.now.writer)
+    (g.W.Write.contents c.answer_line.new.writer.writer) (g.W.Write.contents
+    c.flush.new.self.writer) c.count.new.self
+    (SoFar-last c.args.job.now c.loop-number.number c.loop-number.task c.answer_line.new.task
+    (reader_remaining g.R.Read.remaining c.args.reader.now.reader)
+    (reader_remaining g.R.Read.remaining c.loop-number.reader.reader)
+    (reader_remaining g.R.Read.remaining c.answer_line.new.reader.reader)
+    (g.W.Write.contents c.args.writer.now.writer) (g.W.Write.contents c.loop-number.writer.writer)
+    (g.W.Write.contents c.answer_line.new.writer.writer) c.loop-number.tally c.count.new.self
+    c.in_ok-step.step (omega (arith, c.loop-number-test.true)) c.count.ensures.lines
+    c.count.ensures.errors c.loop-number.invariant.0 c.in_ok-step.ensures.steps c.if-step.true)
+    c.flush.ensures.keeps
+
+pub returns-clause-stops : goal.returns-clause-stops
+returns-clause-stops g c =
+    subst (λ r. Stops c.args.job.now
+    (reader_remaining g.R.Read.remaining c.args.reader.now.reader)
+    (reader_remaining g.R.Read.remaining r) (g.W.Write.contents c.args.writer.now.writer)
+    (g.W.Write.contents c.loop-number.writer.writer) c.give_up.result)
+    (sym c.give_up.ensures.kept)
+    (SoFar-stops c.args.job.now c.loop-number.number c.loop-number.task
+    (reader_remaining g.R.Read.remaining c.args.reader.now.reader)
+    (reader_remaining g.R.Read.remaining c.loop-number.reader.reader)
+    (g.W.Write.contents c.args.writer.now.writer) (g.W.Write.contents c.loop-number.writer.writer)
+    c.loop-number.tally c.give_up.result c.loop-number.invariant.0)

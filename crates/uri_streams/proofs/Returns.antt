@@ -1,0 +1,131 @@
+-- Whether a `\r` is before the end of a line that is read in parts.
+use Rattle.std.proofs.Common.{◌≡◌, ◌≢◌, ◌<◌, ◌+◌, ◌-◌, ◌++◌, ℕ, Bool, true, false, cond, List}
+use Rattle.std.proofs.Common.{[], All, refl, ap, sym, ◌∙◌, length, length-append, take, arith}
+use Rattle.std.proofs.Common.{get_or, append-nil, lt-ltb, ltb-true, ltb-false, eqb-true}
+use Rattle.std.proofs.Common.{eq-eqb, ◌==◌}
+use Rattle.std.specs.Io.{IsEmptyOrEndsWith}
+use Rattle.std.specs.Io.BufRead.{ends_with_byte, strip_last}
+use Rattle.std.specs.Prelude.{◌&&◌, nat_lt, not}
+use Rattle.std.proofs.Math.Seq.{get_or-append_right, take-append-add}
+use Rattle.std.proofs.lemmas.List.{nil_from_length}
+use Rattle.std.proofs.lemmas.List.Elements.{All-get_or}
+use Rattle.uri_streams.specs.Lines.{end_byte, ends_with_return, has_return, return_after}
+use Rattle.uri_streams.specs.Outputs.{end_of}
+
+is_false : (b : Bool) → (b ≡ true → ⊥) → b ≡ false
+is_false true h = absurd (h refl)
+is_false false h = refl
+
+-- the last byte of two lists is that of the second, where that has one
+ends-append : (byte : ℕ) (xs ys : List ℕ) → 0 < length ys
+    → ends_with_byte byte (xs ++ ys) ≡ ends_with_byte byte ys
+ends-append byte xs ys some =
+    let long : length (xs ++ ys) ≡ length xs + length ys = length-append xs ys in
+    let last : get_or (xs ++ ys) (length (xs ++ ys) - 1) 0 ≡ get_or ys (length ys - 1) 0 =
+    get_or-append_right xs ys (length (xs ++ ys) - 1) 0 (omega (arith, long, some))
+    ∙ ap (λ i. get_or ys i 0) (omega (arith, long, some)) in
+    ap (λ c. c && (get_or (xs ++ ys) (length (xs ++ ys) - 1) 0 == byte))
+    (lt-ltb 0 (length (xs ++ ys)) (omega (arith, long, some)))
+    ∙ ap (λ x. x == byte) last
+    ∙ sym (ap (λ c. c && (get_or ys (length ys - 1) 0 == byte)) (lt-ltb 0 (length ys) some))
+
+strip-append : (byte : ℕ) (xs ys : List ℕ) → 0 < length ys
+    → strip_last byte (xs ++ ys) ≡ xs ++ strip_last byte ys
+strip-append byte xs ys some =
+    ap (λ b. cond b (take (length (xs ++ ys) - 1) (xs ++ ys)) (xs ++ ys)) (ends-append byte xs ys
+    some)
+    ∙ at (ends_with_byte byte ys)
+  where
+    shorter : take (length (xs ++ ys) - 1) (xs ++ ys) ≡ xs ++ take (length ys - 1) ys
+    shorter =
+        ap (λ n. take n (xs ++ ys)) (omega (arith, length-append xs ys, some))
+        ∙ take-append-add xs ys (length ys - 1)
+
+    at : (b : Bool) → cond b (take (length (xs ++ ys) - 1) (xs ++ ys)) (xs ++ ys)
+        ≡ xs ++ cond b (take (length ys - 1) ys) ys
+    at true = shorter
+    at false = refl
+
+-- what lacks a byte does not end with it
+lacks-end : (byte : ℕ) (xs : List ℕ) → All (λ x. x ≢ byte) xs → ends_with_byte byte xs ≡ false
+lacks-end byte xs none = at (nat_lt 0 (length xs)) refl
+  where
+    at : (b : Bool) → nat_lt 0 (length xs) ≡ b
+        → (nat_lt 0 (length xs) && (get_or xs (length xs - 1) 0 == byte)) ≡ false
+    at true is =
+        let some : 0 < length xs = ltb-true 0 (length xs) is in
+        ap (λ c. c && (get_or xs (length xs - 1) 0 == byte)) is
+        ∙ is_false (get_or xs (length xs - 1) 0 == byte)
+        (λ same. All-get_or (λ x. x ≢ byte) xs (length xs - 1) 0 (omega (arith, some)) none
+        (eqb-true (get_or xs (length xs - 1) 0) byte same))
+    at false is = ap (λ c. c && (get_or xs (length xs - 1) 0 == byte)) is
+
+lacks-strip : (byte : ℕ) (xs : List ℕ) → All (λ x. x ≢ byte) xs → strip_last byte xs ≡ xs
+lacks-strip byte xs none = ap (λ b. cond b (take (length xs - 1) xs) xs) (lacks-end byte xs none)
+
+-- the last byte of what was taken, after one part more
+last_of : (was : Bool) (xs ys : List ℕ) → was ≡ ends_with_byte 13 xs
+    → cond (nat_lt 0 (length ys)) (ends_with_byte 13 ys) was ≡ ends_with_byte 13 (xs ++ ys)
+last_of was xs ys is = at (nat_lt 0 (length ys)) refl
+  where
+    at : (b : Bool) → nat_lt 0 (length ys) ≡ b
+        → cond (nat_lt 0 (length ys)) (ends_with_byte 13 ys) was ≡ ends_with_byte 13 (xs ++ ys)
+    at true some =
+        ap (λ c. cond c (ends_with_byte 13 ys) was) some
+        ∙ sym (ends-append 13 xs ys (ltb-true 0 (length ys) some))
+    at false none =
+        let empty : ys ≡ [] = nil_from_length ys (omega (arith, ltb-false 0 (length ys) none)) in
+        ap (λ c. cond c (ends_with_byte 13 ys) was) none ∙ is
+        ∙ sym (ap (λ l. ends_with_byte 13 (xs ++ l)) empty ∙ ap (ends_with_byte 13) (append-nil xs))
+
+-- a part more without the end
+pub return-more : (end : ℕ) (was : Bool) (done part : List ℕ) → was ≡ ends_with_byte 13 done
+    → All (λ x. x ≢ end) part → return_after end was part ≡ ends_with_byte 13 (done ++ part)
+return-more end was done part is none =
+    ap (λ l. cond (nat_lt 0 (length l)) (ends_with_byte 13 l) was) (lacks-strip end part none)
+    ∙ last_of was done part is
+
+-- and the last part
+pub return-last : (end : ℕ) (was : Bool) (done part : List ℕ) → was ≡ ends_with_byte 13 done
+    → All (λ x. x ≢ end) done → IsEmptyOrEndsWith part end
+    → (return_after end was part && nat_lt 0 (length part)) ≡ ends_with_return end (done ++ part)
+return-last end was done part is none ends = at (nat_lt 0 (length part)) refl
+  where
+    and-false : (b : Bool) → (b && false) ≡ false
+    and-false true = refl
+    and-false false = refl
+
+    and-true : (b : Bool) → (b && true) ≡ b
+    and-true true = refl
+    and-true false = refl
+
+    at : (b : Bool) → nat_lt 0 (length part) ≡ b
+        → (return_after end was part && nat_lt 0 (length part)) ≡ ends_with_return end (done ++ part)
+    at true more =
+        let some : 0 < length part = ltb-true 0 (length part) more in
+        let ended : ends_with_byte end part ≡ true =
+        ap (λ c. c && (get_or part (length part - 1) 0 == end)) more
+        ∙ eq-eqb (get_or part (length part - 1) 0) end (ends some) in
+        ap (λ c. return_after end was part && c) more ∙ and-true (return_after end was part)
+        ∙ last_of was done (strip_last end part) is
+        ∙ ap (ends_with_byte 13) (sym (strip-append end done part some))
+        ∙ sym (ap (λ c. c && ends_with_byte 13 (strip_last end (done ++ part)))
+        (ends-append end done part some ∙ ended))
+    at false no_more =
+        let empty : part ≡ [] = nil_from_length part (omega (
+          arith,
+          ltb-false 0 (length part)
+              no_more,
+        )) in
+        ap (λ c. return_after end was part && c) no_more
+        ∙ and-false (return_after end was part)
+        ∙ sym (ap (λ c. c && ends_with_byte 13 (strip_last end (done ++ part)))
+        (ap (λ l. ends_with_byte end (done ++ l)) empty ∙ ap (ends_with_byte end) (append-nil done)
+        ∙ lacks-end end done none))
+
+-- what ends the answer is what ended the line
+pub end-is : (is_null is_return : Bool) (line : List ℕ)
+    → is_return ≡ ends_with_return (end_byte is_null) line
+    → end_of is_null (not is_null && is_return) ≡ end_of is_null (has_return is_null line)
+end-is true is_return line is = refl
+end-is false is_return line is = ap (end_of false) is

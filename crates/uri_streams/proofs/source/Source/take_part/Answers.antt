@@ -1,0 +1,73 @@
+use Rattle.std.proofs.Common.{◌≢◌, ◌-◌, ◌++◌, [], All, take, refl, sym, ap, subst, ◌∙◌, rules}
+use Rattle.std.proofs.Common.{arith, eq-eqb, eqb-true, true≢false, get_or, get_or-take, length}
+use Rattle.std.proofs.Common.{length-take-le}
+use Rattle.std.proofs.lemmas.List.{append-nil}
+use Rattle.std.proofs.lemmas.List.Elements.{All-nil, All-more}
+use Rattle.std.specs.Io.Buffered.{reader_remaining, reader_buffer}
+use Rattle.std.specs.Io.BufRead.{FillKeeps}
+use Rattle.std.specs.Prelude.{Some}
+use Rattle.std.proofs.KnownBytes.{Consumes-nil, Consumes-kept}
+use Rattle.std.proofs.BufReadLemmas.{Consumes_shown, zero_unless_positive}
+use Rattle.std.proofs.Transfers.{StopsAt-take}
+use Rattle.std.proofs.Math.Seq.{take-nil}
+use Rattle.uri_streams.proofs.Parts.{take_room}
+use Rattle.uri_streams.proofs.source.Source.take_part.Goals.{then-count-eq0, else-count-eq0}
+use Rattle.uri_streams.proofs.source.Source.take_part.Goals as goal
+
+pub returns-then-eq-clause-taken : goal.returns-then-eq-clause-taken
+returns-then-eq-clause-taken g c = (
+  [],
+  refl,
+  sym (ap (λ l. c.args.line.now.items ++ l) (take-nil (c.args.limit - length
+      c.args.line.now.items)) ∙ append-nil c.args.line.now.items),
+  All-nil (λ x. x ≢ c.args.end),
+  Consumes-kept _ _ _ [] (Consumes-nil _) c.fill_buf.follows.holds-at-none.0,
+  λ _. All-nil (λ x. x ≢ c.args.end),
+  λ done. absurd (true≢false (sym done)),
+  λ done. absurd (true≢false (sym done)),
+  refl,
+)
+
+pub returns-clause-taken : goal.returns-clause-taken
+returns-clause-taken g c =
+    let shown = c.in-Ok.available.now in
+    let end = c.count_through-count in
+    let long = length-take-le end.result shown end.ensures.bound in
+    let rested = c.fill_buf.follows.lender-at-none in
+    let filled = subst (FillKeeps (reader_remaining g.R.Read.remaining c.args.self.now.reader)
+    (reader_remaining g.R.Read.remaining rested) (Some (length (reader_buffer rested))))
+    c.in-Ok.is c.fill_buf.follows.holds-at-none in
+    let moved = Consumes_shown (reader_remaining g.R.Read.remaining c.args.self.now.reader)
+    (reader_remaining g.R.Read.remaining rested)
+    (reader_remaining g.R.Read.remaining c.consume.new.self) (Some (length (reader_buffer rested)))
+    shown end.result end.ensures.bound c.in-Ok.ensures.front c.in-Ok.ensures.end filled.0
+    filled.1 c.consume.ensures.bytes in (
+      take end.result shown,
+      long,
+      c.in_ok-extend_from_slice.ensures.items ∙ ap (λ l. c.args.line.now.items ++ l)
+          (take_room c.min-kept.result end.result (c.args.limit - length c.args.line.now.items)
+          shown end.ensures.bound (search rules)),
+      StopsAt-take _ _ _ end.ensures.bound end.ensures.before,
+      moved.0,
+      λ more. elim c.if-count-eq0.branch [
+        | then-count-eq0 w ↦ absurd (more (search rules))
+        | else-count-eq0 w ↦ subst (λ k. All (λ x. x ≢ c.args.end) (take k shown)) (omega (
+          arith,
+          w.if-count-eq0.false,
+        ))
+            (All-more (λ x. x ≢ c.args.end) _ (end.result - 1) 0 (omega (
+              arith,
+              w.if-count-eq0.false,
+              end.ensures.bound,
+            )) end.ensures.before (λ e. more
+            (w.is_last-is ∙ eq-eqb _ _ e)))
+      ],
+      λ done some. elim c.if-count-eq0.branch [
+        | then-count-eq0 w ↦ absurd (omega (arith, w.if-count-eq0.true))
+        | else-count-eq0 w ↦ ap (λ n. get_or (take end.result shown) (n - 1) 0) long
+            ∙ get_or-take end.result shown (end.result - 1) 0 (omega arith) ∙ eqb-true _ _ (sym
+            w.is_last-is ∙ done)
+      ],
+      λ _ none. moved.1 (zero_unless_positive _ _ end.ensures.some (sym long ∙ none)),
+      search rules,
+    )
