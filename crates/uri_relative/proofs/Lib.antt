@@ -9,5 +9,7 @@ pub mod Slices
 pub mod EndPlaces
 pub mod Forms
 pub mod Shrinking
+pub mod LongestFronts
+pub mod ShortestPaths
 pub mod Leading
 pub mod Returning
