@@ -1,11 +1,11 @@
 -- Of the fronts that two paths share, the longest one makes the shortest relative path.
 use Rattle.std.proofs.Common.{◌≡◌, ℕ, zero, suc, ◌+◌, ◌*◌, ◌<◌, ◌≤◌, Bool, true, false, cond, eqb}
 use Rattle.std.proofs.Common.{List, [], ◌∷◌, ◌++◌, length, take, drop, get_or, refl, sym, ap, ◌∙◌}
-use Rattle.std.proofs.Common.{arith, ⊎_elim, length-append, inl, inr, ◌⊎◌}
+use Rattle.std.proofs.Common.{arith, ⊎_elim, length-append, ◌⊎◌}
 use Rattle.std.specs.Prelude.{codes}
 use Rattle.std.proofs.lemmas.List.Recursion.{is_count_by}
 use Rattle.std.proofs.lemmas.List.{drop-append-le, drop_more, length-take-le, take-append-drop}
-use Rattle.std.proofs.lemmas.Bool.{cases_Bool, false≢true}
+use Rattle.std.proofs.lemmas.Bool.{cases_Bool}
 use Rattle.uri_ops.specs.Dots.{is_empty}
 use Rattle.uri_relative.specs.Relative.{is_misread, relative_from, relative_path, slashes}
 use Rattle.uri_relative.proofs.Lengths.{length_up, length_up_none}
@@ -66,7 +66,8 @@ from_slash : (text : List ℕ) (last m : ℕ) → last < length text → get_or 
     → m ≤ last → drop m text ≡ drop m (take last text) ++ 47 ∷ drop (last + 1) text
 from_slash text last m h e least =
     ap (drop m) (sym (take-append-drop last text))
-    ∙ drop-append-le m (take last text) (drop last text) (omega (arith, least, length-take-le last text (omega (arith, h))))
+    ∙ drop-append-le m (take last text) (drop last text)
+    (omega (arith, least, length-take-le last text (omega (arith, h))))
     ∙ ap (λ t. drop m (take last text) ++ t)
     (drop_more text last 0 h ∙ ap (λ c. c ∷ drop (last + 1) text) e)
 

@@ -251,7 +251,8 @@ pub shared_as : (n : ℕ) (a b p q : List ℕ) → a ≡ b → p ≡ q → IsSha
 shared_as n a b p q e f h = subst (λ t. IsSharedFront n t q) e (subst (IsSharedFront n a) f h)
 
 pub relative_pushed : {A E : Type 0} (result : Result A E)
-    (pushes short least : List ℕ → Type 0) (n : ℕ) (base given path : List ℕ) (climbs : ℕ) (rest : List ℕ) → climbs ≡ slashes (drop n base)
+    (pushes short least : List ℕ → Type 0) (n : ℕ) (base given path : List ℕ) (climbs : ℕ)
+    (rest : List ℕ) → climbs ≡ slashes (drop n base)
     → rest ≡ drop n path → OnOk result (pushes (relative_path climbs rest))
     → IsPathTo given path (relative_from n base path) → short (relative_path climbs rest)
     → least (relative_path climbs rest)

@@ -1,8 +1,6 @@
-use Rattle.std.proofs.Common.{ap, arith, ◌≡◌, ◌∙◌, subst, sym, ◌<◌, ◌+◌, length}
-use Rattle.std.proofs.lemmas.Bool.{not-false}
+use Rattle.std.proofs.Common.{ap, ◌∙◌}
 use Rattle.uri_ops.specs.Dots.{is_empty}
-use Rattle.uri_relative.specs.Relative.{is_misread, relative_path}
-use Rattle.uri_relative.proofs.Lengths.{stay_longer, up_fits, up_longer}
+use Rattle.uri_relative.proofs.Lengths.{up_fits, up_longer}
 use Rattle.uri_relative.proofs.paths.is_relative_short.Goals as goal
 
 pub returns-then-climbs-gt0-clause-short : goal.returns-then-climbs-gt0-clause-short
