@@ -41,7 +41,7 @@ relative_up n rest =
     (let e : suc n - 1 ≡ n = omega arith in e)
 
 -- the parts of a fact on two lists
-front_passes : (p : List ℕ → Bool) (xs ys : List (List ℕ)) → Passes p (xs ++ ys) → Passes p xs
+pub front_passes : (p : List ℕ → Bool) (xs ys : List (List ℕ)) → Passes p (xs ++ ys) → Passes p xs
 front_passes p xs ys e = (and_parts _ _ (sym (list_all-append p xs ys) ∙ e)).0
 
 pushed : (xs ys : List (List ℕ)) (y : List ℕ) → (xs ++ y ∷ []) ++ ys ≡ xs ++ y ∷ ys
@@ -123,14 +123,14 @@ pop_length (y ∷ []) e = refl
 pop_length (y ∷ z ∷ ys) e =
     let ih = pop_length (z ∷ ys) refl in omega arith
 
-slashes_are : (text : List ℕ) → slashes text ≡ length (pop (segments text))
+pub slashes_are : (text : List ℕ) → slashes text ≡ length (pop (segments text))
 slashes_are text =
     let a = length-slice_split (λ c. eqb c 47) text in
     let b = pop_length (segments text) (segments_some text) in
     omega arith
 
 -- what stands below a directory is what the segments of a path have more
-above : (xs zs : List (List ℕ)) (last below : List ℕ) → NoSlashes xs → NoSlashes (zs ++ last ∷ [])
+pub above : (xs zs : List (List ℕ)) (last below : List ℕ) → NoSlashes xs → NoSlashes (zs ++ last ∷ [])
     → slashed (zs ++ last ∷ []) ≡ dir xs ++ below → zs ≡ xs ++ pop (segments below)
 above xs zs last below lack_xs lack_zs e =
     let same : zs ++ last ∷ [] ≡ xs ++ segments below =
@@ -140,7 +140,7 @@ above xs zs last below lack_xs lack_zs e =
     sym (pop_push zs last) ∙ ap pop same ∙ pop_front xs (segments below) (segments_some below)
 
 -- the last segment
-last_split : (s : List ℕ) (rest : List (List ℕ)) → (last : List ℕ)
+pub last_split : (s : List ℕ) (rest : List (List ℕ)) → (last : List ℕ)
     × (s ∷ rest ≡ pop (s ∷ rest) ++ last ∷ [])
 unfolding pop
 last_split s [] = (s, refl)
@@ -148,7 +148,7 @@ last_split s (t ∷ rest) =
     let ih = last_split t rest in (ih.0, ap (λ r. s ∷ r) ih.1)
 
 -- the directory of a path without dot segments
-directory_is : (s : List ℕ) (rest : List (List ℕ)) → NoSlashes (s ∷ rest)
+pub directory_is : (s : List ℕ) (rest : List (List ℕ)) → NoSlashes (s ∷ rest)
     → Passes is_plain (s ∷ rest) → directory (slashed (s ∷ rest)) ≡ dir (pop (s ∷ rest))
 directory_is s rest lack plain =
     directory_slashed s rest lack ∙ ap dir (parent_plain (s ∷ rest) plain)

@@ -4,9 +4,8 @@ use Rattle.std.proofs.Common.{◌&&◌, ◌||◌, ◌∷◌, drop, length, refl,
 use Rattle.std.proofs.Common.{inl, inr, ⊎_elim}
 use Rattle.std.specs.Prelude.{codes, Option, None, Some, IfSome, IfNone, is_some, is_none}
 use Rattle.std.proofs.lemmas.List.{length-append}
-use Rattle.std.proofs.lemmas.Bool.{and_from, and_parts, both_ways, cases_Bool, cond_both, cond-true}
-use Rattle.std.proofs.lemmas.Bool.{false≢true, not-false}
-use Rattle.std.proofs.lemmas.Bool.{not_from_false}
+use Rattle.std.proofs.lemmas.Bool.{and_from, and_parts, both_ways, cases_Bool, cond_both}
+use Rattle.std.proofs.lemmas.Bool.{cond-false, cond-true, false≢true, not-false, not_from_false}
 use Rattle.std.proofs.lemmas.Str.{IsUtf8-nil}
 use Rattle.std.specs.Str.{chars}
 use Rattle.uri_pct.specs.Delimiters.{slash}
@@ -20,7 +19,7 @@ use Rattle.uri_pct.proofs.Tests.{absent, true_of}
 use Rattle.uri_parts.proofs.Splitting.Marks.{Begins-query_text}
 use Rattle.uri_parts.proofs.Splitting.Recompose.{IsSplitOf-components, true_to}
 use Rattle.uri_ops.specs.ComponentSets.{HasComponentSets}
-use Rattle.uri_ops.specs.Dots.{IsAbsolute, is_empty}
+use Rattle.uri_ops.specs.Dots.{IsAbsolute, is_empty, lacks_dot_segments}
 use Rattle.uri_ops.specs.NormalTargets.{reference_kind}
 use Rattle.uri_ops.specs.Resolving.{finished}
 use Rattle.uri_ops.specs.Target.{cleaning_underflows, guarded, is_opaque, is_fragment_only}
@@ -34,9 +33,11 @@ use Rattle.uri_relative.specs.Forms.{IsReferenceTo, IsUnguarded, NeedsPath, afte
 use Rattle.uri_relative.specs.Forms.{after_scheme, from_authority}
 use Rattle.uri_relative.specs.Leading.{IsRelativeTo, is_rootless, loses_path, needs_authority}
 use Rattle.uri_relative.specs.Relative.{IsPathTo}
+use Rattle.uri_relative.specs.Shortest.{IsShortestWay, Shortest}
 use Rattle.uri_relative.proofs.References.{fragment_reference, network_reference, path_reference}
 use Rattle.uri_relative.proofs.References.{path_below, query_reference, whole_reference}
 use Rattle.uri_relative.proofs.Settled.{none_and, settled_below}
+use Rattle.uri_relative.proofs.ShortestForms.{fragment_of, path_of, query_of}
 
 -- a target of which no dot segment is removed, of a kind that needs a scheme
 pub record IsTargetOf (kind : Kind) (t : Components) : Type 0 where
@@ -134,8 +135,11 @@ unguarded_short t path way e h =
 
 module _ (kind : Kind) (prefers : Bool) (base t : Components) (w : IsTargetOf kind t) where
   -- the target as it stands
-  pub whole : IsRelativeTo base t t → IsReferenceTo kind prefers base t t
-  whole relative = record {
+  pub whole : IsRelativeTo base t t
+      → (prefers ≡ false → lacks_dot_segments base.path ≡ true
+      → Shortest kind base t (length (recompose t)))
+      → IsReferenceTo kind prefers base t t
+  whole relative least = record {
     split = w.split;
     meets = of_rules kind t (rules_of kind t w.meets)
         (or_true (is_some t.scheme) _ w.scheme);
@@ -146,6 +150,7 @@ module _ (kind : Kind) (prefers : Bool) (base t : Components) (w : IsTargetOf ki
         ∙ settled_below t w.settled;
     relative = relative;
     short = λ _. omega arith;
+    shortest = least;
   }
     where
       whole_joined : (base t : Components) → is_some t.scheme ≡ true → joined base t ≡ t
@@ -160,8 +165,10 @@ module _ (kind : Kind) (prefers : Bool) (base t : Components) (w : IsTargetOf ki
   network : base.scheme ≡ t.scheme → is_some t.authority ≡ true
       → IsRelativeTo base t (record t { scheme = None })
       → is_opaque base ≡ false
+      → (prefers ≡ false → lacks_dot_segments base.path ≡ true
+      → Shortest kind base t (length (recompose (record t { scheme = None }))))
       → IsReferenceTo kind prefers base t (record t { scheme = None })
-  network s some relative opaque =
+  network s some relative opaque least =
       let m = rules_of kind t w.meets in
       record {
         split = record {
@@ -187,6 +194,7 @@ module _ (kind : Kind) (prefers : Bool) (base t : Components) (w : IsTargetOf ki
             cond-true _ _ _ some in j) ∙ settled_below t w.settled;
         relative = relative;
         short = λ _. omega (arith, length_scheme t.scheme (after_scheme t) w.scheme w.split.scheme);
+        shortest = least;
       }
 
   -- what a reference is that has neither scheme nor authority
@@ -237,9 +245,12 @@ module _ (kind : Kind) (prefers : Bool) (base t : Components) (w : IsTargetOf ki
       → base.authority ≡ t.authority → IsRooted base.path → is_opaque base ≡ false
       → IsUnguarded t path → IsPathTo base.path path way
       → (prefers ≡ false → length way ≤ length (guarded None path))
+      → (prefers ≡ false → IsShortestWay base.path path way)
+      → IfNone base.authority (has_authority base.path ≡ false) → NeedsPath base t
+      → starts slash t.path ≡ true
       → IsReferenceTo kind prefers base t
       (record t { scheme = None; authority = None; path = way })
-  with_path path way sets s a rooted opaque u p short =
+  with_path path way sets s a rooted opaque u p short least none needs absolute =
       let m = rules_of kind t w.meets in
       let r : Components = record t { scheme = None; authority = None; path = way } in
       record {
@@ -253,14 +264,19 @@ module _ (kind : Kind) (prefers : Bool) (base t : Components) (w : IsTargetOf ki
         below = path_below base t path way rooted p;
         relative = by_itself base t r refl refl;
         short = λ e. short_without way (unguarded_short t path way u.guards (short e));
+        shortest = λ e plain.
+            let most = unguarded_short t path way u.guards (short e) in
+            path_of kind base t path (length way) rooted opaque plain none needs absolute u most
+            (omega (arith, short_without way most, length-append way (after_path t)))
+            (least e plain) _ (omega (arith, length-append way (after_path t)));
       }
 
   -- `?` and on, where the target has a query
   pub with_query : base.scheme ≡ t.scheme → base.authority ≡ t.authority → base.path ≡ t.path
-      → is_some t.query ≡ true → is_opaque base ≡ false
+      → is_some t.query ≡ true → is_opaque base ≡ false → (base.query ≡ t.query → ⊥)
       → IsReferenceTo kind prefers base t
       (record t { scheme = None; authority = None; path = [] })
-  with_query s a p some opaque =
+  with_query s a p some opaque other =
       let m = rules_of kind t w.meets in
       let r : Components = record t { scheme = None; authority = None; path = [] } in
       record {
@@ -271,6 +287,7 @@ module _ (kind : Kind) (prefers : Bool) (base t : Components) (w : IsTargetOf ki
         below = ap cleaning_underflows p ∙ settled_below t w.settled;
         relative = by_itself base t r refl refl;
         short = λ _. short_without [] (omega arith);
+        shortest = λ _ _. query_of kind base t _ (omega arith) other;
       }
 
   -- `#` and on, or nothing
@@ -292,17 +309,23 @@ module _ (kind : Kind) (prefers : Bool) (base t : Components) (w : IsTargetOf ki
           short_without [] (omega arith),
           length-append (marked (codes "?") t.query []) (marked (codes "#") t.fragment []),
         );
+        shortest = λ _ _. fragment_of kind base t _ (omega arith);
       }
 
   -- with an authority, or as it stands
   pub from_authority_form : base.scheme ≡ t.scheme → is_opaque base ≡ false
       → (base.authority ≡ t.authority → needs_authority base t ≡ true)
+      → Shortest kind base t (length (recompose (from_authority t)))
       → IsReferenceTo kind prefers base t (from_authority t)
-  from_authority_form s opaque needs =
-      cond_both (is_some t.authority) (record t { scheme = None }) t
-      (IsReferenceTo kind prefers base t)
-      (λ e. network s e (λ _. λ a. λ _. λ n. absurd (both_ways _ n (needs a))) opaque)
-      (λ _. whole (λ _. λ a. λ _. λ n. absurd (both_ways _ n (needs a))))
+  from_authority_form s opaque needs least =
+      let other : Components = record t { scheme = None } in
+      cond_both (is_some t.authority) other t (IsReferenceTo kind prefers base t)
+      (λ e. network s e (λ _. λ a. λ _. λ n. absurd (both_ways _ n (needs a))) opaque
+      (λ _ _. subst (λ r. Shortest kind base t (length (recompose r)))
+      (cond-true (is_some t.authority) other t e) least))
+      (λ e. whole (λ _. λ a. λ _. λ n. absurd (both_ways _ n (needs a)))
+      (λ _ _. subst (λ r. Shortest kind base t (length (recompose r)))
+      (cond-false (is_some t.authority) other t e) least))
 
 -- what no reference without an authority leads to
 rooted_empty : (path : List ℕ) → IsRooted path → starts slash path ≡ false → path ≡ []

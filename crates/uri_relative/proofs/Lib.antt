@@ -9,5 +9,10 @@ pub mod Slices
 pub mod EndPlaces
 pub mod Forms
 pub mod Shrinking
+pub mod LongestFronts
+pub mod SharedSegments
+pub mod ShortestPaths
+pub mod ShortestForms
 pub mod Leading
 pub mod Returning
+pub mod ShortestTexts

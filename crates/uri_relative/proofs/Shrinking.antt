@@ -11,6 +11,7 @@ use Rattle.uri_parts.proofs.Splitting.Recompose.{IsSplitOf-components, recompose
 use Rattle.uri_parts.proofs.Splitting.Recompose.{true_to}
 use Rattle.uri_ops.specs.Dots.{IsAbsolute, has_slash, is_double_dot, is_single_dot}
 use Rattle.uri_ops.specs.Dots.{remove_dot_segments}
+use Rattle.uri_ops.specs.Resolving.{finished}
 use Rattle.uri_ops.specs.Target.{cleaned_path, guarded}
 use Rattle.uri_ops.proofs.Paths.DotLaws.{by_segments, length_removed}
 use Rattle.uri_ops.proofs.Paths.Segments.{cleaned, closing, end_of, pop, step_of, steps, turn}
@@ -23,12 +24,12 @@ length_pair : (xs ys : List (List ℕ))
     → length (slashed (xs ++ ys)) ≡ length (slashed xs) + length (slashed ys)
 length_pair xs ys = ap length (slashed_append xs ys) ∙ length-append (slashed xs) (slashed ys)
 
-length_first : (s : List ℕ) (rest : List (List ℕ))
+pub length_first : (s : List ℕ) (rest : List (List ℕ))
     → length (slashed (s ∷ rest)) ≡ 1 + length s + length (slashed rest)
 unfolding slashed
 length_first s rest = omega (arith, length-append s (slashed rest))
 
-length_none : length (slashed []) ≡ 0
+pub length_none : length (slashed []) ≡ 0
 unfolding slashed
 length_none = refl
 
@@ -44,7 +45,7 @@ length_pop (s ∷ t ∷ rest) = omega (
 )
 
 -- what is left of some segments
-left_by : List (List ℕ) → List (List ℕ) → List (List ℕ)
+unfoldable pub left_by : List (List ℕ) → List (List ℕ) → List (List ℕ)
 left_by output segs = steps output segs ++ closing segs
 
 length_text : (s : List ℕ) (rest : List (List ℕ)) → NoSlashes (s ∷ rest)
@@ -220,12 +221,12 @@ no_guard : (a : Option (List ℕ)) (p q : List ℕ) → is_some a ≡ true → l
 no_guard None p q e h = absurd (false≢true e)
 no_guard (Some a) p q e h = h
 
-none_of : (a : Option (List ℕ)) (p : List ℕ) → IfNone a (has_authority p ≡ false)
+pub none_of : (a : Option (List ℕ)) (p : List ℕ) → IfNone a (has_authority p ≡ false)
     → is_some a ≡ false → has_authority p ≡ false
 none_of None p h e = h
 none_of (Some a) p h e = absurd (false≢true (sym e))
 
-path_length : (a : Option (List ℕ)) (p : List ℕ) → IfNone a (has_authority p ≡ false)
+pub path_length : (a : Option (List ℕ)) (p : List ℕ) → IfNone a (has_authority p ≡ false)
     → length (guarded a (cleaned_path p)) ≤ length p
 unfolding Shrinks
 path_length a p none = ⊎_elim
@@ -241,7 +242,7 @@ path_length a p none = ⊎_elim
     (λ h. omega (arith, ap length (rootless_stays a p h)))
     (cases_Bool (starts 47 p))
 
-length_parts : (c : Components) → length (recompose c)
+pub length_parts : (c : Components) → length (recompose c)
     ≡ length (marked [] c.scheme (codes ":")) + (length (marked (codes "//") c.authority [])
     + (length c.path + length (marked (codes "?") c.query [] ++ marked (codes "#") c.fragment [])))
 length_parts c = omega (
@@ -253,13 +254,18 @@ length_parts c = omega (
   length-append c.path (marked (codes "?") c.query [] ++ marked (codes "#") c.fragment []),
 )
 
+pub finished_length : (c : Components) → IfNone c.authority (has_authority c.path ≡ false)
+    → length (recompose (finished c)) ≤ length (recompose c)
+finished_length c none = omega (
+  arith,
+  path_length c.authority c.path none,
+  length_parts c,
+  length_parts (finished c),
+)
+
 pub settled_length : (text : List ℕ) → length (recompose (settled text)) ≤ length text
-settled_length text =
-    let c = components text in
-    omega (
-      arith,
-      path_length c.authority c.path (IsSplitOf-components text).no_authority,
-      length_parts c,
-      length_parts (settled text),
-      ap length (recompose-components text),
-    )
+settled_length text = omega (
+  arith,
+  finished_length (components text) (IsSplitOf-components text).no_authority,
+  ap length (recompose-components text),
+)

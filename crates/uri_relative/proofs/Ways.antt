@@ -228,11 +228,12 @@ absolute_way given path h plain utf8 =
     }
 
 -- what is pushed leads to the path
-pub way_pushed : {A E : Type 0} (result : Result A E) (pushes short : List ℕ → Type 0)
+pub way_pushed : {A E : Type 0} (result : Result A E) (pushes short least : List ℕ → Type 0)
     (way given path : List ℕ) → OnOk result (pushes way) → IsPathTo given path way → short way
-    → OnOk result ((way : List ℕ) × pushes way × IsPathTo given path way × short way)
-way_pushed (Ok a) pushes short way given path e w s = (way, e, w, s)
-way_pushed (Err a) pushes short way given path e w s = tt
+    → least way
+    → OnOk result ((way : List ℕ) × pushes way × IsPathTo given path way × short way × least way)
+way_pushed (Ok a) pushes short least way given path e w s l = (way, e, w, s, l)
+way_pushed (Err a) pushes short least way given path e w s l = tt
 
 pub boundary : (path bytes : List ℕ) (last : ℕ) → bytes ≡ path → IsUtf8 path
     → last < length bytes → get_or bytes last 0 ≡ 47 → IsCharBoundary path (last + 1)
@@ -249,17 +250,19 @@ pub shared_as : (n : ℕ) (a b p q : List ℕ) → a ≡ b → p ≡ q → IsSha
     → IsSharedFront n b q
 shared_as n a b p q e f h = subst (λ t. IsSharedFront n t q) e (subst (IsSharedFront n a) f h)
 
-pub relative_pushed : {A E : Type 0} (result : Result A E) (pushes short : List ℕ → Type 0) (n : ℕ)
-    (base given path : List ℕ) (climbs : ℕ) (rest : List ℕ) → climbs ≡ slashes (drop n base)
+pub relative_pushed : {A E : Type 0} (result : Result A E)
+    (pushes short least : List ℕ → Type 0) (n : ℕ) (base given path : List ℕ) (climbs : ℕ)
+    (rest : List ℕ) → climbs ≡ slashes (drop n base)
     → rest ≡ drop n path → OnOk result (pushes (relative_path climbs rest))
     → IsPathTo given path (relative_from n base path) → short (relative_path climbs rest)
-    → OnOk result ((way : List ℕ) × pushes way × IsPathTo given path way × short way)
-relative_pushed result pushes short n base given path climbs rest e f h way s =
+    → least (relative_path climbs rest)
+    → OnOk result ((way : List ℕ) × pushes way × IsPathTo given path way × short way × least way)
+relative_pushed result pushes short least n base given path climbs rest e f h way s l =
     let same : relative_path climbs rest ≡ relative_from n base path =
     ap (λ m. relative_path m rest) e
     ∙ ap (λ t. relative_path (slashes (drop n base)) t) f in
-    way_pushed result pushes short (relative_from n base path) given path
-    (subst (λ t. OnOk result (pushes t)) same h) way (subst short same s)
+    way_pushed result pushes short least (relative_from n base path) given path
+    (subst (λ t. OnOk result (pushes t)) same h) way (subst short same s) (subst least same l)
 
 -- the path that goes up, against the path from the root
 pub relative_fits : (n : ℕ) (path rest way : List ℕ) (guard : ℕ) → rest ≡ drop n path

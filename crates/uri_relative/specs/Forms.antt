@@ -11,6 +11,7 @@ use Rattle.uri_ops.specs.NormalTargets.{reference_kind}
 use Rattle.uri_ops.specs.Target.{guarded, is_opaque, is_refused_as_opaque, target_of}
 use Rattle.uri_ops.specs.Target.{target_underflows}
 use Rattle.uri_relative.specs.Leading.{IsRelativeTo}
+use Rattle.uri_relative.specs.Shortest.{Shortest}
 
 -- what stands behind the path, with the marks
 abbrev pub after_path : Components → List ℕ
@@ -25,7 +26,8 @@ abbrev pub from_authority : Components → Components
 from_authority p = if is_some p.authority then record p { scheme = None } else p
 
 -- the components of a reference of the kind that leads from the base to the target, of which no
--- dot segment is removed. Where paths from the root are not left for longer ones, it is no longer.
+-- dot segment is removed. Where paths from the root are not left for longer ones, it is no longer,
+-- and none is shorter if the base's path has no dot segment.
 pub record IsReferenceTo (kind : Kind) (prefers : Bool) (base target r : Components) : Type 0 where
   pub split : IsSplitOf (recompose r) r
   pub meets : are_components (reference_kind kind) r ≡ true
@@ -34,6 +36,8 @@ pub record IsReferenceTo (kind : Kind) (prefers : Bool) (base target r : Compone
   pub below : target_underflows base r ≡ false
   pub relative : IsRelativeTo base target r
   pub short : prefers ≡ false → length (recompose r) ≤ length (recompose target)
+  pub shortest : prefers ≡ false → lacks_dot_segments base.path ≡ true
+      → Shortest kind base target (length (recompose r))
 
 -- the text, with the positions of its components, is such a reference, whatever is preferred
 abbrev pub IsTextOfReference : Kind → Components → Components → List ℕ → Positions → Type 0
@@ -54,6 +58,7 @@ pub record IsPathNeeded (base target : Components) : Type 0 where
   pub authority : base.authority ≡ target.authority
   pub opaque : is_opaque base ≡ false
   pub absolute : starts slash target.path ≡ true
+  pub needs : NeedsPath base target
 
 -- the path before `/.` was put before it: section 5.2.2
 pub record IsUnguarded (target : Components) (path : List ℕ) : Type 0 where

@@ -1,4 +1,5 @@
 pub mod Relative
 pub mod Leading
+pub mod Shortest
 pub mod Forms
 pub mod Relativizers

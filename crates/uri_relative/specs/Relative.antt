@@ -1,6 +1,6 @@
 -- A path that leads from a directory to a path: the inverse of RFC 3986, sections 5.2.3 and 5.2.4.
-use Rattle.std.specs.Prelude.{◌≡◌, ℕ, zero, suc, Bool, true, false, ◌==◌, ◌||◌, ◌-◌, List, []}
-use Rattle.std.specs.Prelude.{◌++◌, take, drop, codes, if◌then◌else◌}
+use Rattle.std.specs.Prelude.{◌≡◌, ◌≤◌, ℕ, zero, suc, Bool, true, false, ◌==◌, ◌||◌, ◌-◌, List, []}
+use Rattle.std.specs.Prelude.{◌++◌, take, drop, codes, if◌then◌else◌, length}
 use Rattle.std.specs.List.{count_by}
 use Rattle.uri_pct.specs.Delimiters.{slash}
 use Rattle.uri_pct.specs.Sets.{TableSet}
@@ -36,6 +36,11 @@ relative_path n rest =
 pub record IsSharedFront (n : ℕ) (base path : List ℕ) : Type 0 where
   pub same : take n base ≡ take n path
   pub closed : EndsInSlash (take n base)
+
+-- no longer front is shared
+abbrev pub IsLongestFront : ℕ → List ℕ → List ℕ → Type 0
+IsLongestFront n base path =
+    (m : ℕ) → m ≤ length base → m ≤ length path → IsSharedFront m base path → m ≤ n
 
 -- from the base's path to the path, where they share a front of this length: what the base's path
 -- has behind its last `/` counts for nothing

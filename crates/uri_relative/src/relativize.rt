@@ -3,6 +3,7 @@ ghost use Rattle.std.specs.Prelude.{◌≡◌, IfOk, false};
 ghost use Rattle.uri_parts.specs.Components.{components};
 ghost use Rattle.fluent_uri.specs.References.{reference_text};
 ghost use Rattle.uri_relative.specs.Leading.{ComesBack, IsNoLonger, IsRelativeTo, LeadsTo, settled};
+ghost use Rattle.uri_relative.specs.Shortest.{IsShortest};
 
 use crate::relative::{RelativeKind, relative};
 use fluent_uri::{Reference, RiMaybeRef};
@@ -26,6 +27,9 @@ fn relativized<K: RelativeKind, B: AsStr, T: AsStr>(
         (reference_text reference)) }
     ensures short { prefers_relative_path ≡ false → IfOk result (λ reference.
         IsNoLonger (reference_text target.now) (reference_text reference)) }
+    ensures shortest { prefers_relative_path ≡ false → IfOk result (λ reference.
+        IsShortest K.kind (reference_text base.now) (reference_text target.now)
+        (reference_text reference)) }
     ensures relative { IfOk result (λ reference.
         IsRelativeTo (components (reference_text base.now))
         (settled (reference_text target.now)) (components (reference_text reference))) }
@@ -89,6 +93,9 @@ impl<K: RelativeKind, B: AsStr> Relativizer<Reference<K, B>> {
     /// Returns a reference that leads from the base to the target: resolved against the base
     /// without its fragment, it is what the target itself resolves to (RFC 3986, section 5.2).
     ///
+    /// Unless a relative path is preferred, no such reference is shorter where the base's path has
+    /// no dot segment.
+    ///
     /// # Errors
     ///
     /// Only if memory is refused.
@@ -109,6 +116,9 @@ impl<K: RelativeKind, B: AsStr> Relativizer<Reference<K, B>> {
             (reference_text reference)) }
         ensures short { prefers_relative_path self.now ≡ false → IfOk result (λ reference.
             IsNoLonger (reference_text target.now) (reference_text reference)) }
+        ensures shortest { prefers_relative_path self.now ≡ false → IfOk result (λ reference.
+            IsShortest K.kind (reference_text (base_of self.now)) (reference_text target.now)
+            (reference_text reference)) }
         ensures relative { IfOk result (λ reference.
             IsRelativeTo (components (reference_text (base_of self.now)))
             (settled (reference_text target.now)) (components (reference_text reference))) }
@@ -130,7 +140,7 @@ pub trait Relativize<K: RelativeKind> {
     ghost base_text: { Self → List ℕ };
 
     /// Returns a short reference that leads from this base to the target, as
-    /// `Relativizer::with_base` makes it.
+    /// `Relativizer::with_base` makes it. None is shorter where the base's path has no dot segment.
     ///
     /// # Errors
     ///
@@ -152,6 +162,9 @@ pub trait Relativize<K: RelativeKind> {
             (reference_text reference)) }
         ensures short { IfOk result (λ reference.
             IsNoLonger (reference_text target.now) (reference_text reference)) }
+        ensures shortest { IfOk result (λ reference.
+            IsShortest K.kind (base_text self.now) (reference_text target.now)
+            (reference_text reference)) }
         ensures relative { IfOk result (λ reference.
             IsRelativeTo (components (base_text self.now))
             (settled (reference_text target.now)) (components (reference_text reference))) };

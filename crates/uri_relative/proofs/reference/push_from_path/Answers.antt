@@ -6,7 +6,10 @@ use Rattle.uri_parts.specs.CoreTexts.{core_text}
 use Rattle.uri_ops.proofs.TextKinds.FourKinds.{known_sets}
 use Rattle.uri_relative.proofs.Forms.{rooted_base, with_path}
 use Rattle.uri_relative.proofs.Leading.{pushed_after, target_of_text}
+use Rattle.std.specs.Prelude.{false}
+use Rattle.uri_parts.proofs.Splitting.Recompose.{IsSplitOf-components}
 use Rattle.uri_relative.specs.Relative.{IsPathTo}
+use Rattle.uri_relative.specs.Shortest.{IsShortestWay}
 use Rattle.uri_relative.proofs.reference.push_from_path.Goals as goal
 
 pub push_path-requires : goal.push_path-requires
@@ -40,5 +43,8 @@ returns g c =
           (known_sets g.K.Kind.kind g.met.K.Kind.known) p.scheme p.authority
           (rooted_base (core_text c.args.base) p.opaque) p.opaque c.without_guard.ensures
           (subst (λ q. IsPathTo q c.without_guard.result.now found.0) c.path.ensures found.2)
-          found.3,
+          found.3
+          (subst (λ q. c.args.prefers_relative ≡ false
+          → IsShortestWay q c.without_guard.result.now found.0) c.path.ensures found.4)
+          (IsSplitOf-components (core_text c.args.base)).no_authority p.needs p.absolute,
     )

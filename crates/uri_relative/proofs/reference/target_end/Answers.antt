@@ -5,6 +5,7 @@ use Rattle.uri_parts.specs.CoreTexts.{core_text}
 use Rattle.uri_parts.proofs.Splitting.Recompose.{recompose-components}
 use Rattle.uri_relative.proofs.Forms.{whole}
 use Rattle.uri_relative.proofs.Leading.{target_of_text}
+use Rattle.uri_relative.proofs.ShortestForms.{whole_of_scheme}
 use Rattle.uri_relative.proofs.reference.target_end.Goals as goal
 
 pub returns-then-not-have_same_scheme-clause-some : goal.returns-then-not-have_same_scheme-clause-some
@@ -19,5 +20,7 @@ returns-then-not-have_same_scheme-clause-some g c =
           (target_of_text g.K.Kind.kind text g.met.K.BaseKind.needs_scheme c.args.target.of_kind
           c.requires)
           (λ s _ _ _. absurd (both_ways _ c.if-not-have_same_scheme.true
-          (c.have_same_scheme.ensures.1 s))),
+          (c.have_same_scheme.ensures.1 s)))
+          (λ _ _. whole_of_scheme g.K.Kind.kind b t
+          (λ s. both_ways _ c.if-not-have_same_scheme.true (c.have_same_scheme.ensures.1 s))),
     )

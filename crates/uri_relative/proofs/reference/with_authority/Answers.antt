@@ -5,8 +5,9 @@ use Rattle.uri_parts.specs.Components.{components, starts}
 use Rattle.uri_parts.specs.CoreTexts.{core_text}
 use Rattle.uri_parts.proofs.Splitting.Recompose.{recompose-components}
 use Rattle.uri_relative.specs.Forms.{from_authority}
-use Rattle.uri_relative.proofs.Forms.{from_authority_form, needs_it, whole}
+use Rattle.uri_relative.proofs.Forms.{from_authority_form, needs_it, rooted_base, whole}
 use Rattle.uri_relative.proofs.Leading.{target_of_text}
+use Rattle.uri_relative.proofs.ShortestForms.{authority_of, whole_of_opaque}
 use Rattle.uri_relative.proofs.reference.with_authority.Goals as goal
 
 pub returns-then-is_opaque-clause-some : goal.returns-then-is_opaque-clause-some
@@ -21,7 +22,9 @@ returns-then-is_opaque-clause-some g c =
           (target_of_text g.K.Kind.kind text g.met.K.BaseKind.needs_scheme c.args.target.of_kind
           c.requires.settled)
           (λ _ _ opaque _. absurd
-          (both_ways _ opaque (sym c.is_opaque.ensures ∙ c.if-is_opaque.true))),
+          (both_ways _ opaque (sym c.is_opaque.ensures ∙ c.if-is_opaque.true)))
+          (λ _ _. whole_of_opaque g.K.Kind.kind b t
+          (sym c.is_opaque.ensures ∙ c.if-is_opaque.true) c.requires.path),
     )
 
 pub returns-then-not-have_same_authority-clause-some : goal.returns-then-not-have_same_authority-clause-some
@@ -37,7 +40,12 @@ returns-then-not-have_same_authority-clause-some g c =
           c.requires.settled) c.requires.scheme
           (sym c.is_opaque.ensures ∙ c.if-is_opaque.false)
           (λ a. absurd (both_ways _ c.if-not-have_same_authority.true
-          (c.have_same_authority.ensures.1 a))),
+          (c.have_same_authority.ensures.1 a)))
+          (authority_of g.K.Kind.kind b t c.requires.scheme
+          (rooted_base (core_text c.args.base) (sym c.is_opaque.ensures ∙ c.if-is_opaque.false))
+          (sym c.is_opaque.ensures ∙ c.if-is_opaque.false)
+          (λ a. absurd (both_ways _ c.if-not-have_same_authority.true
+          (c.have_same_authority.ensures.1 a)))),
     )
 
 pub returns-then-begins_with_slash-clause-none : goal.returns-then-begins_with_slash-clause-none
@@ -48,6 +56,7 @@ returns-then-begins_with_slash-clause-none g c = λ _. record {
   absolute = sym (c.begins_with_slash.ensures
       ∙ ap (starts slash) (c.as_bytes.ensures.value ∙ c.path.ensures))
       ∙ c.if-begins_with_slash.true;
+  needs = c.requires.path;
 }
 
 pub returns-clause-some : goal.returns-clause-some
@@ -65,5 +74,13 @@ returns-clause-some g c =
           (λ a. needs_it g.K.Kind.kind b t w c.requires.path a opaque
           (sym (c.begins_with_slash.ensures
           ∙ ap (starts slash) (c.as_bytes.ensures.value ∙ c.path.ensures))
-          ∙ c.if-begins_with_slash.false)),
+          ∙ c.if-begins_with_slash.false))
+          (authority_of g.K.Kind.kind b t c.requires.scheme
+          (rooted_base (core_text c.args.base) opaque) opaque
+          (λ _. (
+            c.requires.path,
+            sym (c.begins_with_slash.ensures
+                ∙ ap (starts slash) (c.as_bytes.ensures.value ∙ c.path.ensures))
+                ∙ c.if-begins_with_slash.false,
+          ))),
     )

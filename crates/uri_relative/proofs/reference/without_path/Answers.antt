@@ -57,5 +57,6 @@ returns-clause-some g c =
           (target_of_text g.K.Kind.kind text g.met.K.BaseKind.needs_scheme c.args.target.of_kind
           c.requires.settled) c.requires.scheme same.0 same.1
           (sym c.has_query.ensures ∙ c.if-not-has_query.false)
-          (sym c.is_opaque.ensures ∙ c.if-is_opaque.false),
+          (sym c.is_opaque.ensures ∙ c.if-is_opaque.false)
+          (λ e. both_ways _ c.if-have_same_query.false (c.have_same_query.ensures.1 e)),
     )

@@ -4,6 +4,7 @@ use Rattle.uri_parts.specs.CoreTexts.{core_text}
 use Rattle.uri_parts.specs.Grammar.{IsOfKind}
 use Rattle.fluent_uri.specs.References.{reference_text}
 use Rattle.uri_relative.proofs.Leading.{back_as, leads_as, no_longer_as, relative_as}
+use Rattle.uri_relative.proofs.ShortestTexts.{shortest_as}
 use Rattle.uri_relative.proofs.relativize.relativized.Goals as goal
 
 pub new-requires-clause-of_kind : goal.new-requires-clause-of_kind
@@ -38,6 +39,15 @@ returns-clause-short g c = λ e.
     (core_text c.core-2.result) (string_bytes c.in_ok-made.made.text)
     (reference_text c.args.target.now) (reference_text c.of_core.result) e
     c.core-2.ensures.text (c.of_core.ensures ∙ c.new.ensures) c.in_ok-made.ensures.leads
+
+pub returns-clause-shortest : goal.returns-clause-shortest
+returns-clause-shortest g c = λ e.
+    shortest_as g.K.Kind.kind c.args.prefers_relative_path (core_text c.core.result)
+    (core_text c.core-2.result) (string_bytes c.in_ok-made.made.text)
+    (reference_text c.args.base.now) (reference_text c.args.target.now)
+    (reference_text c.of_core.result) g.met.K.BaseKind.needs_scheme c.core.result.of_kind
+    c.core-2.result.of_kind c.core.ensures.text c.core-2.ensures.text
+    (c.of_core.ensures ∙ c.new.ensures) e c.in_ok-made.ensures.leads
 
 pub returns-clause-relative : goal.returns-clause-relative
 returns-clause-relative g c =
