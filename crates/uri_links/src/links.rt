@@ -89,6 +89,14 @@ fn refused(error: ResolveError) -> Result<Outcome, AllocError>
     }
 }
 
+/// The text of a target, which is a URI.
+fn text_of(target: &Uri<String>) -> &str
+    ensures text { result.now ≡ uri_text target.now }
+    ensures uri { IsTextOf uri (uri_text target.now) }
+{
+    target.as_str()
+}
+
 impl<P: DefaultPort> Register<P> {
     ghost use Rattle.uri_links.specs.Registers.{port_function_of, texts_of};
 
@@ -203,8 +211,9 @@ impl<P: DefaultPort> Register<P> {
         ensures kept { OnErr result (texts_of self.new ≡ texts_of self.old) }
         ensures ports { port_function_of self.new ≡ port_function_of self.old }
     {
-        let hash = hash_of(target.as_str());
-        match self.search(target.as_str(), hash) {
+        let text = text_of(&target);
+        let hash = hash_of(text);
+        match self.search(text, hash) {
             SearchEnd::Found(id) => Ok(Outcome::Known(id)),
             SearchEnd::Missing(parent, right) => {
                 Ok(Outcome::New(self.add(target, hash, parent, right)?))
