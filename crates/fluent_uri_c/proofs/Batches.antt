@@ -62,28 +62,11 @@ module _ (at : ℕ → Option (List ℕ)) where
       ∙ sym (length-append (joined at n) (bytes_of (at n))) ∙ ap (λ k. length (joined at k)) (sym step)
 
 module _ {O : Type 0} (value : O → ℕ) (at : ℕ → Option (List ℕ)) where
-  ends_at : List O → ℕ → ℕ → Type 0
-  ends_at ends i n = IsSomeAnd (slice_get ends i) (λ end. value end ≡ n)
 
   ends_here : (ends : List O) (i n : ℕ) (end : O) → i < length ends → value end ≡ n
       → IsSomeAnd (slice_get (set ends i end) i) (λ end. value end ≡ n)
   ends_here ends i n end inside e =
       rw (slice_get-set_same ends i end inside) e
-
-  -- nothing is done
-  pub column_start : (old : List ℕ) (ends : List O) (valid : List ℕ) (first : O)
-      → value first ≡ 0 → 0 < length ends
-      → IsColumn value at 0 old old ends (set ends 0 first) valid valid
-  column_start old ends valid first e inside = record {
-    bytes = refl;
-    ends = λ i below. let z : i ≡ 0 = omega arith in
-        subst (λ k. IsSomeAnd (slice_get (set ends 0 first) k)
-        (λ end. value end ≡ length (joined at k))) (sym z)
-        (ends_here ends 0 0 first inside e);
-    valid = λ i below. absurd (omega arith);
-    other_ends = drop-set-lt 1 ends 0 first (omega arith);
-    other_bits = λ i above. refl;
-  }
 
   -- one more is done
   pub column_step : (n m : ℕ) (old out next : List ℕ) (first ends : List O)
@@ -135,9 +118,6 @@ is_some_mapped f (Some x) = refl
 -- a text that is there
 pub some_is : {A : Type 0} (o : Option A) (x : A) → Some x ≡ o → IsSome o
 some_is o x e = sym (ap is_some e)
-
-pub none_is : {A : Type 0} (o : Option A) → None ≡ o → IsNone o
-none_is o e = sym (ap is_some e)
 
 -- the items after one that is set are as they were
 pub others_step : {A : Type 0} → (first all : List A) (n m : ℕ) (here : A) → m ≡ n + 1

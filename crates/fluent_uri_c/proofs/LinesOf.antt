@@ -100,9 +100,3 @@ line_is input n start end inside before is = ⊎_elim
     (inner_is input n start end inside before is)
     (last_is input n start end inside before is)
     (cases_lt (line_length (drop start input)) (length (drop start input)))
-
--- more lines are left where the input is, even where it is empty
-pub line_left : (input : List ℕ) (n start : ℕ) → start ≤ length input
-    → drop n (lines_of input) ≡ lines_of (drop start input) → n < length (lines_of input)
-line_left input n start inside before =
-    (line_is input n start (start + line_length (drop start input)) inside before refl).more

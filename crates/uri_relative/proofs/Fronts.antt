@@ -83,16 +83,6 @@ longest base path last n h same most none = λ m in_base in_path shared.
     (at_most m n))
     (at_most m (last + 1))
 
--- back over bytes that are none
-pub none_before : (text : List ℕ) (i end : ℕ) → (get_or text i 0 ≡ 47 → ⊥)
-    → ((k : ℕ) → i < k → k < end → get_or text k 0 ≡ 47 → ⊥)
-    → (k : ℕ) → i ≤ k → k < end → get_or text k 0 ≡ 47 → ⊥
-none_before text i end here none k h within e = ⊎_elim
-    (λ least. let same : k ≡ i = omega (arith, h, least) in
-    here (ap (λ j. get_or text j 0) (sym same) ∙ e))
-    (λ more. none k more within e)
-    (at_most k i)
-
 -- one `../` more
 climbs_more : (n : ℕ) → climbs n ++ codes "../" ≡ codes "../" ++ climbs n
 unfolding climbs

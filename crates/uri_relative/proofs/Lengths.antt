@@ -83,12 +83,3 @@ up_longer (suc m) front rest false some e h =
       mod_below (front + bool_byte false) 3 (omega arith),
       length_up m rest (sym e),
     )
-
-pub stay_longer : (front : ℕ) (rest : List ℕ) → front < 2 → is_misread rest ≡ true
-    → front + length rest < length (relative_path 0 rest)
-stay_longer front [] h e = absurd (false≢true e)
-stay_longer front (c ∷ rest) h e = omega (
-  arith,
-  h,
-  ap length (cond-true (is_misread (c ∷ rest)) (codes "./" ++ c ∷ rest) (c ∷ rest) e),
-)
