@@ -1,6 +1,6 @@
 -- The answer to the bytes of a line, and that to its text.
 use Rattle.std.proofs.Common.{◌≡◌, ◌≤◌, ◌++◌, ℕ, List, true, false, Bool, length, codes, ap, sym}
-use Rattle.std.proofs.Common.{◌∙◌, refl, le-ltb, lt-ltb, ◌<◌}
+use Rattle.std.proofs.Common.{◌∙◌, refl, le-ltb}
 use Rattle.std.specs.Prelude.{IsUtf8, decimal, if◌then◌else◌}
 use Rattle.std.specs.Str.{is_utf8}
 use Rattle.std.specs.Str.Lossy.{utf8_valid_len}
@@ -47,12 +47,3 @@ answer-not_utf8 command max_line known bytes index short is_not valid =
     ∙ sym (short-answer command max_line known bytes short
     ∙ ap (λ b. if b then text_answer command known bytes else (Error (utf8_message bytes), known))
     (is_false (is_utf8 bytes) (λ yes. is_not (IsUtf8-from_is_utf8 bytes yes))))
-
-pub answer-long : (command : Command) (max_line : ℕ) (known : Known) (bytes : List ℕ)
-    → max_line < length bytes
-    → (Error (long_message max_line), known) ≡ answer_of command max_line known bytes
-answer-long command max_line known bytes long =
-    sym (ap (λ b. if b then (Error (long_message max_line), known) else (if is_utf8 bytes then
-    text_answer command known bytes
-    else (Error (codes "not UTF-8 at index " ++ decimal (utf8_valid_len bytes)), known))) (lt-ltb
-    max_line (length bytes) long))

@@ -1,9 +1,9 @@
 -- What is read of a line, and written for it, is a step.
 use Rattle.std.proofs.Common.{◌≡◌, ◌+◌, ◌++◌, ℕ, Bool, true, false, List, refl, ap, sym}
-use Rattle.std.proofs.Common.{◌∙◌, subst, Option, Some, None, IfSome, inl, inr}
+use Rattle.std.proofs.Common.{◌∙◌, subst, Option, Some, None, IfSome, inl}
 use Rattle.std.specs.Prelude.{◌&&◌, not}
 use Rattle.std.specs.Io.BufRead.{take_through}
-use Rattle.std.specs.Io.KnownBytes.{Appends, IsAtEnd, Keeps}
+use Rattle.std.specs.Io.KnownBytes.{Appends, Keeps}
 use Rattle.uri_commands.specs.Fronts.{AppendsFront}
 use Rattle.uri_streams.specs.Causes.{is_input}
 use Rattle.uri_streams.specs.Lines.{end_byte, has_return, line_text, lines_of}
@@ -120,14 +120,6 @@ module _ (job : Job) (before : ℕ) (task task_new : Task) (left left_new : Opti
         λ input. absurd (cc (input, no_input)),
       )
 
-pub Steps-end : (job : Job) (before : ℕ) (task task_new : Task)
-    (left left_new held held_new : Option (List ℕ)) (step : Step) → IsAtEnd left
-    → Keeps held held_new → step.is_line ≡ false → step.is_error ≡ false → step.is_last ≡ true
-    → Steps job before task left left_new held held_new task_new step
-Steps-end job before task task_new None left_new held held_new step none kept line error last = tt
-Steps-end job before task task_new (Some xs) left_new held held_new step none kept line error last =
-    λ known remembers. inr (none, kept, line, error, last)
-
 pub Fails-reading : (job : Job) (before : ℕ) (task : Task)
     (left left_new held held_new : Option (List ℕ)) (failure : Failure)
     → StopsInLine left left_new (end_byte job.is_null) → Keeps held held_new
@@ -135,15 +127,3 @@ pub Fails-reading : (job : Job) (before : ℕ) (task : Task)
 Fails-reading job before task None left_new held held_new failure stopped kept = tt
 Fails-reading job before task (Some xs) left_new held held_new failure stopped kept =
     λ known remembers. (front-none held held_new _ kept, λ input. (kept, stopped))
-
--- memory was refused
-pub Fails-answering : (job : Job) (before : ℕ) (task : Task)
-    (left left_new held held_new : Option (List ℕ)) (failure : Failure)
-    → is_input failure ≡ false → Keeps held held_new
-    → StepFails job before task left left_new held held_new failure
-Fails-answering job before task None left_new held held_new failure no_input kept = tt
-Fails-answering job before task (Some xs) left_new held held_new failure no_input kept =
-    λ known remembers. (
-      front-none held held_new _ kept,
-      λ input. absurd (cc (input, no_input)),
-    )

@@ -42,19 +42,6 @@ has_met-more known text other =
     ∙ ap (λ b. has_met known other || b) (bytes_eq-sym other text)
     ∙ sym (or-as-cond (bytes_eq text other) (has_met known other))
 
--- and one that was known is again
-has_met-again : (known : Known) (text other : List ℕ) → has_met known text ≡ true
-    → cond (bytes_eq text other) true (has_met known other) ≡ has_met known other
-has_met-again known text other met = at (bytes_eq text other) refl
-  where
-    at : (b : Bool) → bytes_eq text other ≡ b
-        → cond b true (has_met known other) ≡ has_met known other
-    at true is = sym (ap (has_met known) (sym (same is)) ∙ met)
-      where
-        same : bytes_eq text other ≡ true → text ≡ other
-        same e = (bytes_eq-Decides text other).0 e
-    at false is = refl
-
 module _ (met met_new : Met) (known : Known) (normal : List ℕ) (is_new : Bool)
     (has : HasMet met known)
     (noted : (other : List ℕ) → bag.contains_text met_new.texts other
@@ -75,20 +62,3 @@ module _ (met met_new : Met) (known : Known) (normal : List ℕ) (is_new : Bool)
       at : (b : Bool) → has_met known normal ≡ b → b ≡ false
       at true e = absurd (cc (is, new, has normal, e))
       at false e = refl
-
-  -- a text that was met before
-  pub first-known : is_new ≡ false
-      → (NoLine ≡ (first_time known (Text normal)).0) × HasMet met_new (first_time known (Text normal)).1
-  first-known is =
-      let met_before : has_met known normal ≡ true = at (has_met known normal) refl in
-      subst (λ (a : Answer × Known). (NoLine ≡ a.0) × HasMet met_new a.1)
-      (sym (ap (λ b. if b then (NoLine, known) else (Text normal, known ++ normal ∷ []))
-      met_before)) (
-        refl,
-        λ other. noted other ∙ ap (cond (bytes_eq normal other) true) (has other)
-            ∙ has_met-again known normal other met_before,
-      )
-    where
-      at : (b : Bool) → has_met known normal ≡ b → b ≡ true
-      at true e = refl
-      at false e = absurd (cc (is, new, has normal, e))
