@@ -212,11 +212,11 @@ fn denied_memory_leaves_a_prefix(rt: HostRuntime) {
     match got {
         Ok(tally) => {
             equal(tally.lines, 5).expect(&rt, "lines");
-            equal(80 - left, output.len()).expect(&rt, "whole");
+            equal(left.saturating_add(output.len()), 80).expect(&rt, "whole");
         }
         Err(failure) => {
             equal(matches!(failure, Failure::OutOfMemory), true).expect(&rt, "failure");
-            equal(80 - left < output.len(), true).expect(&rt, "prefix");
+            equal(80 < left.saturating_add(output.len()), true).expect(&rt, "prefix");
         }
     }
 }
