@@ -73,14 +73,14 @@ no_json_is kind text e not_of_kind is =
     (is_not (is_of_kind kind text) not_of_kind))
 
 -- what a reference resolves to, of the texts of a base and a reference
-pub reference_is : (kind : Kind) (base text : List ℕ) (answer : Answer) → IsOfKind kind text
+reference_is : (kind : Kind) (base text : List ℕ) (answer : Answer) → IsOfKind kind text
     → answer ≡ target_answer base text → answer ≡ resolve_answer kind base text
 unfolding resolve_answer
 reference_is kind base text answer of_kind is =
     is ∙ sym (ap (λ b. if b then target_answer base text
     else Error (codes "reference: " ++ parse_message kind text)) of_kind)
 
-pub no_reference_is : (kind : Kind) (base text : List ℕ) (e : ParseError) → ¬ (IsOfKind kind text)
+no_reference_is : (kind : Kind) (base text : List ℕ) (e : ParseError) → ¬ (IsOfKind kind text)
     → refusal kind text ≡ Some e
     → Error (codes "reference: " ++ error_text e) ≡ resolve_answer kind base text
 unfolding resolve_answer

@@ -44,7 +44,7 @@ front-after a b c text more whole (n, p) = (
       (Appends-trans a b c text (take n more) whole p),
 )
 
-pub front-whole : (a b : Option (List ℕ)) (text : List ℕ) → Appends a b text → AppendsFront a b text
+front-whole : (a b : Option (List ℕ)) (text : List ℕ) → Appends a b text → AppendsFront a b text
 front-whole a b text p = front_taken a b text [] text p (sym (append-nil text))
 
 -- what is kept grows by no prefix

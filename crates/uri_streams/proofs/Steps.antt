@@ -24,7 +24,7 @@ use Rattle.uri_streams.proofs.Returns.{end-is}
 use Rattle.uri_streams.proofs.Streams.{first_line, later}
 
 -- what answers a text, whatever the lines before it were
-abbrev pub Answering : Task → Task → ℕ → List ℕ → Returned → Type 0
+abbrev Answering : Task → Task → ℕ → List ℕ → Returned → Type 0
 Answering task task_new max_line text answer =
     (command : Command) (known : Known) → Remembers task command known
     → IsAnswer command (answer_of command max_line known text) answer task_new

@@ -95,9 +95,6 @@ line_message job line = answer_message job.errors line.number line.answer
 abbrev pub output_of : Job → List Answered → List ℕ
 output_of job lines = flat_map (line_output job) lines
 
-abbrev pub messages_of : Job → List Answered → List ℕ
-messages_of job lines = flat_map (line_message job) lines
-
 abbrev pub error_count : List Answered → ℕ
 error_count lines = count_by (λ line. is_error line.answer) lines
 
