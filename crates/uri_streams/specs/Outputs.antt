@@ -80,17 +80,9 @@ error_message errors.Drop number message = []
 error_message errors.Stderr number message = message_line number message
 error_message errors.Stop number message = message_line number message
 
-abbrev pub answer_message : OnError → ℕ → Answer → List ℕ
-answer_message mode number (Text text) = []
-answer_message mode number NoLine = []
-answer_message mode number (Error message) = error_message mode number message
-
--- what is written for a line, and what goes to the error output
+-- what is written for a line
 abbrev pub line_output : Job → Answered → List ℕ
 line_output job line = answer_output job.errors line.end line.answer
-
-abbrev pub line_message : Job → Answered → List ℕ
-line_message job line = answer_message job.errors line.number line.answer
 
 abbrev pub output_of : Job → List Answered → List ℕ
 output_of job lines = flat_map (line_output job) lines
