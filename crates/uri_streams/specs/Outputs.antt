@@ -1,6 +1,6 @@
 -- What is written for an input: one line for each of its lines, unless that has no answer.
 use Rattle.std.specs.Prelude.{ℕ, ◌+◌, List, [], ◌∷◌, ◌++◌, codes, Bool, true, false, ◌&&◌}
-use Rattle.std.specs.Prelude.{decimal, if◌then◌else◌}
+use Rattle.std.specs.Prelude.{if◌then◌else◌}
 use Rattle.std.specs.List.{count_by, flat_map}
 use Rattle.uri_streams.specs.Answers.{Answer, Text, NoLine, Error}
 use Rattle.uri_streams.specs.Lines.{end_byte, has_return, line_text, lines_of}
@@ -68,17 +68,6 @@ abbrev pub answer_output : OnError → List ℕ → Answer → List ℕ
 answer_output mode end (Text text) = text ++ end
 answer_output mode end NoLine = []
 answer_output mode end (Error message) = error_output mode message end
-
--- the line of the error output that says which line is an error, and why
-abbrev pub message_line : ℕ → List ℕ → List ℕ
-message_line number message =
-    codes "error: line " ++ decimal number ++ codes ": " ++ message ++ codes "\n"
-
-abbrev pub error_message : OnError → ℕ → List ℕ → List ℕ
-error_message errors.Line number message = []
-error_message errors.Drop number message = []
-error_message errors.Stderr number message = message_line number message
-error_message errors.Stop number message = message_line number message
 
 -- what is written for a line
 abbrev pub line_output : Job → Answered → List ℕ
