@@ -70,7 +70,8 @@ if has clang 'try a second compiler and the sanitizers'; then
         # shellcheck disable=SC2086 # (words)
         does "sanitizers: $it cannot be built" clang -std=c99 $flags -I"$root/c/include" \
             "$root/c/tests/$it.c" "$work/gcc/libfluent_uri_c.a" -pthread -o "$work/$it"
-        does "sanitizers: $it" "$work/$it" "$root"/crates/vectors/data/*.txt
+        does "sanitizers: $it" "$work/$it" "$root"/crates/vectors/data/*.txt \
+            "$root/crates/relative_rows/stdin"
     done
     if clang -std=c99 -O1 -g -DLIBFUZZER -fsanitize=fuzzer,address,undefined \
         -fno-sanitize-recover=all -I"$root/c/include" "$root/c/tests/fuzz.c" \

@@ -96,7 +96,7 @@ typedef struct {
 /** What a call reports. */
 typedef struct {
     uint32_t error;
-    uint32_t which; /**< the text that is rejected: 0 the first, or the base; 1 the reference */
+    uint32_t which; /**< the text that is rejected: 0 the first, or the base; 1 the other one */
     size_t index;   /**< where in it; of a batch: how many texts are done */
     size_t length;  /**< how long the result is; of a batch: how long the results so far are */
 } fluent_uri_outcome;
@@ -119,6 +119,13 @@ uint32_t fluent_uri_resolve(uint32_t kind, const uint8_t *base, size_t base_len,
 uint32_t fluent_uri_resolve_normalized(uint32_t kind, const uint8_t *base, size_t base_len,
                                        const uint8_t *reference, size_t reference_len, uint8_t *out,
                                        size_t out_len, fluent_uri_outcome *outcome);
+
+/** Writes a short reference that leads from a base to a target, the inverse of fluent_uri_resolve:
+ * resolved against the base without its fragment, it is the target without its dot segments. KIND
+ * is that of both. outcome->which is 1 where the target is rejected. */
+uint32_t fluent_uri_relativize(uint32_t kind, const uint8_t *base, size_t base_len,
+                               const uint8_t *target, size_t target_len, uint8_t *out,
+                               size_t out_len, fluent_uri_outcome *outcome);
 
 /** Writes an IRI or an IRI reference as a URI or a URI reference (RFC 3987, section 3.1). */
 uint32_t fluent_uri_to_uri(uint32_t kind, const uint8_t *text, size_t text_len, uint8_t *out,

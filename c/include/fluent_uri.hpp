@@ -56,6 +56,15 @@ template <typename Call> result make(std::size_t room, Call call) {
     }
 }
 
+/** The same of a call on two texts. */
+template <typename Call>
+result make_of_two(Call call, std::uint32_t kind, std::string_view one, std::string_view other) {
+    auto most = one.size() + other.size() + 2;
+    return make(most, [&](std::uint8_t *out, std::size_t room, auto *outcome) {
+        return call(kind, bytes(one), one.size(), bytes(other), other.size(), out, room, outcome);
+    });
+}
+
 } // namespace detail
 
 /** The components of a text, which has to outlive them, or why it is rejected. */
@@ -89,9 +98,7 @@ class parts {
     fluent_uri_parts parts_;
 };
 
-inline parts parse(std::uint32_t kind, std::string_view text) noexcept {
-    return parts(kind, text);
-}
+inline parts parse(std::uint32_t kind, std::string_view text) noexcept { return {kind, text}; }
 
 /** The normal form (RFC 3986, section 6.2.2). */
 inline result normalize(std::uint32_t kind, std::string_view text) {
@@ -102,22 +109,18 @@ inline result normalize(std::uint32_t kind, std::string_view text) {
 
 /** The target of a reference against a base of the kind (RFC 3986, section 5.2). */
 inline result resolve(std::uint32_t kind, std::string_view base, std::string_view reference) {
-    auto most = base.size() + reference.size() + 2;
-    return detail::make(most, [&](std::uint8_t *out, std::size_t room, auto *outcome) {
-        return fluent_uri_resolve(kind, detail::bytes(base), base.size(), detail::bytes(reference),
-                                  reference.size(), out, room, outcome);
-    });
+    return detail::make_of_two(fluent_uri_resolve, kind, base, reference);
 }
 
 /** The normal form of that target. */
 inline result resolve_normalized(std::uint32_t kind, std::string_view base,
                                  std::string_view reference) {
-    auto most = base.size() + reference.size() + 2;
-    return detail::make(most, [&](std::uint8_t *out, std::size_t room, auto *outcome) {
-        return fluent_uri_resolve_normalized(kind, detail::bytes(base), base.size(),
-                                             detail::bytes(reference), reference.size(), out, room,
-                                             outcome);
-    });
+    return detail::make_of_two(fluent_uri_resolve_normalized, kind, base, reference);
+}
+
+/** A reference that leads from a base to a target, both of the kind. */
+inline result relativize(std::uint32_t kind, std::string_view base, std::string_view target) {
+    return detail::make_of_two(fluent_uri_relativize, kind, base, target);
 }
 
 /** An IRI or an IRI reference as a URI or a URI reference (RFC 3987, section 3.1). */

@@ -88,6 +88,20 @@ static void resolves(void) {
                                    &outcome), "http://a/\xc3\xa9"));
 }
 
+static void relativizes(void) {
+    CHECK(gives(fluent_uri_relativize(0, TEXT("http://a/b/c/d"), TEXT("http://a/b/x/./y"), out,
+                                      sizeof out, &outcome), "../x/y"));
+    CHECK(gives(fluent_uri_relativize(2, TEXT("http://a/b#f"), TEXT("http://a/\xc3\xa9"), out,
+                                      sizeof out, &outcome), "\xc3\xa9"));
+    CHECK(gives(fluent_uri_relativize(0, TEXT("a:b"), TEXT("c:d"), out, sizeof out, &outcome), "c:d"));
+    memset(out, '#', sizeof out);
+    CHECK(fluent_uri_relativize(0, TEXT("http://a/b"), TEXT("http://a/c/d"), out, 2, &outcome) == 0);
+    CHECK(outcome.length == 3 && out[0] == '#');
+    CHECK(rejects(fluent_uri_relativize(0, TEXT("a b"), TEXT("c d"), out, 9, &outcome), 2, 0, 1));
+    CHECK(rejects(fluent_uri_relativize(0, TEXT("a:"), TEXT("c:d e"), out, 9, &outcome), 2, 1, 3));
+    CHECK(rejects(fluent_uri_relativize(1, TEXT("a:"), TEXT("c:"), out, 9, &outcome), 9, 0, 0));
+}
+
 static void converts(void) {
     CHECK(gives(fluent_uri_to_uri(2, TEXT("http://a/\xc3\xa9"), out, sizeof out, &outcome),
                 "http://a/%C3%A9"));
@@ -111,6 +125,7 @@ int main(void) {
     parses();
     normalizes();
     resolves();
+    relativizes();
     converts();
     return ended("calls");
 }

@@ -32,6 +32,7 @@ static bool by_strings() {
            *normalize(FLUENT_URI_URI_REF, std::string_view()) == "" &&
            *resolve(FLUENT_URI_URI, "http://a/b/c", "../d") == "http://a/d" &&
            *resolve_normalized(FLUENT_URI_URI, "http://a/", "//B:80") == "http://b" &&
+           *relativize(FLUENT_URI_URI, "http://a/b/c", "http://a/d") == "/d" &&
            longer && *longer == "%C3%A9%C3%A9%C3%A9%C3%A9" &&
            *decode(FLUENT_URI_PATH, "a%20b") == "a b" && *encode(FLUENT_URI_DATA, "a b") == "a%20b";
 }

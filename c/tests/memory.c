@@ -40,7 +40,7 @@ static int is_kept(size_t length) {
     return is_clear(0, CANARY) && is_clear(CANARY + length, sizeof whole);
 }
 
-enum { WORKS = 8 };
+enum { WORKS = 9 };
 static uint32_t ends[3];
 static uint8_t valid;
 
@@ -56,6 +56,8 @@ static uint32_t work(int which, size_t room) {
     case 5: return fluent_uri_encode(FLUENT_URI_QUERY, TEXT("a b\xff#"), out, room, &outcome);
     case 6: return fluent_uri_normalize_batch(2, TEXT(text), offsets, 2, out, room, ends, 2, &valid,
                                               1, &outcome);
+    case 7: return fluent_uri_relativize(2, TEXT(base), TEXT("http://a/b/%7e/d"), out, room,
+                                         &outcome);
     default: return fluent_uri_normalize_lines(2, TEXT("A:%7e\nb"), out, room, &valid, 2 - 1, &outcome);
     }
 }
@@ -82,7 +84,7 @@ int main(void) {
             clear();
             uint32_t error = work(which, room);
             CHECK(error == whole_error || error == FLUENT_URI_FULL);
-            CHECK(is_kept(room >= length ? length : 0) || which >= 6);
+            CHECK(is_kept(room >= length ? length : 0) || which == 6 || which == 8);
             CHECK(is_kept(room));
         }
     }

@@ -1,5 +1,5 @@
-/* Runs the rows of crates/vectors/data that the calls of the header can try: rows FILE..; README.txt
- * there has the format. */
+/* Runs the rows of crates/vectors/data, and of crates/relative_rows/stdin, that the calls of the
+ * header can try: rows FILE..; README.txt of the former has the format. */
 #include "test.h"
 
 enum { MOST = 1 << 20, FIELDS = 8 };
@@ -110,6 +110,9 @@ static long run(const char *op, int count) {
     if (!strcmp(op, "resolve-normalized"))
         return written(fluent_uri_resolve_normalized((uint32_t)kind, bytes(1), lengths[1], bytes(2),
                                                      lengths[2], out, MOST, &told));
+    if (!strcmp(op, "relativize"))
+        return written(fluent_uri_relativize((uint32_t)kind, bytes(1), lengths[1], bytes(2),
+                                             lengths[2], out, MOST, &told));
     if (!strcmp(op, "encode-as-uri"))
         return written(fluent_uri_to_uri((uint32_t)kind, bytes(1), lengths[1], out, MOST, &told));
     if (!strcmp(op, "encode") && lengths[0] == 4 && !memcmp(words[0], "path", 4))
@@ -148,6 +151,6 @@ int main(int argc, char **argv) {
         if (file) fclose(file);
     }
     printf("rows: %zu tried\n", tried);
-    CHECK(tried > 700);
+    CHECK(tried > 1400);
     return ended("rows");
 }

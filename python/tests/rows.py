@@ -1,4 +1,5 @@
-"""The rows of crates/vectors/data, as README.txt there describes them, asked of the package."""
+"""The rows of crates/vectors/data, as README.txt there describes them, and of crates/relative_rows,
+asked of the package."""
 
 import ipaddress
 import pathlib
@@ -18,7 +19,8 @@ from fluent_uri import (
     encode,
 )
 
-DATA = pathlib.Path(__file__).resolve().parents[2] / "crates" / "vectors" / "data"
+CRATES = pathlib.Path(__file__).resolve().parents[2] / "crates"
+FILES = [*sorted((CRATES / "vectors" / "data").glob("*.txt")), CRATES / "relative_rows" / "stdin"]
 KINDS = {"uri": Uri, "uri-ref": UriRef, "iri": Iri, "iri-ref": IriRef}
 COMPONENTS = {
     "userinfo": Component.USERINFO,
@@ -41,6 +43,7 @@ WITHOUT_A_CALL = {
     "default-port",
     "normalize-strict",
     "normalize-under",
+    "relativize-path",
     "print-ipv4",
     "print-ipv6",
     "resolve-strict",
@@ -74,7 +77,7 @@ def field(written):
 
 def rows():
     """File and line of each row, its operation, its fields and what is expected."""
-    for file in sorted(DATA.glob("*.txt")):
+    for file in FILES:
         if file.name == "README.txt":
             continue
         for number, line in enumerate(file.read_text(encoding="utf-8").split("\n"), 1):
@@ -173,6 +176,10 @@ def resolve_normalized(kind, base, reference):
     return target(KINDS[kind].parse(base), reference, True)
 
 
+def relativize(kind, base, target):
+    return [str(KINDS[kind].parse(base).relativize(target))]
+
+
 def swap(kind, base, reference):
     base = KINDS[kind].parse(base)
     reference = KINDS[f"{kind}-ref"].parse(reference)
@@ -250,6 +257,7 @@ CALLS = {
     "strip-fragment": strip_fragment,
     "resolve": resolve,
     "resolve-normalized": resolve_normalized,
+    "relativize": relativize,
     "swap": swap,
     "swap-as-uris": swap_as_uris,
     "is-valid": is_valid,

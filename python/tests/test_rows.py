@@ -21,7 +21,7 @@ class Rows(unittest.TestCase):
                 ]
             with self.subTest(row=place):
                 self.assertEqual(found, wanted)
-        self.assertGreater(tried, 2200)
+        self.assertGreater(tried, 2900)
 
 
 if __name__ == "__main__":

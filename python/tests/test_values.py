@@ -160,6 +160,18 @@ class Calls(unittest.TestCase):
         self.assertEqual(str(normal), "http://User@example.com/b/c?%3A#A")
         self.assertEqual(normal.normalize(), normal)
 
+    def test_relativize(self):
+        base = Uri.parse("http://a/b/c/d")
+        for target in ["http://a/b/x/y", Uri.parse("http://a/b/x/./y")]:
+            reference = base.relativize(target)
+            self.assertEqual((type(reference), str(reference)), (UriRef, "../x/y"))
+            self.assertEqual(str(base.resolve(reference)), "http://a/b/x/y")
+        reference = Iri.parse("http://a/").relativize("http://a/é")
+        self.assertEqual((type(reference), str(reference)), (IriRef, "é"))
+        for target in ["é", "a b", "/c"]:
+            with self.assertRaises(ParseError):
+                base.relativize(target)
+
     def test_resolve(self):
         base = Uri.parse("http://a/b/c/d;p?q")
         for reference in ["../g", UriRef.parse("../g")]:

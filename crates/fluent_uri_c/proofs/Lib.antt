@@ -3,6 +3,7 @@ mod Bits
 mod LinesOf
 mod PartColumns
 mod Places
+mod References
 mod Rejected
 mod Targets
 mod ValidBytes

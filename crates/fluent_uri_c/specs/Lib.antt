@@ -6,6 +6,7 @@ pub mod Kinds
 pub mod Lines
 pub mod Outcomes
 pub mod PartColumns
+pub mod Relatives
 pub mod Results
 pub mod Sets
 pub mod SingleCalls

@@ -13,5 +13,6 @@ mod numbered;
 mod outcome;
 mod parsing;
 mod parts;
+mod relative;
 mod single;
 mod texts;

@@ -1,4 +1,6 @@
 //! What each call returns for the kind of a number.
+ghost use Rattle.fluent_uri_c.specs.Kinds.{base_numbered};
+ghost use Rattle.fluent_uri_c.specs.Relatives.{IsReferenceReturned};
 ghost use Rattle.fluent_uri_c.specs.Results.{IsReturned, normalize_result};
 ghost use Rattle.fluent_uri_c.specs.Results.{resolve_normalized_result, resolve_result};
 ghost use Rattle.fluent_uri_c.specs.Results.{to_uri_result};
@@ -55,6 +57,17 @@ pub fn normal_target(
     match kind {
         0 => texts::normal_target::<UriRefKind>(alloc, base, reference),
         2 => texts::normal_target::<IriRefKind>(alloc, base, reference),
+        _ => Err(Rejection::of(Error::InvalidArgument)),
+    }
+}
+
+/// Returns a reference that leads from a base of the kind to a target of the kind.
+pub fn reference(alloc: Global, kind: u32, base: &[u8], target: &[u8]) -> Result<String, Rejection>
+    ensures { IsReferenceReturned (base_numbered kind) base.now target.now result }
+{
+    match kind {
+        0 => texts::reference::<UriKind>(alloc, base, target),
+        2 => texts::reference::<IriKind>(alloc, base, target),
         _ => Err(Rejection::of(Error::InvalidArgument)),
     }
 }

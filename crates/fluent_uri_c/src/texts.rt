@@ -1,9 +1,10 @@
 //! The calls of `fluent_uri` on bytes, for each kind.
-ghost use Rattle.std.specs.Prelude.{◌≡◌, ◌↔◌, IfOk, IsOk};
+ghost use Rattle.std.specs.Prelude.{◌≡◌, ◌↔◌, IfOk, IsOk, Some};
 ghost use Rattle.std.specs.Str.{IsUtf8};
 ghost use Rattle.std.specs.Result.{result_err};
 ghost use Rattle.fluent_uri.specs.Grammar.{IsTextOf, iri, iri_ref};
 ghost use Rattle.fluent_uri.specs.References.{reference_text};
+ghost use Rattle.fluent_uri_c.specs.Relatives.{IsReferenceReturned};
 ghost use Rattle.fluent_uri_c.specs.Results.{IsReturned, encoded_result, normal_result};
 ghost use Rattle.fluent_uri_c.specs.Results.{normal_target_result, target_result, text_error};
 ghost use Rattle.fluent_uri_c.specs.Results.{normal_resolution, resolution, utf8_error};
@@ -17,6 +18,8 @@ use std::alloc::Global;
 use uri_parts::core_text::Core;
 use uri_parts::kind::{IriKind, IriRefKind, Kind};
 use uri_parts::parse::parse;
+use uri_relative::Relativizer;
+use uri_relative::relative::RelativeKind;
 
 /// Reads bytes as UTF-8.
 pub fn text_of(bytes: &[u8]) -> Result<&str, Rejection>
@@ -124,6 +127,21 @@ pub fn normal_target<K: RefKind>(
     let base = parsed::<K::Base>(base)?;
     match parsed::<K>(reference) {
         Ok(reference) => resolved_normalized(alloc, base, &reference),
+        Err(why) => Err(why.in_reference()),
+    }
+}
+
+/// Returns a reference that leads from a base to a target, both texts of the kind.
+pub fn reference<K: RelativeKind>(
+    alloc: Global,
+    base: &[u8],
+    target: &[u8],
+) -> Result<String, Rejection>
+    ensures { IsReferenceReturned (Some K.kind) base.now target.now result }
+{
+    let relativizer = Relativizer::with_base(parsed::<K>(base)?);
+    match parsed::<K>(target) {
+        Ok(target) => Ok(relativizer.relativize(alloc, &target)?.into_string()),
         Err(why) => Err(why.in_reference()),
     }
 }

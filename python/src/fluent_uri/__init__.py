@@ -146,6 +146,17 @@ class Uri(_Absolute):
     __slots__ = ()
     _kind = 0
 
+    def relativize(self, target: Union[str, Uri]) -> UriRef:
+        """Returns a short reference that leads from this as its base to a target: the inverse of
+        `resolve`. Resolved against the base, it is the target without its dot segments.
+
+        >>> Uri.parse("http://a/b/c/d").relativize("http://a/b/x/y")
+        UriRef('../x/y')
+
+        Raises `ParseError` if the target is not a URI.
+        """
+        return self._relativize(str(target) if isinstance(target, _Value) else target, UriRef)
+
 
 class IriRef(_Value):
     """An IRI or a relative reference (RFC 3987, section 2.2)."""
@@ -168,6 +179,17 @@ class Iri(_Absolute):
 
     __slots__ = ()
     _kind = 2
+
+    def relativize(self, target: Union[str, Iri]) -> IriRef:
+        """Returns a short reference that leads from this as its base to a target: the inverse of
+        `resolve`. Resolved against the base, it is the target without its dot segments.
+
+        >>> Iri.parse("http://a/b/c").relativize("http://a/b/é")
+        IriRef('é')
+
+        Raises `ParseError` if the target is not an IRI.
+        """
+        return self._relativize(str(target) if isinstance(target, _Value) else target, IriRef)
 
     def to_uri(self) -> Uri:
         """Returns the URI: each character past ASCII as the octets of its UTF-8 (RFC 3987,

@@ -157,6 +157,14 @@ static PyObject *reference_resolve(PyObject *self, PyObject *words) {
     return value_result_of(cls, &(Call){(uint32_t)kind, NULL, two}, self, reference);
 }
 
+static PyObject *reference_relativize(PyObject *self, PyObject *words) {
+    PyObject *target, *made_of;
+    int kind = kind_of((PyObject *)Py_TYPE(self));
+    if (kind < 0 || !PyArg_ParseTuple(words, "UO", &target, &made_of) || kind_of(made_of) < 0)
+        return NULL;
+    return value_result_of(made_of, &(Call){(uint32_t)kind, NULL, relativize_text}, self, target);
+}
+
 static PyObject *reference_str(PyObject *self) {
     PyObject *text = ((Reference *)self)->text;
     Py_INCREF(text);
@@ -210,6 +218,7 @@ static PyMethodDef reference_methods[] = {
     {"normalize", reference_normalize, METH_NOARGS,
      "normalize($self, /)\n--\n\nReturns the normal form (RFC 3986, section 6.2.2)."},
     {"_resolve", reference_resolve, METH_VARARGS, NULL},
+    {"_relativize", reference_relativize, METH_VARARGS, NULL},
     {"_to_uri", reference_to_uri, METH_O, NULL},
     {"__reduce__", reference_reduce, METH_NOARGS, NULL},
     {NULL, NULL, 0, NULL},
@@ -298,6 +307,7 @@ static PyObject *module_open(PyObject *module, PyObject *words) {
         {"fluent_uri_to_uri", &to_uri_text},
         {"fluent_uri_resolve", &resolve_text},
         {"fluent_uri_resolve_normalized", &resolve_normalized_text},
+        {"fluent_uri_relativize", &relativize_text},
     };
     for (size_t place = 0; place < sizeof wanted / sizeof *wanted; place++) {
         void *found = dlsym(library, wanted[place].name);

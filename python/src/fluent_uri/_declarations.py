@@ -81,6 +81,7 @@ FUNCTIONS: Dict[str, Tuple[Any, ...]] = {
     "normalize": (NUMBER, *_TEXT, *_RESULT),
     "resolve": (NUMBER, *_TEXT, *_TEXT, *_RESULT),
     "resolve_normalized": (NUMBER, *_TEXT, *_TEXT, *_RESULT),
+    "relativize": (NUMBER, *_TEXT, *_TEXT, *_RESULT),
     "to_uri": (NUMBER, *_TEXT, *_RESULT),
     "decode": (NUMBER, *_TEXT, *_RESULT),
     "encode": (NUMBER, *_TEXT, *_RESULT),

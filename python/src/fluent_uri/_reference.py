@@ -145,6 +145,13 @@ class Reference:
         base, data = self._utf8(), utf8_of(reference)
         return self._of(_native.result(call, self._kind, base, len(base), data, len(data)))
 
+    def _relativize(self, target: str, made_of: Type[Self]) -> Self:
+        base, data = self._utf8(), utf8_of(target)
+        made = _native.result(
+            _native.relativize, self._kind, base, len(base), data, len(data)
+        )
+        return made_of._of(made)
+
     def _to_uri(self, made_of: Type[Self]) -> Self:
         data = self._utf8()
         return made_of._of(_native.result(_native.to_uri, self._kind, data, len(data)))

@@ -23,7 +23,7 @@ typedef uint32_t pair_call(uint32_t, const uint8_t *, size_t, const uint8_t *, s
 
 static parse_call *parse_text;
 static text_call *normalize_text, *to_uri_text;
-static pair_call *resolve_text, *resolve_normalized_text;
+static pair_call *resolve_text, *resolve_normalized_text, *relativize_text;
 /* What makes an exception of (number, index, bytes). */
 static PyObject *error_of;
 
