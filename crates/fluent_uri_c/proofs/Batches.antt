@@ -62,7 +62,6 @@ module _ (at : ℕ → Option (List ℕ)) where
       ∙ sym (length-append (joined at n) (bytes_of (at n))) ∙ ap (λ k. length (joined at k)) (sym step)
 
 module _ {O : Type 0} (value : O → ℕ) (at : ℕ → Option (List ℕ)) where
-
   ends_here : (ends : List O) (i n : ℕ) (end : O) → i < length ends → value end ≡ n
       → IsSomeAnd (slice_get (set ends i end) i) (λ end. value end ≡ n)
   ends_here ends i n end inside e =
