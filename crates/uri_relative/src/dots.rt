@@ -5,7 +5,7 @@ ghost use Rattle.uri_ops.specs.Dots.{lacks_dot_segments};
 ghost use Rattle.uri_ops.specs.Models.LeadingSegments.{IsBeforeDots};
 
 use uri_pct::lanes::LANES;
-use uri_pct::search::length_before_dots;
+use uri_pct::search::len_before_slash_dot;
 
 /// Whether a segment is `.`. The dot counts percent-encoded too.
 fn is_single_dot(segment: &str) -> bool
@@ -44,7 +44,7 @@ fn may_have_dots(bytes: &[u8]) -> bool
 {
     let mut i = 0;
     while i + LANES < bytes.len() {
-        if length_before_dots(bytes, i) < LANES {
+        if len_before_slash_dot(bytes, i) < LANES {
             return true;
         }
         i += LANES;
