@@ -48,7 +48,7 @@ target_of_text kind text e h done = record {
 }
 
 -- the text of a reference has its components, and is of the kind
-reference_parts : (kind : Kind) (prefers : Bool) (base target r : Components)
+pub reference_parts : (kind : Kind) (prefers : Bool) (base target r : Components)
     → IsReferenceTo kind prefers base target r → components (recompose r) ≡ r
 reference_parts kind prefers base target r w = components-recompose (recompose r) r w.split
 
@@ -84,7 +84,7 @@ pushed_after old mid new way tail tail' e f h =
 target_itself : (base t : Components) → is_some t.scheme ≡ true → target_of base t ≡ finished t
 target_itself base t e = let j : joined base t ≡ t = cond-true _ _ _ e in ap finished j
 
-settled_components : (text : List ℕ) → is_some (components text).scheme ≡ true
+pub settled_components : (text : List ℕ) → is_some (components text).scheme ≡ true
     → components (recompose (settled text)) ≡ settled text
 settled_components text some =
     let c = components text in

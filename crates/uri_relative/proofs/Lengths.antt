@@ -20,12 +20,12 @@ length_to : (n : ℕ) (rest : List ℕ) → length (climbs n ++ rest) ≡ 3 * n 
 length_to n rest = omega (arith, length-append (climbs n) rest, length_climbs n)
 
 -- up, to some rest or to none
-length_up : (n : ℕ) (rest : List ℕ) → is_empty rest ≡ false
+pub length_up : (n : ℕ) (rest : List ℕ) → is_empty rest ≡ false
     → length (relative_path (suc n) rest) ≡ 3 * suc n + length rest
 length_up n rest e =
     ap length (relative_up n rest ∙ cond-false _ _ _ e) ∙ length_to (suc n) rest
 
-length_up_none : (n : ℕ) (rest : List ℕ) → is_empty rest ≡ true
+pub length_up_none : (n : ℕ) (rest : List ℕ) → is_empty rest ≡ true
     → length (relative_path (suc n) rest) ≡ 3 * n + 2
 length_up_none n rest e =
     ap length (relative_up n rest ∙ cond-true _ _ _ e) ∙ length_to n (codes "..")
